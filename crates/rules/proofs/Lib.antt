@@ -1,0 +1,13 @@
+pub mod Machine
+pub mod Bits
+pub mod Codes
+pub mod Lookup
+pub mod Agree
+pub mod Runs
+pub mod Modes
+pub mod Ascending
+pub mod Lines
+pub mod Local
+pub mod Pixels
+pub mod Sheets
+pub mod WriteRuns

@@ -1,0 +1,18 @@
+-- Every ★ sheet of 01 is right: one claim, which is computed over the definitions. Assumes nothing.
+use lib.Dec.{T}
+use Rattle.rules.specs.Machine.{run, ends}
+use Rattle.rules.specs.Bits.{bit, bitsFor, bitsOf, window}
+use Rattle.rules.specs.Codes.{codeBits, whiteTerminating, whiteMakeup, blackTerminating, blackMakeup, commonMakeup, terminatingOf, makeupOf, codesOf}
+use Rattle.rules.specs.Lookup.{begins, shared, codeIn, longestShared, lookup}
+use Rattle.rules.specs.Runs.{runTake, runStep, readRun}
+use Rattle.rules.specs.Modes.{modeBits, modes, modeAmong, modeByTable, modeTake, readMode}
+use Rattle.rules.specs.Lines.{lastColour, recorded, add, push, pushRun, rightOfA0, fromB1, vertical, apply, code2D, lineStep, lineEnd, readLine}
+use Rattle.rules.specs.Eols.{zeroRun, readEols}
+use Rattle.rules.specs.Group4.{row4}
+use Rattle.rules.specs.Pages.{entries, pageStep, rowOf, readPage, ascendsFrom, decode}
+use Rattle.rules.specs.Write.{runCodes, codesBits, runBits, bits2D, lineBits, rowsBits, eolBits, eofb, pageBits, toByte, writtenAt, rowsIn, endsRise, allAscend, writePage}
+use Rattle.rules.specs.Sheets.{sheets, sameBits, same, sameRows, whites, right, allRight}
+
+pub sheets-right : T (allRight sheets)
+unfolding run ends bit bitsFor bitsOf window codeBits whiteTerminating whiteMakeup blackTerminating blackMakeup commonMakeup terminatingOf makeupOf codesOf begins shared codeIn longestShared lookup runTake runStep readRun modeBits modes modeAmong modeByTable modeTake readMode lastColour recorded add push pushRun rightOfA0 fromB1 vertical apply code2D lineStep lineEnd readLine zeroRun readEols row4 entries pageStep rowOf readPage ascendsFrom decode runCodes codesBits runBits bits2D lineBits rowsBits eolBits eofb pageBits toByte writtenAt rowsIn endsRise allAscend writePage sheets sameBits same sameRows whites right allRight
+sheets-right = tt

@@ -1,0 +1,135 @@
+-- Runs as they are written: make-up codes and then a terminating one, all of the colour, that sum to the run; and they are read back as that run.
+-- Assumes nothing.
+use mathlib.Core.Path.{_≡_, refl, sym, ap, _∙_, subst}
+use mathlib.Core.Bool.{Bool, true, _&&_}
+use mathlib.Core.List.{List, [], _∷_, _++_, append-assoc, List·Memᴰ, List·Memᴰ·head, List·Memᴰ·tail, Memᴰ·append-left, Memᴰ·append-right}
+use Prim.Native.Nat.{ℕ, zero, suc, _+_, _-_, _*_, _/_, _%_, _≤_, _<_}
+use native.Mathlib.Omega.{arith}
+use native.Mathlib.Nat.{zero-mul, zero-add, suc-mul, mod-lt, mod-mod-of-dvd, dvd-mul-right, div-add-mod'}
+use lib.Dec.{T, eqb, eqb→eq}
+use lib.ListN.{length, drop, replicate, length-append}
+use borrow.Author.Tests.{lt-ltb, le-ltb}
+use Rattle.rules.specs.Machine.{Out, done, ends}
+use Rattle.rules.specs.Codes.{Colour, white, black, Code, codeBits, codeAt, terminatingOf, makeupOf, codesOf}
+use Rattle.rules.specs.Runs.{Res, ok, Sum, sum, runStep, bitsAfter, answer, readRun}
+use Rattle.rules.specs.Write.{terminating, makeup, wholes, runCodes, codesBits, runBits}
+use Rattle.rules.proofs.Machine.{ends-more, ends-done}
+use Rattle.rules.proofs.Bits.{drop-after, fits-after}
+use Rattle.rules.proofs.Codes.{both, shape, length-codeBits}
+use Rattle.rules.proofs.Runs.{Takes, after, step-code, run-falls}
+
+-- ---- The codes of a table by their places
+
+-- each code's run is f of its place, from place i on
+placed : (ℕ → ℕ) → ℕ → List Code → Bool
+placed f i [] = true
+placed f i (c ∷ cs) = eqb (c .run) (f i) && placed f (suc i) cs
+
+-- so each place of the table has one of its codes, of that run
+placed-at : (f : ℕ → ℕ) (i : ℕ) (cs : List Code) → T (placed f i cs) → (k : ℕ) → k < length cs → List·Memᴰ (codeAt cs k) cs × (codeAt cs k .run ≡ f (i + k))
+unfolding placed
+placed-at f i [] t k h = absurd (omega arith)
+placed-at f i (c ∷ cs) t zero h =
+    (List·Memᴰ·head refl, eqb→eq (c .run) (f i) (both (eqb (c .run) (f i)) (placed f (suc i) cs) t .0) ∙ ap f (let e : i ≡ i + 0 = omega arith in e))
+placed-at f i (c ∷ cs) t (suc k) h =
+    let r = placed-at f (suc i) cs (both (eqb (c .run) (f i)) (placed f (suc i) cs) t .1) k (omega arith) in
+    (List·Memᴰ·tail (r .0), r .1 ∙ ap f (let e : suc i + k ≡ i + suc k = omega arith in e))
+
+-- a code of the colour, for a run
+pub record For (colour : Colour) (run : ℕ) (c : Code) : Type 0 where
+  pub member : List·Memᴰ c (codesOf colour)
+  pub run-is : c .run ≡ run
+
+-- a terminating code is one of the colour, for its run
+pub terminating-for : (colour : Colour) (run : ℕ) → run < 64 → For colour run (terminating colour run)
+unfolding codesOf terminatingOf placed
+terminating-for colour run h = record { member = Memᴰ·append-left (makeupOf colour) (at colour .0); run-is = at colour .1 ∙ zero-add run }
+  where
+    at : (colour : Colour) → List·Memᴰ (terminating colour run) (terminatingOf colour) × (terminating colour run .run ≡ 0 + run)
+    at white = placed-at (λ i. i) 0 (terminatingOf white) tt run h
+    at black = placed-at (λ i. i) 0 (terminatingOf black) tt run h
+
+-- a make-up code is one of the colour, for 64 times its number
+pub makeup-for : (colour : Colour) (m : ℕ) → 1 ≤ m → m ≤ 40 → For colour (64 * m) (makeup colour m)
+unfolding codesOf makeupOf placed
+makeup-for colour m h k = record { member = Memᴰ·append-right (terminatingOf colour) (at colour .0); run-is = at colour .1 ∙ (let e : 64 * suc (0 + (m - 1)) ≡ 64 * m = omega arith in e) }
+  where
+    at : (colour : Colour) → List·Memᴰ (makeup colour m) (makeupOf colour) × (makeup colour m .run ≡ 64 * suc (0 + (m - 1)))
+    at white = placed-at (λ i. 64 * suc i) 0 (makeupOf white) tt (m - 1) (omega arith)
+    at black = placed-at (λ i. 64 * suc i) 0 (makeupOf black) tt (m - 1) (omega arith)
+
+-- ---- What is written
+
+-- make-up codes and then a terminating one, of the colour, that sum to n
+pub data Made (colour : Colour) : ℕ → List Code → Type 0 where
+  last : {run : ℕ} {c : Code} → For colour run c → run < 64 → Made colour run (c ∷ [])
+  next : {run n : ℕ} {c : Code} {cs : List Code} → For colour run c → 64 ≤ run → Made colour n cs → Made colour (run + n) (c ∷ cs)
+
+-- a make-up code k times
+made-repeated : {colour : Colour} {run n : ℕ} {c : Code} {cs : List Code} (k : ℕ) → For colour run c → 64 ≤ run → Made colour n cs
+    → Made colour (k * run + n) (replicate k c ++ cs)
+made-repeated {colour} {run} {n} {c} {cs} zero f h m = subst (λ (t : ℕ). Made colour t cs) (let e : n ≡ 0 * run + n = omega (arith, zero-mul run) in e) m
+made-repeated {colour} {run} {n} {c} {cs} (suc k) f h m =
+    subst (λ (t : ℕ). Made colour t (c ∷ replicate k c ++ cs)) (let e : run + (k * run + n) ≡ suc k * run + n = omega (arith, suc-mul k run) in e)
+    (next f h (made-repeated k f h m))
+
+-- the whole 64s that are left, and the rest
+made-ending : (colour : Colour) (m t : ℕ) → m ≤ 40 → t < 64 → Made colour (64 * m + t) (wholes colour m ++ terminating colour t ∷ [])
+made-ending colour zero t h k = subst (λ (n : ℕ). Made colour n (terminating colour t ∷ [])) (let e : t ≡ 64 * 0 + t = omega arith in e) (last (terminating-for colour t k) k)
+made-ending colour (suc m) t h k = next (makeup-for colour (suc m) (omega arith) h) (omega arith) (last (terminating-for colour t k) k)
+
+-- a run's codes are such, and sum to it
+pub made-run : (most : ℕ) → 1 ≤ most → most ≤ 40 → (colour : Colour) (n : ℕ) → Made colour n (runCodes most colour n)
+unfolding runCodes
+made-run most some-most most-fits colour n =
+    subst (λ (t : ℕ). Made colour t (runCodes most colour n)) sums
+    (made-repeated (n / (64 * most)) (makeup-for colour most some-most most-fits) (omega arith)
+    (made-ending colour (n % (64 * most) / 64) (n % 64) (omega (arith, left)) (omega arith)))
+  where
+    left : n % (64 * most) < 64 * most
+    left = mod-lt n (omega arith)
+
+    sums : n / (64 * most) * (64 * most) + (64 * (n % (64 * most) / 64) + n % 64) ≡ n
+    sums = rw (← mod-mod-of-dvd 64 n (dvd-mul-right 64 most)) (omega (arith, div-add-mod' n (64 * most)))
+
+-- ---- What is written is read back
+
+-- ends with the same bit and total
+same-end : {a b t u : ℕ} → a ≡ b → t ≡ u → _≡_ {A = Out Sum (Res Sum)} (done (ok (sum a t))) (done (ok (sum b u)))
+same-end p q = λ i. done (ok (sum (p i) (q i)))
+
+module _ (colour : Colour) (bs : List Bool) where
+  -- a code that stands at the bit, with whatever follows, can be taken
+  takes : (s : Sum) {run : ℕ} {c : Code} (rest : List Bool) → For colour run c → drop (s .at) bs ≡ codeBits c ++ rest → s .total + run ≤ 4294967295 → Takes colour bs s c
+  takes s {c = c} rest f e h =
+      let l = length-codeBits c in
+      record {
+        member = f .member;
+        there = e ∙ ap (λ (t : List Bool). codeBits c ++ t) (sym (rw l at (drop-after bs (codeBits c) rest (s .at) e)));
+        fits = rw l at (fits-after bs (codeBits c) rest (s .at) e (omega (arith, shape colour c (f .member) .some-bits)));
+        small = omega (arith, f .run-is);
+      }
+
+  -- the codes of a run are read as their sum
+  read-made : (s : Sum) {n : ℕ} {cs : List Code} (rest : List Bool) → Made colour n cs → drop (s .at) bs ≡ codesBits cs ++ rest → s .total + n ≤ 4294967295
+      → ends (runStep colour bs) (bitsAfter bs) s ≡ done (ok (sum (s .at + length (codesBits cs)) (s .total + n)))
+  unfolding codesBits
+  read-made s rest (last {c = c} f h) e small =
+      ends-done (runStep colour bs) (bitsAfter bs) (run-falls colour bs) s (ok (after s c))
+      (rw (lt-ltb (c .run) 64 (omega (arith, f .run-is))) at (step-code colour bs s c (takes s rest f (e ∙ append-assoc (codeBits c) [] rest) small)))
+      ∙ same-end (rw length-append (omega (arith, length-codeBits c))) (omega (arith, f .run-is))
+  read-made s rest (next {c = c} {cs = cs} f h m) e small =
+      ends-more (runStep colour bs) (bitsAfter bs) (run-falls colour bs) s (after s c)
+      (rw (le-ltb (c .run) 64 (omega (arith, f .run-is))) at (step-code colour bs s c (takes s (codesBits cs ++ rest) f here (omega arith))))
+      ∙ read-made (after s c) rest m (rw (length-codeBits c) at (drop-after bs (codeBits c) (codesBits cs ++ rest) (s .at) here)) (omega (arith, f .run-is))
+      ∙ same-end (rw length-append (omega (arith, length-codeBits c))) (omega (arith, f .run-is))
+    where
+      here : drop (s .at) bs ≡ codeBits c ++ (codesBits cs ++ rest)
+      here = e ∙ append-assoc (codeBits c) (codesBits cs) rest
+
+-- a run's bits are read as the run, whatever follows
+pub read-run : (most : ℕ) → 1 ≤ most → most ≤ 40 → (colour : Colour) (n : ℕ) (bs rest : List Bool) (at : ℕ) → n ≤ 4294967295
+    → drop at bs ≡ runBits most colour n ++ rest → readRun colour bs at ≡ ok (sum (at + length (runBits most colour n)) n)
+unfolding readRun runBits
+read-run most some-most most-fits colour n bs rest at h e =
+    ap answer (read-made colour bs (sum at 0) rest (made-run most some-most most-fits colour n) e (omega arith) ∙ same-end refl (zero-add n))

@@ -1,0 +1,15 @@
+pub mod Machine
+pub mod Bits
+pub mod Codes
+pub mod Lookup
+pub mod Runs
+pub mod Modes
+pub mod Pixels
+pub mod Lines
+pub mod Eols
+pub mod Rows
+pub mod Group4
+pub mod Group3
+pub mod Pages
+pub mod Write
+pub mod Sheets
