@@ -1,0 +1,4 @@
+-- The laws that the functions' proofs cite, each over the colour.
+pub mod Colours
+pub mod Entries
+pub mod Rows
