@@ -11,3 +11,4 @@ pub mod Local
 pub mod Pixels
 pub mod Sheets
 pub mod WriteRuns
+pub mod ReadBack
