@@ -9,7 +9,7 @@ use mathlib.Core.Option.{Option, none, some}
 use Prim.Native.Nat.{ℕ, zero, suc, _+_, _-_, _*_, _≤_, _<_}
 use native.Mathlib.Omega.{arith}
 use lib.Dec.{T, T-not, eqb, leb, ltb, leb→le, eqb→eq}
-use lib.ListN.{length, replicate}
+use lib.ListN.{length, take, replicate}
 use Rattle.rules.specs.Bits.{bit, bitsFor}
 use Rattle.rules.specs.Codes.{Colour, white, black, Code, codeBits, codesOf, codeAt}
 use Rattle.rules.specs.Lookup.{begins, codeIn}
@@ -49,6 +49,15 @@ unfoldable pub hasOne : List Bool → Bool
 hasOne [] = false
 hasOne (b ∷ bs) = b || hasOne bs
 
+-- A one comes soon: among the first eight bits, and among the first eleven of each end part of four bits or more. So such a word neither begins with eight
+-- zeros nor ends four or more bits deep in eleven.
+unfoldable pub spread : List Bool → Bool
+spread [] = true
+spread (b ∷ bs) = (ltb (length (b ∷ bs)) 4 || hasOne (take 11 (b ∷ bs))) && spread bs
+
+unfoldable pub soon : List Bool → Bool
+soon bs = hasOne (take 8 bs) && spread bs
+
 -- what is known of a code
 pub record Shape (c : Code) : Type 0 where
   pub small-run : c .run ≤ 2560
@@ -57,9 +66,10 @@ pub record Shape (c : Code) : Type 0 where
   pub has-one : T (hasOne (codeBits c))
   pub leading : zerosBefore (codeBits c) ≤ 7
   pub trailing : zerosBefore (reverse (codeBits c)) ≤ 3
+  pub one-soon : T (soon (codeBits c))
 
 pub shape : (colour : Colour) (c : Code) → List·Memᴰ c (codesOf colour) → Shape c
-unfolding every codesOf codeBits zerosBefore hasOne bitsFor bit
+unfolding every codesOf codeBits zerosBefore hasOne soon spread bitsFor bit
 shape colour c m = record {
   small-run = leb→le (c .run) 2560 (either-colour (λ (d : Code). leb (d .run) 2560) tt tt colour c m);
   some-bits = leb→le 1 (c .size) (either-colour (λ (d : Code). leb 1 (d .size)) tt tt colour c m);
@@ -69,6 +79,7 @@ shape colour c m = record {
   trailing =
       leb→le (zerosBefore (reverse (codeBits c))) 3
       (either-colour (λ (d : Code). leb (zerosBefore (reverse (codeBits d))) 3) tt tt colour c m);
+  one-soon = either-colour (λ (d : Code). soon (codeBits d)) tt tt colour c m;
 }
 
 pub length-codeBits : (c : Code) → length (codeBits c) ≡ c .size

@@ -12,3 +12,6 @@ pub mod Pixels
 pub mod Sheets
 pub mod WriteRuns
 pub mod ReadBack
+pub mod MoreRoom
+pub mod PageBack
+pub mod Barrier

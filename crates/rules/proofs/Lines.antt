@@ -25,7 +25,7 @@ abbrev pub Each : (Line → Type 0) → (ℕ → Line → Type 0) → Went → T
 Each G F (went t) = G t
 Each G F (failed n place t) = F n t
 
--- In data of `size` bits, a line that began at bit `start`: it lies in the data; it has taken `spare` bits more than it has changes; its changes
+-- A line that began at bit `start`: it stands no further than bit `size`; it has taken `spare` bits more than it has changes; its changes
 -- ascend strictly below its position, which is at most the width; they have room.
 pub record Sound (R : Rules) (size start spare : ℕ) (s : Line) : Type 0 where
   pub inside : s .at ≤ size
@@ -34,13 +34,24 @@ pub record Sound (R : Rules) (size start spare : ℕ) (s : Line) : Type 0 where
   pub rising : Rising (s .position) 0 (s .changes)
   pub roomy : length (s .changes) ≤ R .room
 
+-- A bit that no reading from before it passes: the end of the data is one, and the zeros of an EOL are another (proofs/Barrier.antt).
+pub record Bound (bs : List Bool) (size : ℕ) : Type 0 where
+  pub run-stays : (colour : Colour) (at : ℕ) (r : Sum) → readRun colour bs at ≡ ok r → at ≤ size → r .at ≤ size
+  pub mode-stays : (at : ℕ) (r : Moded) → readMode bs at ≡ ok r → at ≤ size → r .at ≤ size
+
+pub data-bound : (bs : List Bool) → Bound bs (length bs)
+data-bound bs = record {
+  run-stays = λ colour at r e h. subst (Within bs (sum at 0)) e (read-within colour bs at) .1;
+  mode-stays = λ at r e h. subst (ModeAt bs at) e (mode-at bs at) .fits;
+}
+
 module _ (R : Rules) (size start : ℕ) where
   pub sound-new : start ≤ size → Sound R size start 0 (newLine start)
   sound-new h = record { inside = h; few = omega arith; fits = omega arith; rising = none; roomy = omega arith }
 
   -- the bits of a code are taken
-  sound-moved : {spare : ℕ} (s : Line) (a : ℕ) → s .at < a → a ≤ size → Sound R size start spare s → Sound R size start (suc spare) (movedTo a s)
-  sound-moved s a h k w = record { inside = k; few = omega (arith, w .few); fits = w .fits; rising = w .rising; roomy = w .roomy }
+  sound-moved : {spare : ℕ} (s : Line) (a : ℕ) → s .at < a → (s .at ≤ size → a ≤ size) → Sound R size start spare s → Sound R size start (suc spare) (movedTo a s)
+  sound-moved s a h k w = record { inside = k (w .inside); few = omega (arith, w .few); fits = w .fits; rising = w .rising; roomy = w .roomy }
 
   sound-less : {spare : ℕ} (s : Line) → Sound R size start (suc spare) s → Sound R size start spare s
   sound-less s w = record { inside = w .inside; few = omega (arith, w .few); fits = w .fits; rising = w .rising; roomy = w .roomy }
@@ -110,80 +121,85 @@ module _ (R : Rules) (size start : ℕ) where
 
   -- ---- One code
 
-  -- a code takes bits, in the data, and spends none that were spare
-  abbrev pub Codes : Line → Line → Type 0
-  Codes s t = (s .at < t .at) × (t .at ≤ size) × ((spare : ℕ) → Sound R size start spare s → Sound R size start spare t)
+  -- a code spends no bits that were spare
+  abbrev pub Keeps : Line → Line → Type 0
+  Keeps s t = (spare : ℕ) → Sound R size start spare s → Sound R size start spare t
 
-  abbrev pub CodeFails : Line → ℕ → Line → Type 0
-  CodeFails s n t = (1 ≤ n) × (n ≤ 4) × ((spare : ℕ) → Sound R size start spare s → Sound R size start spare t)
+  keeps-moved : (s : Line) (a : ℕ) → s .at < a → (s .at ≤ size → a ≤ size) → Keeps s (movedTo a s)
+  keeps-moved s a h k spare w = sound-less (movedTo a s) (sound-moved s a h k w)
 
-  -- bits are taken up to a, and then a count is pushed
-  moved-pushes : (s : Line) (a : ℕ) → s .at < a → a ≤ size → (w : Went) → Each (Pushes (movedTo a s)) (PushFails (movedTo a s)) w → Each (Codes s) (CodeFails s) w
-  moved-pushes s a h k (went t) (e, f) = (omega arith, omega arith, λ spare w. f spare (sound-moved s a h k w))
-  moved-pushes s a h k (failed n p t) (x, y, e, f) = (x, y, λ spare w. f spare (sound-moved s a h k w))
-
-  codes-then : (s : Line) (w : Went) (then : Line → Went) → Each (Codes s) (CodeFails s) w → ((t : Line) → Each (Codes t) (CodeFails t) (then t)) → Each (Codes s) (CodeFails s) (next w then)
-  codes-then s (went t) then (a, b, f) k = both (then t) (k t)
-    where
-      both : (w : Went) → Each (Codes t) (CodeFails t) w → Each (Codes s) (CodeFails s) w
-      both (went u) (c, d, g) = (omega arith, d, λ spare w. g spare (f spare w))
-      both (failed n p u) (c, d, g) = (c, d, λ spare w. g spare (f spare w))
-  codes-then s (failed n p t) then f k = f
-
-module _ (R : Rules) (bs : List Bool) (start : ℕ) where
+module _ (R : Rules) (bs : List Bool) (size : ℕ) (bound : Bound bs size) (start : ℕ) where
+  -- a code takes bits, in the data; one that fails has a number of 1 to 4
   abbrev pub Coded : Line → Went → Type 0
-  Coded s w = Each (Codes R (length bs) start s) (CodeFails R (length bs) start s) w
+  Coded s w =
+      Each (λ t. (s .at < t .at) × (t .at ≤ length bs) × Keeps R size start s t) (λ n t. (1 ≤ n) × (n ≤ 4) × Keeps R size start s t) w
 
-  -- the bits of a code up to a, and then a count, or a count with its turn
-  push-coded : (s : Line) (a : ℕ) → s .at < a → a ≤ length bs → (place count : ℕ) → Coded s (push R place count (movedTo a s))
-  push-coded s a h k place count = moved-pushes R (length bs) start s a h k (push R place count (movedTo a s)) (push-pushes R (length bs) start place count (movedTo a s))
+  -- what comes after bits that were taken
+  coded-after : (s t : Line) → s .at < t .at → Keeps R size start s t → (w : Went) → Coded t w → Coded s w
+  coded-after s t h f (went u) (a, b, g) = (omega arith, b, λ spare w. g spare (f spare w))
+  coded-after s t h f (failed n p u) (a, b, g) = (a, b, λ spare w. g spare (f spare w))
 
-  pushTurn-coded : (s : Line) (a : ℕ) → s .at < a → a ≤ length bs → (place count : ℕ) → Coded s (pushTurn R place count (movedTo a s))
-  pushTurn-coded s a h k place count =
-      moved-pushes R (length bs) start s a h k (pushTurn R place count (movedTo a s))
-      (turned-pushes R (length bs) start (movedTo a s) (push R place count (movedTo a s)) (push-pushes R (length bs) start place count (movedTo a s)))
+  coded-then : (s : Line) (w : Went) (then : Line → Went) → Coded s w → ((t : Line) → Coded t (then t)) → Coded s (next w then)
+  coded-then s (went t) then (a, b, f) k = coded-after s t a f (then t) (k t)
+  coded-then s (failed n p t) then f k = f
+
+  -- the code that began at s ends at a, in the data
+  module _ (s : Line) (a : ℕ) (ahead : s .at < a) (there : a ≤ length bs) (stays : s .at ≤ size → a ≤ size) where
+    moved-pushes : (w : Went) → Each (Pushes R size start (movedTo a s)) (PushFails R size start (movedTo a s)) w → Coded s w
+    moved-pushes (went t) (e, f) = (omega arith, omega arith, λ spare w. f spare (sound-moved R size start s a ahead stays w))
+    moved-pushes (failed n p t) (x, y, e, f) = (x, y, λ spare w. f spare (sound-moved R size start s a ahead stays w))
+
+    -- then a count, or a count with its turn
+    push-coded : (place count : ℕ) → Coded s (push R place count (movedTo a s))
+    push-coded place count = moved-pushes (push R place count (movedTo a s)) (push-pushes R size start place count (movedTo a s))
+
+    pushTurn-coded : (place count : ℕ) → Coded s (pushTurn R place count (movedTo a s))
+    pushTurn-coded place count =
+        moved-pushes (pushTurn R place count (movedTo a s))
+        (turned-pushes R size start (movedTo a s) (push R place count (movedTo a s)) (push-pushes R size start place count (movedTo a s)))
 
   pushRun-coded : (s : Line) → Coded s (pushRun R bs s)
   unfolding pushRun
-  pushRun-coded s = cases (readRun (s .colour) bs (s .at)) (read-within (s .colour) bs (s .at))
+  pushRun-coded s = cases (readRun (s .colour) bs (s .at)) refl (read-within (s .colour) bs (s .at))
     where
-      cases : (r : Res Sum) → Within bs (sum (s .at) 0) r → Coded s (afterRun R s r)
-      cases (ok r) w = pushTurn-coded s (r .at) (w .0) (w .1) (s .at) (r .total)
-      cases (fault n p) w = (omega arith, omega arith, λ spare k. k)
+      cases : (r : Res Sum) → readRun (s .colour) bs (s .at) ≡ r → Within bs (sum (s .at) 0) r → Coded s (afterRun R s r)
+      cases (ok r) e w = pushTurn-coded s (r .at) (w .0) (w .1) (bound .run-stays (s .colour) (s .at) r e) (s .at) (r .total)
+      cases (fault n p) e w = (omega arith, omega arith, λ spare k. k)
 
   module _ (reference : List ℕ) where
     -- the mode code began at s, and ends at a
-    module _ (s : Line) (a : ℕ) (ahead : s .at < a) (inside′ : a ≤ length bs) where
+    module _ (s : Line) (a : ℕ) (ahead : s .at < a) (there : a ≤ length bs) (stays : s .at ≤ size → a ≤ size) where
+      over : (place : ℕ) → Coded s (failed 3 place (movedTo a s))
+      over place = (omega arith, omega arith, keeps-moved R size start s a ahead stays)
+
       vertical-coded : (place a1 : ℕ) → Coded s (vertical R reference place a1 (movedTo a s))
       unfolding vertical
       vertical-coded place a1 = tests (leb a1 4294967295 && leb (s .position) a1)
         where
           tests : (b : Bool) → Coded s (cond b (pushTurn R place (a1 - s .position) (movedTo a s)) (failed 3 place (movedTo a s)))
-          tests true = pushTurn-coded s a ahead inside′ place (a1 - s .position)
-          tests false = (omega arith, omega arith, λ spare k. sound-less R (length bs) start (movedTo a s) (sound-moved R (length bs) start s a ahead inside′ k))
+          tests true = pushTurn-coded s a ahead there stays place (a1 - s .position)
+          tests false = over place
 
       apply-coded : (place : ℕ) (mode : Mode) → Coded s (apply R reference bs place mode (movedTo a s))
       unfolding apply
-      apply-coded place pass = push-coded s a ahead inside′ place (b2 (R .width) reference (s .position) (s .colour) - s .position)
-      apply-coded place horizontal = codes-then R (length bs) start s (pushRun R bs (movedTo a s)) (pushRun R bs) (first (pushRun R bs (movedTo a s)) (pushRun-coded (movedTo a s))) pushRun-coded
-        where
-          first : (w : Went) → Coded (movedTo a s) w → Coded s w
-          first (went t) (x, y, f) = (omega arith, y, λ spare k. f spare (sound-less R (length bs) start (movedTo a s) (sound-moved R (length bs) start s a ahead inside′ k)))
-          first (failed n p t) (x, y, f) = (x, y, λ spare k. f spare (sound-less R (length bs) start (movedTo a s) (sound-moved R (length bs) start s a ahead inside′ k)))
-      apply-coded place (VR k) = vertical-coded place _
+      apply-coded place pass = push-coded s a ahead there stays place (b2 (R .width) reference (s .position) (s .colour) - s .position)
+      apply-coded place horizontal =
+          coded-after s (movedTo a s) ahead (keeps-moved R size start s a ahead stays) (next (pushRun R bs (movedTo a s)) (pushRun R bs))
+          (coded-then (movedTo a s) (pushRun R bs (movedTo a s)) (pushRun R bs) (pushRun-coded (movedTo a s)) pushRun-coded)
+      apply-coded place (VR k) = vertical-coded place (b1 (R .width) reference (s .position) (s .colour) + k)
       apply-coded place (VL k) = tests (leb k (b1 (R .width) reference (s .position) (s .colour)))
         where
           tests : (b : Bool) → Coded s (cond b (vertical R reference place (b1 (R .width) reference (s .position) (s .colour) - k) (movedTo a s)) (failed 3 place (movedTo a s)))
-          tests true = vertical-coded place _
-          tests false = (omega arith, omega arith, λ spare w. sound-less R (length bs) start (movedTo a s) (sound-moved R (length bs) start s a ahead inside′ w))
+          tests true = vertical-coded place (b1 (R .width) reference (s .position) (s .colour) - k)
+          tests false = over place
 
     code2D-coded : (s : Line) → Coded s (code2D R reference bs s)
     unfolding code2D
-    code2D-coded s = cases (readMode bs (s .at)) (mode-at bs (s .at))
+    code2D-coded s = cases (readMode bs (s .at)) refl (mode-at bs (s .at))
       where
-        cases : (r : Res Moded) → ModeAt bs (s .at) r → Coded s (afterMode R reference bs s r)
-        cases (ok r) w = apply-coded s (r .at) (w .some-bits) (w .fits) (s .at) (r .mode)
-        cases (fault n p) w = (omega arith, omega arith, λ spare k. k)
+        cases : (r : Res Moded) → readMode bs (s .at) ≡ r → ModeAt bs (s .at) r → Coded s (afterMode R reference bs s r)
+        cases (ok r) e w = apply-coded s (r .at) (w .some-bits) (w .fits) (bound .mode-stays (s .at) r e) (s .at) (r .mode)
+        cases (fault n p) e w = (omega arith, omega arith, λ spare k. k)
 
   -- every code, of either kind of line
   pub code-coded : (k : Kind) (s : Line) → Coded s (codeOf R k bs s)
@@ -197,7 +213,7 @@ abbrev pub Moves : List Bool → (Line → Went) → Type 0
 Moves bs code = (s t : Line) → code s ≡ went t → (s .at < t .at) × (t .at ≤ length bs)
 
 pub moves : (R : Rules) (k : Kind) (bs : List Bool) → Moves bs (codeOf R k bs)
-moves R k bs s t e = let c = subst (Coded R bs 0 s) e (code-coded R bs 0 k s) in (c .0, c .1)
+moves R k bs s t e = let c = subst (Coded R bs (length bs) (data-bound bs) 0 s) e (code-coded R bs (length bs) (data-bound bs) 0 k s) in (c .0, c .1)
 
 -- what one step does, by cases
 pub line-cases : (width : ℕ) (code : Line → Went) (s : Line) (C : Out Line Went → Type 0)
@@ -235,35 +251,34 @@ module _ (width : ℕ) (code : Line → Went) (bs : List Bool) (m : Moves bs cod
 
 -- ---- A whole line
 
--- what holds of a line that comes to its width, and of one that fails
-module _ (R : Rules) (k : Kind) (bs : List Bool) (start : ℕ) where
+module _ (R : Rules) (k : Kind) (bs : List Bool) (size : ℕ) (bound : Bound bs size) (start : ℕ) where
   -- a line at its width, further on in the data than s unless s was there; or a failure of 1 to 4; sound if s was
   Ends : Line → Went → Type 0
   Ends s (went t) =
       (t .position ≡ R .width)
-      × (s .at ≤ t .at)
       × (s .at ≤ length bs → t .at ≤ length bs)
       × ((s .position ≡ R .width → ⊥) → (s .at < t .at) × (t .at ≤ length bs))
-      × (Sound R (length bs) start 0 s → Sound R (length bs) start 0 t)
-  Ends s (failed n p t) = (1 ≤ n) × (n ≤ 4) × (Sound R (length bs) start 0 s → Sound R (length bs) start 0 t)
+      × (s .at ≤ t .at)
+      × ((spare : ℕ) → Sound R size start spare s → Sound R size start spare t)
+  Ends s (failed n p t) = (1 ≤ n) × (n ≤ 4) × ((spare : ℕ) → Sound R size start spare s → Sound R size start spare t)
 
   line-ends : (s : Line) (r : Went) → ends (lineStep (R .width) (codeOf R k bs)) (λ t. length bs - t .at) s ≡ done r → Ends s r
   unfolding Ends
   line-ends s r e = ends-ind (lineStep (R .width) (codeOf R k bs)) Ends base goes (λ t. length bs - t .at) s r e
     where
-      coded : (s : Line) (r : Went) → codeOf R k bs s ≡ r → Coded R bs start s r
-      coded s r e = subst (Coded R bs start s) e (code-coded R bs start k s)
+      coded : (s : Line) (r : Went) → codeOf R k bs s ≡ r → Coded R bs size bound start s r
+      coded s r e = subst (Coded R bs size bound start s) e (code-coded R bs size bound start k s)
 
       base : (s : Line) (r : Went) → lineStep (R .width) (codeOf R k bs) s ≡ done r → Ends s r
       base s r =
           line-cases (R .width) (codeOf R k bs) s (λ o. o ≡ done r → Ends s r)
-          (λ h e. subst (Ends s) (let q : went s ≡ r = cc in q) (h, omega arith, (λ l. l), (λ n. absurd (n h)), λ w. w))
+          (λ h e. subst (Ends s) (let q : went s ≡ r = cc in q) (h, (λ l. l), (λ n. absurd (n h)), omega arith, λ spare w. w))
           (λ h t q e. absurd (let z : _≡_ {A = ℕ} 0 1 = cc in omega arith))
-          (λ h n p t q e. let c = coded s (failed n p t) q in subst (Ends s) (let g : failed n p t ≡ r = cc in g) (c .0, c .1, c .2 0))
+          (λ h n p t q e. subst (Ends s) (let g : failed n p t ≡ r = cc in g) (coded s (failed n p t) q))
 
-      further : (s t : Line) → Codes R (length bs) start s t → (r : Went) → Ends t r → Ends s r
-      further s t (a, b, f) (went u) (x, y, z, v, g) = (x, omega arith, (λ l. z b), (λ n. (omega arith, z b)), λ w. g (f 0 w))
-      further s t (a, b, f) (failed n p u) (x, y, g) = (x, y, λ w. g (f 0 w))
+      further : (s t : Line) → Coded R bs size bound start s (went t) → (r : Went) → Ends t r → Ends s r
+      further s t (a, b, f) (went u) (x, y, z, v, g) = (x, (λ l. y b), (λ n. (omega arith, y b)), omega arith, λ spare w. g spare (f spare w))
+      further s t (a, b, f) (failed n p u) (x, y, g) = (x, y, λ spare w. g spare (f spare w))
 
       goes : (s t : Line) (r : Went) → lineStep (R .width) (codeOf R k bs) s ≡ more t → Ends t r → Ends s r
       goes s t r =
@@ -278,7 +293,7 @@ module _ (R : Rules) (k : Kind) (bs : List Bool) (start : ℕ) where
       let p = ends-stops (lineStep (R .width) (codeOf R k bs)) (λ u. length bs - u .at) (line-falls (R .width) (codeOf R k bs) bs (moves R k bs)) s in
       rw (p .1) (line-ends s (p .0) (p .1))
 
--- a line that is read whole
+-- a line that is read whole, from `start` on
 pub record Whole (R : Rules) (bs : List Bool) (start : ℕ) (t : Line) : Type 0 where
   pub full : t .position ≡ R .width
   pub some-bits : start < t .at
@@ -287,22 +302,22 @@ pub record Whole (R : Rules) (bs : List Bool) (start : ℕ) (t : Line) : Type 0 
   pub few : start + length (t .changes) ≤ t .at
   pub roomy : length (t .changes) ≤ R .room
 
--- a line that fails, with 1 to 4
-pub record Broken (R : Rules) (bs : List Bool) (start n : ℕ) (t : Line) : Type 0 where
+-- a line that fails, with 1 to 4; its codes stand no further than bit `size`
+pub record Broken (R : Rules) (size start n : ℕ) (t : Line) : Type 0 where
   pub numbered : (1 ≤ n) × (n ≤ 4)
-  pub line : Sound R (length bs) start 0 t
+  pub line : Sound R size start 0 t
 
-module _ (R : Rules) (wide : 0 < R .width) (k : Kind) (bs : List Bool) (start : ℕ) (inside′ : start ≤ length bs) where
-  new-ends : Ends R k bs start (newLine start) (readLine R k bs start)
+module _ (R : Rules) (wide : 0 < R .width) (k : Kind) (bs : List Bool) (start : ℕ) where
+  new-ends : (size : ℕ) (bound : Bound bs size) → Ends R k bs size bound start (newLine start) (readLine R k bs start)
   unfolding readLine
-  new-ends = line-end R k bs start (newLine start)
+  new-ends size bound = line-end R k bs size bound start (newLine start)
 
-  pub read-whole : (t : Line) → readLine R k bs start ≡ went t → Whole R bs start t
+  pub read-whole : start ≤ length bs → (t : Line) → readLine R k bs start ≡ went t → Whole R bs start t
   unfolding Ends
-  read-whole t e =
-      let f = subst (Ends R k bs start (newLine start)) e new-ends in
-      let g = f .3 (λ q. omega arith) in
-      let w = f .4 (sound-new R (length bs) start inside′) in
+  read-whole inside′ t e =
+      let f = subst (Ends R k bs (length bs) (data-bound bs) start (newLine start)) e (new-ends (length bs) (data-bound bs)) in
+      let g = f .2 (λ q. omega arith) in
+      let w = f .4 0 (sound-new R (length bs) start inside′) in
       record {
         full = f .0;
         some-bits = g .0;
@@ -312,8 +327,8 @@ module _ (R : Rules) (wide : 0 < R .width) (k : Kind) (bs : List Bool) (start : 
         roomy = w .roomy;
       }
 
-  pub read-broken : (n p : ℕ) (t : Line) → readLine R k bs start ≡ failed n p t → Broken R bs start n t
+  pub read-broken : (size : ℕ) → Bound bs size → start ≤ size → (n p : ℕ) (t : Line) → readLine R k bs start ≡ failed n p t → Broken R size start n t
   unfolding Ends
-  read-broken n p t e =
-      let f = subst (Ends R k bs start (newLine start)) e new-ends in
-      record { numbered = (f .0, f .1); line = f .2 (sound-new R (length bs) start inside′) }
+  read-broken size bound inside′ n p t e =
+      let f = subst (Ends R k bs size bound start (newLine start)) e (new-ends size bound) in
+      record { numbered = (f .0, f .1); line = f .2 0 (sound-new R size start inside′) }

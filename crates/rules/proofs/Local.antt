@@ -15,7 +15,7 @@ use Rattle.rules.proofs.Machine.{ends-ind, ends-stops}
 use Rattle.rules.proofs.Agree.{Agree, agree-less}
 use Rattle.rules.proofs.Runs.{read-same}
 use Rattle.rules.proofs.Modes.{mode-same}
-use Rattle.rules.proofs.Lines.{Each, push-pushes, Coded, code-coded, moves, line-cases, line-falls, line-more, line-done}
+use Rattle.rules.proofs.Lines.{Each, push-pushes, data-bound, Coded, code-coded, moves, line-cases, line-falls, line-more, line-done}
 
 module _ (R : Rules) (bs cs : List Bool) where
   -- a reading of bs that goes on at a line t is one of cs too, where both agree up to t's bit
@@ -48,7 +48,7 @@ module _ (R : Rules) (bs cs : List Bool) where
     where
       cases : (w : Went) → pushRun R bs s ≡ w → next w (pushRun R bs) ≡ went t → next (pushRun R cs s) (pushRun R cs) ≡ went t
       cases (went u) q f =
-          let c = subst (Coded R bs 0 u) f (code-coded R bs 0 one u) in
+          let c = subst (Coded R bs (length bs) (data-bound bs) 0 u) f (code-coded R bs (length bs) (data-bound bs) 0 one u) in
           ap (λ (w : Went). next w (pushRun R cs)) (pushRun-local s u q (agree-less (u .at) (omega (arith, c .0)) a)) ∙ pushRun-local u t f a
       cases (failed n p u) q f = absurd (let z : _≡_ {A = ℕ} 0 1 = cc in omega arith)
 
@@ -68,8 +68,8 @@ module _ (R : Rules) (bs cs : List Bool) where
       where
         cases : (w : Went) → pushRun R bs s ≡ w → next w (pushRun R bs) ≡ went t → s .at ≤ t .at
         cases (went u) q f =
-            let c = subst (Coded R bs 0 s) q (code-coded R bs 0 one s) in
-            let d = subst (Coded R bs 0 u) f (code-coded R bs 0 one u) in
+            let c = subst (Coded R bs (length bs) (data-bound bs) 0 s) q (code-coded R bs (length bs) (data-bound bs) 0 one s) in
+            let d = subst (Coded R bs (length bs) (data-bound bs) 0 u) f (code-coded R bs (length bs) (data-bound bs) 0 one u) in
             omega (arith, c .0, d .0)
         cases (failed n p u) q f = absurd (let z : _≡_ {A = ℕ} 0 1 = cc in omega arith)
     mode-first place (VR k) s t e = up (b1 (R .width) reference (s .position) (s .colour) + k) (leb (b1 (R .width) reference (s .position) (s .colour) + k) 4294967295 && leb (s .position) (b1 (R .width) reference (s .position) (s .colour) + k)) e

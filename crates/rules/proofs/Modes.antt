@@ -14,6 +14,7 @@ use Rattle.rules.specs.Lookup.{begins}
 use Rattle.rules.specs.Runs.{Res, ok, fault}
 use Rattle.rules.specs.Modes.{Mode, pass, horizontal, VR, VL, modeBits, modes, ModeIn, known, unknown, modeAmong, modeByTable, modeFor, modeByZeros, Moded, moded, modeTake, readMode}
 use Rattle.rules.proofs.Bits.{drop-after, fits-after}
+use Rattle.rules.proofs.Codes.{hasOne, spread, soon}
 use Rattle.rules.proofs.Lookup.{begins-window}
 use Rattle.rules.proofs.Agree.{Agree, agree-word}
 
@@ -74,6 +75,11 @@ coded-in rest m c = coded-cases (λ m. modeByTable (modeBits m ++ rest) ≡ know
 coded-length : (m : Mode) → Coded m → (1 ≤ length (modeBits m)) × (length (modeBits m) ≤ 7)
 unfolding modeBits
 coded-length m c = coded-cases (λ m. (1 ≤ length (modeBits m)) × (length (modeBits m) ≤ 7)) (omega arith) (omega arith) (omega arith) (omega arith) (omega arith) (omega arith) (omega arith) (omega arith) (omega arith) m c
+
+-- a one comes soon in each
+pub coded-soon : (m : Mode) → Coded m → T (soon (modeBits m))
+unfolding modeBits soon spread hasOne
+coded-soon m c = coded-cases (λ m. T (soon (modeBits m))) tt tt tt tt tt tt tt tt tt m c
 
 -- a mode's bits, whatever follows
 pub read-mode : (m : Mode) (bs rest : List Bool) (at : ℕ) → Coded m → drop at bs ≡ modeBits m ++ rest → readMode bs at ≡ ok (moded (at + length (modeBits m)) m)
