@@ -62,6 +62,7 @@ soon bs = hasOne (take 8 bs) && spread bs
 pub record Shape (c : Code) : Type 0 where
   pub small-run : c .run ≤ 2560
   pub some-bits : 1 ≤ c .size
+  pub two-bits : 2 ≤ c .size
   pub few-bits : c .size ≤ 13
   pub has-one : T (hasOne (codeBits c))
   pub leading : zerosBefore (codeBits c) ≤ 7
@@ -73,6 +74,7 @@ unfolding every codesOf codeBits zerosBefore hasOne soon spread bitsFor bit
 shape colour c m = record {
   small-run = leb→le (c .run) 2560 (either-colour (λ (d : Code). leb (d .run) 2560) tt tt colour c m);
   some-bits = leb→le 1 (c .size) (either-colour (λ (d : Code). leb 1 (d .size)) tt tt colour c m);
+  two-bits = leb→le 2 (c .size) (either-colour (λ (d : Code). leb 2 (d .size)) tt tt colour c m);
   few-bits = leb→le (c .size) 13 (either-colour (λ (d : Code). leb (d .size) 13) tt tt colour c m);
   has-one = either-colour (λ (d : Code). hasOne (codeBits d)) tt tt colour c m;
   leading = leb→le (zerosBefore (codeBits c)) 7 (either-colour (λ (d : Code). leb (zerosBefore (codeBits d)) 7) tt tt colour c m);

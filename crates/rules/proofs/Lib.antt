@@ -15,3 +15,9 @@ pub mod ReadBack
 pub mod MoreRoom
 pub mod PageBack
 pub mod Barrier
+pub mod Eols
+pub mod Spare
+pub mod CutPage
+pub mod Rows
+pub mod Budget
+pub mod RoundTrip

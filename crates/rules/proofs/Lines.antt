@@ -57,10 +57,10 @@ module _ (R : Rules) (size start : ℕ) where
   sound-less s w = record { inside = w .inside; few = omega (arith, w .few); fits = w .fits; rising = w .rising; roomy = w .roomy }
 
   -- a count leaves the bit as it is, and spends one spare bit at most
-  abbrev Pushes : Line → Line → Type 0
+  abbrev pub Pushes : Line → Line → Type 0
   Pushes s t = (t .at ≡ s .at) × ((spare : ℕ) → Sound R size start (suc spare) s → Sound R size start spare t)
 
-  abbrev PushFails : Line → ℕ → Line → Type 0
+  abbrev pub PushFails : Line → ℕ → Line → Type 0
   PushFails s n t = (1 ≤ n) × (n ≤ 4) × (t .at ≡ s .at) × ((spare : ℕ) → Sound R size start (suc spare) s → Sound R size start spare t)
 
   recorded-cases : (s : Line) (C : List ℕ → Type 0) → C (s .changes) → C (s .changes ++ s .position ∷ []) → C (recorded s)
@@ -253,7 +253,7 @@ module _ (width : ℕ) (code : Line → Went) (bs : List Bool) (m : Moves bs cod
 
 module _ (R : Rules) (k : Kind) (bs : List Bool) (size : ℕ) (bound : Bound bs size) (start : ℕ) where
   -- a line at its width, further on in the data than s unless s was there; or a failure of 1 to 4; sound if s was
-  Ends : Line → Went → Type 0
+  unfoldable pub Ends : Line → Went → Type 0
   Ends s (went t) =
       (t .position ≡ R .width)
       × (s .at ≤ length bs → t .at ≤ length bs)
@@ -287,7 +287,7 @@ module _ (R : Rules) (k : Kind) (bs : List Bool) (size : ℕ) (bound : Bound bs 
           (λ h u q e. let g : u ≡ t = cc in further s t (coded s (went t) (q ∙ ap (λ (x : Line). went x) g)) r)
           (λ h n p u q e. absurd (let z : _≡_ {A = ℕ} 0 1 = cc in omega arith))
 
-  line-end : (s : Line) → Ends s (lineEnd (R .width) (codeOf R k bs) bs s)
+  pub line-end : (s : Line) → Ends s (lineEnd (R .width) (codeOf R k bs) bs s)
   unfolding lineEnd
   line-end s =
       let p = ends-stops (lineStep (R .width) (codeOf R k bs)) (λ u. length bs - u .at) (line-falls (R .width) (codeOf R k bs) bs (moves R k bs)) s in

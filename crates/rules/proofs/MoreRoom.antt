@@ -1,6 +1,6 @@
 -- More room never changes an answer of 0 to 3: with more entries for its changes a line is read the same, unless it failed with 4; and with more
 -- entries and row ends a page of any encoding is, unless its answer was 4 or 5. Assumes nothing.
-use mathlib.Core.Path.{_≡_, refl}
+use mathlib.Core.Path.{_≡_, refl, _∙_}
 use mathlib.Core.Bool.{Bool, true, false, cond, not, _&&_, and-false}
 use mathlib.Core.List.{List}
 use Prim.Native.Nat.{ℕ, zero, suc, _+_, _-_, _≤_, _<_}
@@ -153,6 +153,13 @@ module _ (width : ℕ) (strict : Bool) (small large : ℕ) (le : small ≤ large
 
       step : (s : Line) → Unless (Ended Full) (lineStep width (codeOf P kind bs) s) (lineStep width (codeOf Q kind bs) s)
       step s = unless-cond (eqb (s .position) width) same (goes (code-room kind bs s))
+
+  -- so a line that is read is read with more room too
+  pub line-went : (kind : Kind) (bs : List Bool) (at : ℕ) (l : Line) → readLine P kind bs at ≡ went l → readLine Q kind bs at ≡ went l
+  line-went kind bs at l e = unless-not (line-room kind bs at) (not-full e) ∙ e
+    where
+      not-full : {v : Went} → v ≡ went l → Full v → ⊥
+      not-full e full = let z : _≡_ {A = ℕ} 0 1 = cc in omega arith
 
 -- ---- Rows and pages
 

@@ -8,8 +8,8 @@ use Prim.Native.Nat.{ℕ, zero, suc, _+_, _-_, _≤_, _<_}
 use native.Mathlib.Omega.{arith}
 use native.Mathlib.Nat.{zero-add}
 use lib.Dec.{eqb}
-use lib.ListN.{length, drop, length-append}
-use borrow.Author.Tests.{lt-ltb, lt-leb, eq-eqb, ne-eqb}
+use lib.ListN.{length, drop, length-append, length-drop}
+use borrow.Author.Tests.{lt-ltb, le-ltb, lt-leb, eq-eqb, ne-eqb}
 use Rattle.rules.specs.Machine.{Out, more, done, andThen, run, ends}
 use Rattle.rules.specs.Codes.{white}
 use Rattle.rules.specs.Modes.{Mode, pass, horizontal, modeBits}
@@ -23,6 +23,7 @@ use Rattle.rules.proofs.Machine.{run-add}
 use Rattle.rules.proofs.Bits.{drop-after}
 use Rattle.rules.proofs.Modes.{Coded, c-pass, c-horizontal, c-right, c-left}
 use Rattle.rules.proofs.Ascending.{Rising, none, ascends-rises}
+use Rattle.rules.proofs.Eols.{zeros-inside}
 use Rattle.rules.proofs.ReadBack.{write-cases, vertical-coded, Reads, read-line}
 
 -- ---- What a line begins with
@@ -56,19 +57,16 @@ line-zeros most width reference xs wide rest =
     begins mode c later = rw (append-assoc (modeBits mode) later rest) (mode-zeros mode c (later ++ rest))
 
 -- where there is a one, there are bits
-pub one-inside : (bs : List Bool) (at z : ℕ) → zeroRun (drop at bs) ≡ some z → at < length bs
-unfolding zeroRun
-one-inside [] zero z e = absurd (let y : _≡_ {A = ℕ} 0 1 = cc in omega arith)
-one-inside [] (suc at) z e = absurd (let y : _≡_ {A = ℕ} 0 1 = cc in omega arith)
-one-inside (b ∷ bs) zero z e = omega arith
-one-inside (b ∷ bs) (suc at) z e = omega (arith, one-inside bs at z e)
+one-inside : (bs : List Bool) (at z : ℕ) → zeroRun (drop at bs) ≡ some z → at < length bs
+one-inside bs at z e = omega (arith, zeros-inside (drop at bs) z e, length-drop at bs)
 
--- so a line has a bit at least, and a page no more rows than bits
-line-long : (most width : ℕ) (reference xs : List ℕ) → 0 < width → 1 ≤ length (lineBits most width (two reference) xs)
+-- so a line has a bit at least,
+pub line-long : (most width : ℕ) (reference xs : List ℕ) → 0 < width → 1 ≤ length (lineBits most width (two reference) xs)
 line-long most width reference xs wide =
     let z = line-zeros most width reference xs wide [] in
     omega (arith, one-inside (lineBits most width (two reference) xs ++ []) 0 (z .0) (z .1), length-append (lineBits most width (two reference) xs) [])
 
+-- and a page no more rows than bits
 rows-long : (most width : ℕ) → 0 < width → (reference : List ℕ) (rows : List (List ℕ)) → length rows ≤ length (rowsBits most width reference rows)
 unfolding rowsBits
 rows-long most width wide reference [] = omega arith
@@ -83,18 +81,23 @@ unfolding readEols
 no-eols zero bs at z e h = refl
 no-eols (suc n) bs at z e h = rw (e, lt-ltb z 11 (omega arith), readEols)
 
--- an EOL, and then those that follow it
-pub one-eol : (n : ℕ) (bs rest : List Bool) (at : ℕ) → drop at bs ≡ eolBits ++ rest
-    → readEols (suc n) bs at ≡ eolsTo (suc (readEols n bs (at + 12) .count)) (readEols n bs (at + 12) .at)
-unfolding readEols zeroRun eolBits
-one-eol n bs rest at e = rw (e, readEols)
+-- a one that comes late enough ends one, and then there are those that follow
+pub one-eol : (n : ℕ) (bs : List Bool) (at z : ℕ) → zeroRun (drop at bs) ≡ some z → 11 ≤ z
+    → readEols (suc n) bs at ≡ eolsTo (suc (readEols n bs (at + suc z) .count)) (readEols n bs (at + suc z) .at)
+unfolding readEols
+one-eol n bs at z e h = rw (e, le-ltb z 11 h, readEols)
+
+-- an EOL as it is written
+pub eol-zeros : (rest : List Bool) → zeroRun (eolBits ++ rest) ≡ some 11
+unfolding zeroRun eolBits
+eol-zeros rest = refl
 
 -- EOFB is two EOLs
-pub two-eols : (bs rest : List Bool) (at : ℕ) → drop at bs ≡ eofb ++ rest → readEols 2 bs at ≡ eolsTo 2 (at + 24)
+two-eols : (bs rest : List Bool) (at : ℕ) → drop at bs ≡ eofb ++ rest → readEols 2 bs at ≡ eolsTo 2 (at + 24)
 unfolding readEols eolBits eofb
 two-eols bs rest at e =
-    one-eol 1 bs (eolBits ++ rest) at e
-    ∙ rw (one-eol 0 bs rest (at + 12) (drop-after bs eolBits (eolBits ++ rest) at e))
+    one-eol 1 bs at 11 (ap zeroRun e ∙ eol-zeros (eolBits ++ rest)) (omega arith)
+    ∙ rw (one-eol 0 bs (at + 12) 11 (ap zeroRun (drop-after bs eolBits (eolBits ++ rest) at e) ∙ eol-zeros rest) (omega arith))
     (ap (eolsTo 2) (let q : at + 12 + 12 ≡ at + 24 = omega arith in q))
 
 -- ---- A page's rows
@@ -137,7 +140,7 @@ abbrev pub whole : ℕ → List (List ℕ) → Answer
 whole size rows = record { number = 0; place = 0; bytes = bytesTo size; rows = rows; loose = [] }
 
 -- the state after a row
-abbrev afterRow : State → ℕ → List ℕ → State
+abbrev pub afterRow : State → ℕ → List ℕ → State
 afterRow st size r = record { at = st .at + size; reference = r; count = suc (st .count); eols = st .eols }
 
 module _ (most : ℕ) (some-most : 1 ≤ most) (most-fits : most ≤ 40) (S : Settings) (plain : Plain S) (bs : List Bool) where

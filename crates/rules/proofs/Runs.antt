@@ -124,6 +124,35 @@ module _ (colour : Colour) (bs : List Bool) where
       let p = ends-stops (runStep colour bs) (bitsAfter bs) (run-falls colour bs) (sum at 0) in
       rw (p .1) (run-within (sum at 0) (p .0) (p .1))
 
+-- a run takes two bits at least
+pub run-two-bits : (colour : Colour) (bs : List Bool) (at : ℕ) (r : Sum) → readRun colour bs at ≡ ok r → at + 2 ≤ r .at
+unfolding readRun
+run-two-bits colour bs at r e =
+    let p = ends-stops (runStep colour bs) (bitsAfter bs) (run-falls colour bs) (sum at 0) in
+    subst (Two (sum at 0)) (sym (ap answer (p .1)) ∙ e) (ends-ind (runStep colour bs) Two base next′ (bitsAfter bs) (sum at 0) (p .0) (p .1))
+  where
+    Two : Sum → Res Sum → Type 0
+    Two s (ok r) = s .at + 2 ≤ r .at
+    Two s (fault n place) = Unit {0}
+
+    base : (s : Sum) (r : Res Sum) → runStep colour bs s ≡ done r → Two s r
+    base s r =
+        run-cases colour bs s (λ o. o ≡ done r → Two s r)
+        (λ c k l e. subst (Two s) (let q : ok (after s c) ≡ r = cc in q) (omega (arith, shape colour c (k .member) .two-bits)))
+        (λ c k l e. absurd (let z : _≡_ {A = ℕ} 0 1 = cc in omega arith))
+        (λ n i j e. subst (Two s) (let q : fault n (s .at) ≡ r = cc in q) tt)
+
+    later : (s t : Sum) → s .at ≤ t .at → (r : Res Sum) → Two t r → Two s r
+    later s t h (ok r) k = omega arith
+    later s t h (fault n place) k = tt
+
+    next′ : (s t : Sum) (r : Res Sum) → runStep colour bs s ≡ more t → Two t r → Two s r
+    next′ s t r =
+        run-cases colour bs s (λ o. o ≡ more t → Two t r → Two s r)
+        (λ c k l e. absurd (let z : _≡_ {A = ℕ} 0 1 = cc in omega arith))
+        (λ c k l e. let q : after s c ≡ t = cc in later s t (omega (arith, ap (λ (x : Sum). x .at) q)) r)
+        (λ n i j e. absurd (let z : _≡_ {A = ℕ} 0 1 = cc in omega arith))
+
 -- ---- A run that is read depends only on the bits it takes
 
 module _ (colour : Colour) (bs cs : List Bool) where
