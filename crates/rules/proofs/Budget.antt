@@ -47,10 +47,10 @@ pub record Starts (bs : List Bool) (st : State) (at : ℕ) (expected : Bool) : T
   pub due : (n : ℕ) → (st .count ≡ 0 → n ≡ 0) → Budget bs st n → Due bs at n expected
 
 module _ (S : Settings) (t : Tagging) (bs : List Bool) (bytes : Bytes bs) (st : State) where
-  -- what is before the row is a line that starts soundly, or no line
-  abbrev Sets : Before S t bs → Type 0
+  -- what is before the row is a line that starts soundly, or an end in the data, or no line
+  abbrev pub Sets : Before S t bs → Type 0
   Sets (line-at at expected) = Starts bs st at expected
-  Sets (end-at at) = Unit {0}
+  Sets (end-at at) = st .at ≤ length bs → at ≤ length bs
   Sets (no-eol-at at) = Unit {0}
 
   first-starts : st .count ≡ 0 → (e : Eols) → Ahead bs (st .at) e → (b : Bool) → Starts bs st (e .at) b
@@ -71,13 +71,13 @@ module _ (S : Settings) (t : Tagging) (bs : List Bool) (bytes : Bytes bs) (st : 
     starts : (at : ℕ) (expected : Bool) → st .at ≤ at → at < length bs → (expected ≡ true → st .at < at) → ((n : ℕ) → Budget bs st n → Due bs at n expected) → Starts bs st at expected
     starts at expected f l a d = record { forward = f; inside = λ h. omega arith; left = λ n. l; after-eol = λ n. a; due = λ n h. d n }
 
-    judged-sets : (rowsDone expected : Bool) (e : Eols) → ((rowsDone ≡ false) → e .at < length bs → Starts bs st (e .at) expected) → Sets (judged S t bs rowsDone expected e)
-    judged-sets rowsDone expected e f = cases (S .endOfBlock && leb 6 (e .count)) rowsDone refl (leb (length bs) (e .at)) refl
+    judged-sets : (rowsDone expected : Bool) (e : Eols) → (st .at ≤ length bs → e .at ≤ length bs) → ((rowsDone ≡ false) → e .at < length bs → Starts bs st (e .at) expected) → Sets (judged S t bs rowsDone expected e)
+    judged-sets rowsDone expected e i f = cases (S .endOfBlock && leb 6 (e .count)) rowsDone refl (leb (length bs) (e .at)) refl
       where
         cases : (a b : Bool) → rowsDone ≡ b → (c : Bool) → leb (length bs) (e .at) ≡ c → Sets (cond (a || (b || c)) (end-at (e .at)) (line-at (e .at) expected))
-        cases true b q c r = tt
-        cases false true q c r = tt
-        cases false false q true r = tt
+        cases true b q c r = i
+        cases false true q c r = i
+        cases false false q true r = i
         cases false false q false r = f q (leb-false (length bs) (e .at) r)
 
     -- EOLs are expected, and none stands here: the next one, if there is one
@@ -86,11 +86,11 @@ module _ (S : Settings) (t : Tagging) (bs : List Bool) (bytes : Bytes bs) (st : 
         let n = skip-finds (length bs) bs (st .at) a e in
         let h = eols3-ahead bs t a in
         let r : 0 < eols3 bs t a .count = eols3-read bs t a (n .eol) in
-        judged-sets false true (eols3 bs t a) (λ d l.
+        judged-sets false true (eols3 bs t a) (λ x. h .inside (omega (arith, eol-inside bs a (n .eol)))) (λ d l.
         starts (eols3 bs t a .at) true (omega (arith, n .forward, h .forward)) l (λ x. omega (arith, n .forward, h .stood r .1))
         (λ m w. omega (arith, h .stood r .1, subst (Budgeted bs (st .at) m) q w .0, ap (reachOf bs) e)))
     searched-sets q none e =
-        judged-sets false false (eolsTo 0 (st .at)) (λ d l.
+        judged-sets false false (eolsTo 0 (st .at)) (λ x. x) (λ d l.
         starts (st .at) false (omega arith) l (λ x. absurd (let z : _≡_ {A = ℕ} 0 1 = cc in omega arith))
         (λ m w. let v = subst (Budgeted bs (st .at) m) q w in no-more m (st .at) refl (v .0) (v .1)))
       where
@@ -116,6 +116,9 @@ module _ (S : Settings) (t : Tagging) (bs : List Bool) (bytes : Bytes bs) (st : 
 
         forward : st .at ≤ start
         forward = aligned-ahead bs bytes (S .aligned && not (st .eols)) (st .at) .0
+
+        ends-inside : st .at ≤ length bs → e .at ≤ length bs
+        ends-inside h = a .inside (aligned-ahead bs bytes (S .aligned && not (st .eols)) (st .at) .1 h)
 
         -- an EOL was read where one is expected
         read : st .eols ≡ true → (e .count ≡ 0 → ⊥) → e .at < length bs → Starts bs st (e .at) true
@@ -147,11 +150,11 @@ module _ (S : Settings) (t : Tagging) (bs : List Bool) (bytes : Bytes bs) (st : 
         cases : (b : Bool) → st .eols ≡ b → (z : Bool) → eqb (e .count) 0 ≡ z → (d : Bool) → rowsDone ≡ d → (f : Bool) → leb (length bs) (e .at) ≡ f
             → Sets (checked S t bs rowsDone st e ((z && b) && not (d || f)))
         cases true q true z false d false f = lacks q (eqb-true (e .count) 0 z)
-        cases true q true z true d f g = judged-sets rowsDone (st .eols) e (λ x l. absurd (let y : _≡_ {A = ℕ} 0 1 = cc in omega arith))
-        cases true q true z false d true f = judged-sets rowsDone (st .eols) e (λ x l. absurd (omega (arith, leb-true (length bs) (e .at) f)))
-        cases true q false z d r f g = judged-sets rowsDone (st .eols) e (λ x l. subst (Starts bs st (e .at)) (sym q) (read q (eqb-false (e .count) 0 z) l))
-        cases false q true z d r f g = judged-sets rowsDone (st .eols) e (λ x l. subst (Starts bs st (e .at)) (sym q) (goes q l))
-        cases false q false z d r f g = judged-sets rowsDone (st .eols) e (λ x l. subst (Starts bs st (e .at)) (sym q) (goes q l))
+        cases true q true z true d f g = judged-sets rowsDone (st .eols) e ends-inside (λ x l. absurd (let y : _≡_ {A = ℕ} 0 1 = cc in omega arith))
+        cases true q true z false d true f = judged-sets rowsDone (st .eols) e ends-inside (λ x l. absurd (omega (arith, leb-true (length bs) (e .at) f)))
+        cases true q false z d r f g = judged-sets rowsDone (st .eols) e ends-inside (λ x l. subst (Starts bs st (e .at)) (sym q) (read q (eqb-false (e .count) 0 z) l))
+        cases false q true z d r f g = judged-sets rowsDone (st .eols) e ends-inside (λ x l. subst (Starts bs st (e .at)) (sym q) (goes q l))
+        cases false q false z d r f g = judged-sets rowsDone (st .eols) e ends-inside (λ x l. subst (Starts bs st (e .at)) (sym q) (goes q l))
 
   -- What is before a row starts it soundly.
   pub before-sets : Sets (before S t bs st (eqb (st .count) 0))

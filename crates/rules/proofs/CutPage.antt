@@ -97,7 +97,7 @@ module _ (most : ℕ) (some-most : 1 ≤ most) (most-fits : most ≤ 40) (S : Se
   line-uncut : (room : ℕ) (reference : List ℕ) (at : ℕ) (l : Line) → at ≤ length bs → readLine (rulesOf S room) (two reference) bs at ≡ went l
       → (l .at ≤ length bs) × (readLine (rulesOf S room) (two reference) all at ≡ went l)
   line-uncut room reference at l h e =
-      let w = read-whole (rulesOf S room) (plain .wide) (two reference) bs at h l e in
+      let w = read-whole (rulesOf S room) (plain .wide) (two reference) bs at l e in
       (w .inside, read-local (rulesOf S room) bs all (two reference) at l e (agrees (l .at) (w .inside)))
 
   -- an EOL that is written is read whole, or not at all

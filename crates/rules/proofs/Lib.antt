@@ -21,3 +21,4 @@ pub mod CutPage
 pub mod Rows
 pub mod Budget
 pub mod RoundTrip
+pub mod Pages

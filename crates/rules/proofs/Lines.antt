@@ -312,12 +312,12 @@ module _ (R : Rules) (wide : 0 < R .width) (k : Kind) (bs : List Bool) (start : 
   unfolding readLine
   new-ends size bound = line-end R k bs size bound start (newLine start)
 
-  pub read-whole : start ≤ length bs → (t : Line) → readLine R k bs start ≡ went t → Whole R bs start t
+  pub read-whole : (t : Line) → readLine R k bs start ≡ went t → Whole R bs start t
   unfolding Ends
-  read-whole inside′ t e =
+  read-whole t e =
       let f = subst (Ends R k bs (length bs) (data-bound bs) start (newLine start)) e (new-ends (length bs) (data-bound bs)) in
       let g = f .2 (λ q. omega arith) in
-      let w = f .4 0 (sound-new R (length bs) start inside′) in
+      let w = f .4 0 (sound-new R (length bs) start (omega arith)) in
       record {
         full = f .0;
         some-bits = g .0;

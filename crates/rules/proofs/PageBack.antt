@@ -130,7 +130,7 @@ abbrev pub Counted : Settings → ℕ → ℕ → Type 0
 Counted S count later = (S .rows ≡ 0) ⊎ (S .rows ≡ count + later)
 
 -- the entries of one row more
-entries-snoc : (rs : List (List ℕ)) (r : List ℕ) → entries (rs ++ r ∷ []) ≡ entries rs + length r
+pub entries-snoc : (rs : List (List ℕ)) (r : List ℕ) → entries (rs ++ r ∷ []) ≡ entries rs + length r
 unfolding entries
 entries-snoc [] r = omega arith
 entries-snoc (x ∷ rs) r = rw (entries-snoc rs r) (omega arith)

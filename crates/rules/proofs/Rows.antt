@@ -97,15 +97,15 @@ module _ (S : Settings) (t : Tagging) (bs : List Bool) (R : Rules) (wide : 0 < R
       cases false q = no-tag
 
   -- read whole, from its first bit on, the tag bit included
-  whole-lined : (at : ℕ) → at ≤ length bs → (w : Went) → Lined at w → (l : Line) → w ≡ went l → Whole R bs at l
-  whole-lined at h w plain l e = read-whole R wide one bs at h l e
-  whole-lined at h w (tag-read k i) l e =
-      let f = read-whole R wide k bs (suc at) i l e in
+  whole-lined : (at : ℕ) (w : Went) → Lined at w → (l : Line) → w ≡ went l → Whole R bs at l
+  whole-lined at w plain l e = read-whole R wide one bs at l e
+  whole-lined at w (tag-read k i) l e =
+      let f = read-whole R wide k bs (suc at) l e in
       record { full = f .full; some-bits = omega (arith, f .some-bits); inside = f .inside; rising = f .rising; few = omega (arith, f .few); roomy = f .roomy }
-  whole-lined at h w no-tag l e = absurd (let z : _≡_ {A = ℕ} 0 1 = cc in omega arith)
+  whole-lined at w no-tag l e = absurd (let z : _≡_ {A = ℕ} 0 1 = cc in omega arith)
 
-  pub line3-whole : (at : ℕ) → at ≤ length bs → (l : Line) → line3 S t bs R reference at t ≡ went l → Whole R bs at l
-  line3-whole at h l e = whole-lined at h (line3 S t bs R reference at t) (lined at t) l e
+  pub line3-whole : (at : ℕ) (l : Line) → line3 S t bs R reference at t ≡ went l → Whole R bs at l
+  line3-whole at l e = whole-lined at (line3 S t bs R reference at t) (lined at t) l e
 
   -- A damaged line: 1 to 4; it reaches no further than into the next EOL, and has no change or two bits to spare.
   pub record Damaged (at n : ℕ) (l : Line) : Type 0 where
