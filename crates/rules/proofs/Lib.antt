@@ -22,3 +22,4 @@ pub mod Rows
 pub mod Budget
 pub mod RoundTrip
 pub mod Pages
+pub mod Store

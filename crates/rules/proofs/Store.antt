@@ -1,0 +1,61 @@
+-- Laws of the lent arrays: rows that are kept one after the other lie behind each other in the store, and so do their ends. Assumes nothing.
+use mathlib.Core.Path.{_≡_, refl, sym, ap, ap₂, _∙_, subst}
+use mathlib.Core.List.{List, [], _∷_, _++_, append-assoc, append-nil}
+use Prim.Native.Nat.{ℕ, zero, suc, _+_, _-_, _≤_, _<_}
+use native.Mathlib.Omega.{arith}
+use native.Mathlib.Nat.{add-zero}
+use lib.ListN.{length, take, drop, set, length-append, length-drop, length-take}
+use lib.Seq.{take-at, drop-at, drop-drop, set-at, drop-cons, length-take-le, take-append-le, drop-append-le}
+use Rattle.rules.specs.Pages.{entries, overlaid, joined, endsFrom}
+
+-- ---- An array that begins anew
+
+pub length-overlaid : (xs array : List ℕ) → length xs ≤ length array → length (overlaid xs array) ≡ length array
+unfolding overlaid
+length-overlaid xs array h = length-append xs (drop (length xs) array) ∙ (let e = length-drop (length xs) array in omega arith)
+
+pub overlaid-nothing : (array : List ℕ) → overlaid [] array ≡ array
+unfolding overlaid
+overlaid-nothing array = refl
+
+-- the front of an array, and then an array that begins anew behind it
+pub overlaid-behind : (xs ys array : List ℕ) (n : ℕ) → length xs ≡ n → take n (overlaid xs array) ++ overlaid ys (drop n (overlaid xs array)) ≡ overlaid (xs ++ ys) array
+unfolding overlaid
+overlaid-behind xs ys array n e =
+    ap₂ (λ (a b : List ℕ). a ++ (ys ++ drop (length ys) b)) (take-at xs (drop (length xs) array) n e) (drop-at xs (drop (length xs) array) n e)
+    ∙ sym (append-assoc xs ys (drop (length ys) (drop (length xs) array)))
+    ∙ ap (λ (l : List ℕ). (xs ++ ys) ++ l) (drop-drop (length ys) (length xs) array ∙ ap (λ (k : ℕ). drop k array) (sym (length-append xs ys)))
+
+-- one entry more
+pub overlaid-one : (xs array : List ℕ) (x n : ℕ) → length xs ≡ n → n < length array → set (overlaid xs array) n x ≡ overlaid (xs ++ x ∷ []) array
+unfolding overlaid
+overlaid-one xs array x n e h =
+    ap (λ (l : List ℕ). set (xs ++ l) n x) (drop-cons array (length xs) 0 (omega arith))
+    ∙ set-at xs _ (drop (suc (length xs)) array) x n e
+    ∙ sym (append-assoc xs (x ∷ []) (drop (length (xs ++ x ∷ [])) array) ∙ ap (λ (k : ℕ). xs ++ x ∷ drop k array) (length-append xs (x ∷ []) ∙ (let q : length xs + 1 ≡ suc (length xs) = omega arith in q)))
+
+-- ---- Rows behind each other
+
+pub length-joined : (rows : List (List ℕ)) → length (joined rows) ≡ entries rows
+unfolding joined entries
+length-joined [] = refl
+length-joined (r ∷ rows) = length-append r (joined rows) ∙ ap (λ (n : ℕ). length r + n) (length-joined rows)
+
+pub joined-snoc : (rows : List (List ℕ)) (r : List ℕ) → joined (rows ++ r ∷ []) ≡ joined rows ++ r
+unfolding joined
+joined-snoc [] r = append-nil r
+joined-snoc (x ∷ rows) r = ap (λ (l : List ℕ). x ++ l) (joined-snoc rows r) ∙ sym (append-assoc x (joined rows) r)
+
+-- ---- Their ends
+
+pub length-ends : (base : ℕ) (rows : List (List ℕ)) → length (endsFrom base rows) ≡ length rows
+unfolding endsFrom
+length-ends base [] = refl
+length-ends base (r ∷ rows) = ap suc (length-ends (base + length r) rows)
+
+pub ends-snoc : (base : ℕ) (rows : List (List ℕ)) (r : List ℕ) → endsFrom base (rows ++ r ∷ []) ≡ endsFrom base rows ++ (base + entries rows + length r) ∷ []
+unfolding endsFrom entries
+ends-snoc base [] r = ap (λ (n : ℕ). n ∷ []) (let q : base + length r ≡ base + 0 + length r = omega arith in q)
+ends-snoc base (x ∷ rows) r =
+    ap (λ (l : List ℕ). (base + length x) ∷ l)
+    (ends-snoc (base + length x) rows r ∙ ap (λ (n : ℕ). endsFrom (base + length x) rows ++ n ∷ []) (let q : base + length x + entries rows + length r ≡ base + (length x + entries rows) + length r = omega arith in q))
