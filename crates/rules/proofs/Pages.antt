@@ -286,6 +286,22 @@ module _ (enc : Encoding) (S : Settings) (wide : 0 < S .columns) (bs : List Bool
           tests false q = full r next e (ltb-false _ _ q)
       cases (stop n p b loose) e = ends′ n p b loose e
 
+  -- the same, as equations
+  module _ (k : Kept) where
+    pub page-kept : (r : List ℕ) (next : State) → rowOf enc S bs (roomFor k) (k .state) ≡ row r next → length (k .rows) < places → step k ≡ more (record { state = next; rows = k .rows ++ r ∷ [] })
+    unfolding pageStep
+    page-kept r next e h = rw (e, lt-ltb _ _ h)
+
+    pub page-full : (r : List ℕ) (next : State) → rowOf enc S bs (roomFor k) (k .state) ≡ row r next → places ≤ length (k .rows)
+        → step k ≡ done (record { number = 5; place = 0; bytes = 0; rows = k .rows; loose = r })
+    unfolding pageStep
+    page-full r next e h = rw (e, le-ltb _ _ h)
+
+    pub page-stopped : (n p b : ℕ) (loose : List ℕ) → rowOf enc S bs (roomFor k) (k .state) ≡ stop n p b loose
+        → step k ≡ done (record { number = n; place = p; bytes = b; rows = k .rows; loose = loose })
+    unfolding pageStep
+    page-stopped n p b loose e = rw e
+
   -- each row but the first takes a bit
   pub page-falls : Falls step (rowsLeft bs)
   page-falls k j =

@@ -1,0 +1,4 @@
+-- The laws that the functions' proofs cite.
+pub mod Runs
+pub mod Modes
+pub mod Eols

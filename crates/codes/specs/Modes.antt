@@ -1,0 +1,28 @@
+-- What the answer of the mode reader means.
+use Prim.Native.Nat.{ℕ, suc}
+use lib.IntN.{ℤ, pos, negsuc}
+use Rattle.rules.specs.Runs.{Res, ok, fault}
+use Rattle.rules.specs.Modes as Rule
+use Rattle.rules.specs.Modes.{pass, horizontal, VR, VL, Moded, moded}
+use Rattle.error.specs.Error.{numberOf}
+use Rattle.codes.specs.declared.mode.Kind.{Kind}
+use Rattle.codes.specs.declared.mode.Kind.the-variants as Kind
+use Rattle.codes.specs.declared.mode.Mode.{Mode}
+use Rattle.codes.specs.declared.mode.Mode.the-variants.{Pass, Horizontal, Vertical, Bad}
+
+-- "A vertical offset is signed": to the right, or to the left, of b1
+abbrev pub offsetMode : ℤ → Rule.Mode
+offsetMode (pos k) = VR k
+offsetMode (negsuc k) = VL (suc k)
+
+abbrev pub kindOf : Kind → Rule.Mode
+kindOf Kind.Pass = pass
+kindOf Kind.Horizontal = horizontal
+kindOf (Kind.Vertical offset) = offsetMode offset
+
+-- a mode that was read at a bit, at which a fault lies too
+abbrev pub modeOf : ℕ → Mode → Res Moded
+modeOf at (Pass next) = ok (moded next pass)
+modeOf at (Horizontal next) = ok (moded next horizontal)
+modeOf at (Vertical offset next) = ok (moded next (offsetMode offset))
+modeOf at (Bad e) = fault (numberOf e) at

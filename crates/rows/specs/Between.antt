@@ -1,0 +1,43 @@
+-- The state between two rows and the answer of one row, and those of the rules that they stand for.
+use mathlib.Core.Path.{_≡_}
+use mathlib.Core.List.{List, _++_}
+use Prim.Native.Nat.{ℕ, _-_, _≤_, _<_}
+use lib.ListN.{length, take, drop}
+use Rattle.rules.specs.Rows as Rule
+use Rattle.rules.specs.Rows.{RowOut, row, stop}
+use Rattle.rules.specs.Pages.{overlaid}
+use Rattle.rules.proofs.Ascending.{Rising}
+use Rattle.tables.specs.Tables.{Lookups}
+use Rattle.bit_reader.specs.Loaded.{Loading}
+use Rattle.rows.specs.declared.DecodeSettings.{DecodeSettings}
+use Rattle.rows.specs.declared.State.{State}
+use Rattle.rows.specs.declared.Row.{Row}
+use Rattle.rows.specs.declared.Row.the-variants.{Kept, Stop}
+
+-- the state that a store of changes holds
+abbrev pub stateOf : List ℕ → State → Rule.State
+stateOf xs st = record { at = st .at; reference = take (st .base - st .start) (drop (st .start) xs); count = st .rows; eols = st .eols }
+
+abbrev pub rowFor : RowOut → Row
+rowFor (row changes st) = Kept (length changes) (st .at) (st .eols)
+rowFor (stop n place bytes loose) = Stop n place bytes (length loose)
+
+-- the changes that a row leaves in the store: its own, or the loose ones
+abbrev pub changesIn : RowOut → List ℕ
+changesIn (row changes st) = changes
+changesIn (stop n place bytes loose) = loose
+
+-- what a row asks: the tables, a bit inside the data, a width, and a reference in the store that rises below it
+pub record RowFrom (w b bytes xs : List ℕ) (settings : DecodeSettings) (st : State) : Type 0 where
+  pub lookups : Lookups w b
+  pub loading : Loading bytes (st .at)
+  pub wide : 0 < settings .columns
+  pub narrow : settings .columns < 4294967295
+  pub ordered : st .start ≤ st .base
+  pub held : st .base ≤ length xs
+  pub rising : Rising (settings .columns) 0 (stateOf xs st .reference)
+
+-- an answer and the store after it are those of an outcome for the row from `base` on
+pub record RowGives (base : ℕ) (xs : List ℕ) (w : RowOut) (r : Row) (ys : List ℕ) : Type 0 where
+  pub answer : r ≡ rowFor w
+  pub store : ys ≡ take base xs ++ overlaid (changesIn w) (drop base xs)
