@@ -1,0 +1,166 @@
+-- One mode code: what each mode makes of a line, as the code's answer says it. Assumes nothing.
+use mathlib.Core.Path.{_≡_, refl, sym, ap, _∙_, subst}
+use mathlib.Core.Bool.{Bool, true, false, cond, _&&_}
+use mathlib.Core.List.{List, [], _∷_}
+use Prim.Native.Nat.{ℕ, zero, suc, _-_, _*_, _≤_}
+use native.Mathlib.Omega.{arith}
+use lib.Dec.{leb}
+use lib.IntN.{ℤ, pos, negsuc}
+use lib.ListN.{length}
+use borrow.Author.Tests.{leb-true}
+use Rattle.rules.specs.Bits.{bitsOf}
+use Rattle.rules.specs.Codes.{Colour, black, opposite, differ}
+use Rattle.rules.specs.Runs.{Res, ok, fault}
+use Rattle.rules.specs.Modes as Modes
+use Rattle.rules.specs.Modes.{Moded, moded, VR, VL, readMode}
+use Rattle.rules.specs.Lines as Rule
+use Rattle.rules.specs.Lines.{Rules, Went, went, failed, next, turned, movedTo, push, pushTurn, pushRun, rightOfA0, fromB1, headOr, tail, b1, b2, apply, afterMode, code2D}
+use Rattle.rules.specs.Pages.{overlaid}
+use Rattle.rules.proofs.Bits.{length-bitsOf}
+use Rattle.rules.proofs.Modes.{ModeAt, mode-at, Coded, c-right, c-left}
+use Rattle.rules.proofs.Ascending.{Rising, none, some, head-low}
+use Rattle.tables.specs.Tables.{colourOf}
+use Rattle.bit_reader.specs.Loaded.{Loading}
+use Rattle.error.specs.Error.{numberOf}
+use Rattle.error.specs.declared.DecodeError.{DecodeError}
+use Rattle.codes.specs.Modes.{offsetMode, modeOf}
+use Rattle.codes.specs.declared.mode.Mode.{Mode}
+use Rattle.codes.specs.declared.mode.Mode.the-variants.{Pass, Horizontal, Vertical, Bad}
+use Rattle.context.specs.declared.line.Line.{Line}
+use Rattle.context.specs.declared.line.Push.{Push}
+use Rattle.context.specs.declared.line.Push.the-variants as Push
+use Rattle.context.specs.declared.offset.Move.{Move}
+use Rattle.context.specs.declared.offset.Move.the-variants.{By, Over}
+use Rattle.context.specs.declared.step.Step.{Step}
+use Rattle.context.specs.declared.step.Step.the-variants as Step
+use Rattle.context.specs.State.{lineAt, lineFor, turnedFor, rulesFor, Holds, changesOf, Comes, Pushes, pushFor}
+use Rattle.context.specs.Outcome.{placeFor, stepFor, Steps}
+use Rattle.context.specs.Offset.{Offset, moveBy}
+use Rattle.context.specs.Coding.{Coloured, afterPush}
+use Rattle.context.proofs.State.{line-for, overlaid-same}
+use Rattle.context.proofs.Carried.{turned-is, colour-small, push-on, push-stop, push-at, push-place}
+use Rattle.context.proofs.Signed.{held, offset-held}
+use Rattle.context.proofs.Moves.{afterMove, offset-moves}
+
+-- ---- What a push answers
+
+-- the outcome, with its turn
+abbrev turnedBy : Bool → Went → Went
+turnedBy true w = next w λ t. went (turned t)
+turnedBy false w = w
+
+pub comes-coloured : (width : ℕ) (xs : List ℕ) (w : Went) (r : Push) (ys : List ℕ) → Comes width xs w r ys → Coloured r
+comes-coloured width xs w (Push.On m) ys c =
+    let (t, e, same) = push-on width w m (c .answer) in
+    subst (λ (m : Line). m .colour ≤ 1) (sym same) (colour-small (t .colour))
+comes-coloured width xs w (Push.Stop n m) ys c = tt
+
+-- a count that is pushed on the line behind a code's bits
+pushed-steps : (R : Rules) (xs : List ℕ) (place count : ℕ) (s : Rule.Line) (turns : Bool) (r : Push) (ys : List ℕ)
+    → Comes (R .width) xs (push R place count s) r ys → Steps (R .width) xs (turnedBy turns (push R place count s)) (afterPush r place (s .at) turns) ys
+pushed-steps R xs place count s turns (Push.On m) ys c =
+    let (t, e, same) = push-on (R .width) (push R place count s) m (c .answer) in
+    let at-same = push-at R place count s t e in
+    by turns t e same (push-at R place count s t e) (c .store ∙ ap (λ (w : Went). overlaid (changesOf w) xs) e)
+  where
+    by : (turns : Bool) (t : Rule.Line) → push R place count s ≡ went t → m ≡ lineFor (R .width) t → t .at ≡ s .at → ys ≡ overlaid (t .changes) xs
+        → Steps (R .width) xs (turnedBy turns (push R place count s)) (Step.On (cond turns (turnedFor m) m) (s .at)) ys
+    by true t e same a store′ = rw e (record { answer = λ i. Step.On ((ap turnedFor same ∙ turned-is (R .width) t) i) (sym a i); store = store′ })
+    by false t e same a store′ = rw e (record { answer = λ i. Step.On (same i) (sym a i); store = store′ })
+pushed-steps R xs place count s turns (Push.Stop n m) ys c =
+    let (p, t, e, same) = push-stop (R .width) (push R place count s) n m (c .answer) in
+    by turns p t e same (push-place R place count s t n p e) (c .store ∙ ap (λ (w : Went). overlaid (changesOf w) xs) e)
+  where
+    by : (turns : Bool) (p : ℕ) (t : Rule.Line) → push R place count s ≡ failed n p t → m ≡ lineFor (R .width) t → p ≡ placeFor n place → ys ≡ overlaid (t .changes) xs
+        → Steps (R .width) xs (turnedBy turns (push R place count s)) (Step.Stop n (placeFor n place) m) ys
+    by true p t e same a store′ = rw e (record { answer = λ i. Step.Stop n (sym a i) (same i); store = store′ })
+    by false p t e same a store′ = rw e (record { answer = λ i. Step.Stop n (sym a i) (same i); store = store′ })
+
+-- ---- What a mode does
+
+module _ (bytes xs : List ℕ) (l : Line) (at : ℕ) (strict : Bool) where
+  abbrev bs : List Bool
+  bs = bitsOf bytes
+
+  abbrev R : Rules
+  R = rulesFor (l .width) strict xs
+
+  abbrev s : Rule.Line
+  s = lineAt at xs l
+
+  module _ (m : Mode) (q : modeOf at m ≡ readMode bs at) where
+    -- the bits of horizontal mode lie in the data
+    pub mode-inside : (next : ℕ) → m ≡ Horizontal next → next ≤ 8 * length bytes
+    mode-inside next e = let w = subst (ModeAt bs at) (sym q ∙ ap (modeOf at) e) (mode-at bs at) in omega (arith, w .fits, length-bitsOf bytes)
+
+    offset-small : (z : ℤ) (next : ℕ) → m ≡ Vertical z next → Offset z
+    offset-small z next e = let w = subst (ModeAt bs at) (sym q ∙ ap (modeOf at) e) (mode-at bs at) in small z (w .coded)
+      where
+        small : (z : ℤ) → Coded (offsetMode z) → Offset z
+        small (pos k) (c-right h) = h
+        small (negsuc k) (c-left h) = omega arith
+
+    pub mode-offset : (z : ℤ) (next : ℕ) → m ≡ Vertical z next → Offset (held z)
+    mode-offset z next e = let h = offset-small z next e in subst Offset (sym (offset-held z h)) h
+
+    module _ (reference : List ℕ) where
+      coded : (o : Res Moded) → modeOf at m ≡ o → code2D R reference bs s ≡ afterMode R reference bs s o
+      unfolding code2D
+      coded o e = ap (afterMode R reference bs s) (sym q ∙ e)
+
+      pub mode-bad : Holds xs l → (e : DecodeError) → m ≡ Bad e → Steps (l .width) xs (code2D R reference bs s) (Step.Stop (numberOf e) at l) xs
+      mode-bad h e f =
+          rw (coded (fault (numberOf e) at) (ap (modeOf at) f))
+          (record { answer = ap (Step.Stop (numberOf e) at) (sym (line-for xs l h at)); store = overlaid-same (l .changes) xs (h .held) })
+
+      pub mode-horizontal : (next′ : ℕ) → m ≡ Horizontal next′ → (r : Step) (ys : List ℕ)
+          → Steps (l .width) xs (next (pushRun R bs (lineAt next′ xs l)) (pushRun R bs)) r ys → Steps (l .width) xs (code2D R reference bs s) r ys
+      unfolding apply
+      mode-horizontal next′ f r ys t = rw (coded (ok (moded next′ Modes.horizontal)) (ap (modeOf at) f)) t
+
+      pub mode-pass : (next′ b : ℕ) → m ≡ Pass next′ → b ≡ b2 (l .width) reference (l .position) (colourOf (l .colour)) → (r : Push) (ys : List ℕ)
+          → Pushes xs l (b - l .position) strict r ys → Steps (l .width) xs (code2D R reference bs s) (afterPush r at next′ false) ys
+      unfolding apply
+      mode-pass next′ b f e r ys p =
+          rw (coded (ok (moded next′ Modes.pass)) (ap (modeOf at) f), ← e)
+          (pushed-steps R xs at (b - l .position) (lineAt next′ xs l) false r ys (p next′ at))
+
+      module _ (z : ℤ) (next′ b : ℕ) (f : m ≡ Vertical z next′) (e : b ≡ b1 (l .width) reference (l .position) (colourOf (l .colour))) where
+        moved : (v : Move) → v ≡ moveBy b (offsetMode (held z)) (l .position) → code2D R reference bs s ≡ afterMove R at (lineAt next′ xs l) v
+        moved v k = coded (ok (moded next′ (offsetMode z))) (ap (modeOf at) f) ∙ offset-moves R reference bs at (lineAt next′ xs l) z e (k ∙ ap (λ (y : ℤ). moveBy b (offsetMode y) (l .position)) (offset-held z (offset-small z next′ f)))
+
+        pub mode-over : Holds xs l → Over ≡ moveBy b (offsetMode (held z)) (l .position) → Steps (l .width) xs (code2D R reference bs s) (Step.Stop 3 at l) xs
+        mode-over h k =
+            rw (moved Over k)
+            (record { answer = ap (Step.Stop 3 at) (sym (line-for xs l h next′)); store = overlaid-same (l .changes) xs (h .held) })
+
+        pub mode-vertical : (count : ℕ) → By count ≡ moveBy b (offsetMode (held z)) (l .position) → (r : Push) (ys : List ℕ)
+            → Pushes xs l count strict r ys → Steps (l .width) xs (code2D R reference bs s) (afterPush r at next′ true) ys
+        mode-vertical count k r ys p = rw (moved (By count) k) (pushed-steps R xs at count (lineAt next′ xs l) true r ys (p next′ at))
+
+-- ---- b2
+
+-- what the search finds rises from its bound on
+found-rises : (colour : Colour) (least : ℕ) (turns : Colour) {width low : ℕ} {xs : List ℕ} → Rising width low xs → Rising width least (fromB1 colour least turns xs)
+unfolding fromB1
+found-rises colour least turns none = none
+found-rises colour least turns {width = width} (some {x = x} {xs = xs} h k r) = tests (leb least x) (leb-true least x) (differ turns colour) (found-rises colour least (opposite turns) r)
+  where
+    tests : (b : Bool) → (b ≡ true → least ≤ x) → (d : Bool) → Rising width least (fromB1 colour least (opposite turns) xs)
+        → Rising width least (elim (b && d) as (λ _. List ℕ) [ true ↦ x ∷ xs | false ↦ fromB1 colour least (opposite turns) xs ])
+    tests true p true later = some (p refl) k r
+    tests true p false later = later
+    tests false p d later = later
+
+-- b2 does not lie left of the position
+pub b2-ahead : (width : ℕ) (reference : List ℕ) (position : ℕ) (colour : Colour) → Rising width 0 reference → position ≤ width → position ≤ b2 width reference position colour
+unfolding rightOfA0
+b2-ahead width reference position colour r h = by (found-rises colour (rightOfA0 position) black r) (right position)
+  where
+    right : (p : ℕ) → p ≤ rightOfA0 p
+    right zero = omega arith
+    right (suc p) = omega arith
+
+    by : {least : ℕ} {ys : List ℕ} → Rising width least ys → position ≤ least → position ≤ headOr width (tail ys)
+    by none k = h
+    by (some a b later) k = let low = head-low b later in omega arith

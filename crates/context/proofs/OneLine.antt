@@ -1,0 +1,126 @@
+-- The tests and the reading of one line, each way out. Assumes nothing.
+use mathlib.Core.Path.{_≡_, refl, sym, ap, _∙_, subst}
+use mathlib.Core.Bool.{Bool, true, false}
+use mathlib.Core.List.{List, [], _∷_, _++_, append-nil}
+use Prim.Native.Nat.{ℕ, _+_, _*_, _≤_, _<_}
+use native.Mathlib.Omega.{arith}
+use lib.Dec.{eqb, leb, ltb}
+use lib.ListN.{length, drop}
+use borrow.Author.Tests.{eq-eqb, ne-eqb, lt-ltb, le-ltb, le-leb, lt-leb}
+use Rattle.rules.specs.Bits.{bitsOf}
+use Rattle.rules.specs.Lines as Rule
+use Rattle.rules.specs.Lines.{Rules, Went, went, failed, newLine, two, readLine}
+use Rattle.rules.specs.Pages as Page
+use Rattle.rules.specs.Pages.{mostBytes, ascends, refusal, oneLine, readOneLine, overlaid, joined, entries, changesAfter}
+use Rattle.rules.proofs.Bits.{length-bitsOf}
+use Rattle.rules.proofs.Lines.{data-bound, read-whole, read-broken}
+use Rattle.rules.proofs.Ascending.{Rising, ascends-rises, rises-length, rises-wider}
+use Rattle.tables.specs.Tables.{Lookups}
+use Rattle.error.specs.Error.{answerOf}
+use Rattle.error.specs.declared.Answer.{Answer}
+use Rattle.context.specs.declared.line.Line.{Line}
+use Rattle.context.specs.declared.step.Rules as Code
+use Rattle.context.specs.declared.step.Step.{Step}
+use Rattle.context.specs.declared.step.Step.the-variants.{On, Stop}
+use Rattle.context.specs.declared.two.Reference.the-variants.{Lent}
+use Rattle.context.specs.State.{rulesFor, changesOf, lineFor}
+use Rattle.context.specs.Outcome.{stepFor}
+use Rattle.context.specs.Coding.{Lines, Lined}
+use Rattle.context.specs.OneLine.{Counts, Answers, ReadOne}
+use Rattle.context.proofs.Carried.{overlaid-none, step-on, step-stop}
+
+-- ---- An answer
+
+pub answers-on : (l : Line) (at : ℕ) → Answers (On l at) (record { number = 0; rows = 1; entries = l .changes; loose = 0; bytes = at })
+unfolding entries
+answers-on l at width w e =
+    let (t, o, same, there) = step-on width w l at e in
+    let count : l .changes ≡ length (t .changes) + 0 = omega (arith, ap (λ (m : Line). m .changes) same) in
+    rw o (λ i. record { number = 0; rows = 1; entries = count i; loose = 0; bytes = there i })
+
+pub answers-stop : (n p : ℕ) (l : Line) → Answers (Stop n p l) (record { number = n; rows = 0; entries = 0; loose = l .changes; bytes = 0 })
+unfolding entries
+answers-stop n p l width w e =
+    let (t, o, same) = step-stop width w n p l e in
+    rw o (λ i. record { number = n; rows = 0; entries = 0; loose = same i .changes; bytes = 0 })
+
+-- what an outcome leaves in the array
+changes-after : (w : Went) (xs : List ℕ) → overlaid (changesOf w) xs ≡ changesAfter (oneLine w) xs
+unfolding changesAfter joined
+changes-after (went t) xs = ap (λ (l : List ℕ). overlaid l xs) (sym (append-nil (t .changes ++ []) ∙ append-nil (t .changes)))
+changes-after (failed n p t) xs = refl
+
+-- ---- The tests
+
+module _ (bytes : List ℕ) (at columns : ℕ) (strict : Bool) (reference xs : List ℕ) where
+  abbrev one : Page.Answer
+  one = readOneLine bytes at columns strict reference (length xs)
+
+  -- a refusal leaves everything as found
+  refused : (n : ℕ) → one ≡ refusal n → ReadOne bytes at columns strict reference xs (answerOf (refusal n)) xs
+  unfolding changesAfter joined
+  refused n e = record { answer = ap answerOf (sym e); store = overlaid-none xs ∙ ap (λ (a : Page.Answer). changesAfter a xs) (sym e) }
+
+  pub refused-none : columns ≡ 0 → ReadOne bytes at columns strict reference xs (answerOf (refusal 6)) xs
+  unfolding readOneLine
+  refused-none e = refused 6 (rw (readOneLine, eq-eqb columns 0 e))
+
+  module _ (some : columns ≡ 0 → ⊥) where
+    pub refused-wide : columns ≡ 4294967295 → ReadOne bytes at columns strict reference xs (answerOf (refusal 6)) xs
+    unfolding readOneLine
+    refused-wide e = refused 6 (rw (readOneLine, ne-eqb columns 0 some, eq-eqb columns 4294967295 e))
+
+    module _ (narrow : columns ≡ 4294967295 → ⊥) where
+      pub refused-long : mostBytes < length bytes → ReadOne bytes at columns strict reference xs (answerOf (refusal 7)) xs
+      unfolding readOneLine
+      refused-long h = refused 7 (rw (readOneLine, ne-eqb columns 0 some, ne-eqb columns 4294967295 narrow, lt-ltb mostBytes (length bytes) h))
+
+      module _ (short : length bytes ≤ mostBytes) where
+        pub refused-reference : ascends columns reference ≡ false → ReadOne bytes at columns strict reference xs (answerOf (refusal 8)) xs
+        unfolding readOneLine
+        refused-reference e = refused 8 (rw (readOneLine, ne-eqb columns 0 some, ne-eqb columns 4294967295 narrow, le-ltb mostBytes (length bytes) short, e))
+
+        module _ (rising : ascends columns reference ≡ true) where
+          pub past-end : 8 * length bytes < at → ReadOne bytes at columns strict reference xs (answerOf (refusal 2)) xs
+          unfolding readOneLine changesAfter joined entries
+          past-end h =
+              let e : one ≡ oneLine (failed 2 (length (bitsOf bytes)) (newLine at)) = rw (readOneLine, ne-eqb columns 0 some, ne-eqb columns 4294967295 narrow, le-ltb mostBytes (length bytes) short, rising, lt-leb at (length (bitsOf bytes)) (omega (arith, length-bitsOf bytes))) in
+              record { answer = ap answerOf (sym e); store = overlaid-none xs ∙ ap (λ (a : Page.Answer). changesAfter a xs) (sym e) }
+
+          module _ (inside : at ≤ 8 * length bytes) (small : columns < 4294967296) where
+            pub line-asked : (w b : List ℕ) → Lookups w b → Lines w b bytes reference xs 0 Lent columns at
+            line-asked w b k = record {
+              starts = record { lookups = k; loading = record { size = short; inside = inside }; narrow = omega arith };
+              placed = omega arith;
+              rising = ascends-rises columns 0 reference rising;
+            }
+
+            abbrev w : Went
+            w = readLine (rulesFor columns strict xs) (two reference) (bitsOf bytes) at
+
+            wide : 0 < columns
+            wide = omega arith
+
+            within : at ≤ length (bitsOf bytes)
+            within = omega (arith, length-bitsOf bytes)
+
+            read-is : one ≡ oneLine w
+            unfolding readOneLine
+            read-is = rw (readOneLine, ne-eqb columns 0 some, ne-eqb columns 4294967295 narrow, le-ltb mostBytes (length bytes) short, rising, le-leb at (length (bitsOf bytes)) within)
+
+            -- a line's changes ascend below its width, so there are no more of them than columns
+            counted : (o : Went) → w ≡ o → Counts (stepFor columns o)
+            counted (went t) e = let f = read-whole (rulesFor columns strict xs) wide (two reference) (bitsOf bytes) at t e in omega (arith, rises-length (omega arith) (f .rising))
+            counted (failed n p t) e =
+                let f = read-broken (rulesFor columns strict xs) wide (two reference) (bitsOf bytes) at (length (bitsOf bytes)) (data-bound (bitsOf bytes)) within n p t e in
+                omega (arith, rises-length (omega arith) (f .line .rising), f .line .fits)
+
+            module _ (step : Step) (ys : List ℕ) (l : Lined bytes reference xs 0 Lent columns at (record { strict = strict }) step ys) where
+              pub line-counts : Counts step
+              line-counts = subst Counts (sym (l .answer)) (counted w refl)
+
+              pub line-read : (r : Answer) → Answers step r → ReadOne bytes at columns strict reference xs r ys
+              line-read r a = record {
+                answer = a columns w (l .answer) ∙ ap answerOf (sym read-is);
+                store = l .store ∙ changes-after w xs ∙ ap (λ (a : Page.Answer). changesAfter a xs) (sym read-is);
+              }

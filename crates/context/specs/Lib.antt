@@ -1,0 +1,7 @@
+-- What the contracts cite.
+pub mod State
+pub mod Outcome
+pub mod Offset
+pub mod Reference
+pub mod Coding
+pub mod OneLine

@@ -1,0 +1,26 @@
+-- What the public reading of one line answers, and what it leaves in the lent array.
+use mathlib.Core.Path.{_≡_}
+use mathlib.Core.Bool.{Bool}
+use mathlib.Core.List.{List}
+use Prim.Native.Nat.{ℕ, _<_}
+use lib.ListN.{length}
+use Rattle.rules.specs.Lines.{Went}
+use Rattle.rules.specs.Pages.{oneLine, readOneLine, changesAfter}
+use Rattle.error.specs.Error.{answerOf}
+use Rattle.error.specs.declared.Answer.{Answer}
+use Rattle.context.specs.declared.step.Step.{Step}
+use Rattle.context.specs.declared.step.Step.the-variants.{On, Stop}
+use Rattle.context.specs.Outcome.{stepFor}
+
+-- the changes of a step are few enough to be counted
+abbrev pub Counts : Step → Type 0
+Counts (On l at) = l .changes < 4294967296
+Counts (Stop n place l) = l .changes < 4294967296
+
+-- a step that stands for an outcome is answered as the outcome is
+abbrev pub Answers : Step → Answer → Type 0
+Answers step r = (width : ℕ) (w : Went) → step ≡ stepFor width w → r ≡ answerOf (oneLine w)
+
+pub record ReadOne (bytes : List ℕ) (at columns : ℕ) (strict : Bool) (reference xs : List ℕ) (r : Answer) (ys : List ℕ) : Type 0 where
+  pub answer : r ≡ answerOf (readOneLine bytes at columns strict reference (length xs))
+  pub store : ys ≡ changesAfter (readOneLine bytes at columns strict reference (length xs)) xs

@@ -1,0 +1,8 @@
+// One line: its state, what codes do to it, and its reading to the width (context.rs).
+pub mod line;
+pub mod offset;
+pub mod read;
+pub mod reference;
+pub mod runs;
+pub mod step;
+pub mod two;

@@ -1,0 +1,93 @@
+// b1 and b2 on the changes of the reference line (`update_b` of context.rs), and the test that a row of changes ascends.
+ghost use mathlib.Core.Path.{_≡_};
+ghost use Prim.Native.Nat.{_≤_, _<_};
+ghost use lib.ListN.{drop};
+ghost use Rattle.rules.specs.Lines.{rightOfA0, headOr};
+ghost use Rattle.rules.specs.Pages.{ascends};
+ghost use Rattle.tables.specs.Tables.{colourOf};
+ghost use Rattle.context.specs.Reference.{Passed, Stopped, Searches, Finds, b1Place};
+
+// Where the next search goes on, and the two changes, each the width where it is absent.
+pub struct Found {
+    pub seen: usize,
+    pub b1: u32,
+    pub b2: u32,
+}
+
+// a0 lies before the line while the position is 0, so that only there b1 may be 0.
+pub fn right_of_a0(position: u32) -> u32
+    requires { ⌜ position < 4294967295 ⌝ }
+    ensures { λ r. ⌜ r ≡ rightOfA0 position ⌝ }
+{
+    if position == 0 {
+        return 0;
+    }
+    position + 1
+}
+
+// The place of the first change at or right of `least`. It goes on from `seen`, so a line's searches are linear together.
+fn scan(reference: &[u32], seen: usize, least: u32) -> usize
+    requires { ⌜ Passed least seen (now reference) ⌝ }
+    ensures { λ r. ⌜ Stopped least r (now (reference .entry)) ⌝ }
+{
+    let mut place = seen;
+    while place < reference.len() {
+        if least <= reference[place] {
+            return place;
+        }
+        place += 1;
+    }
+    place
+}
+
+// Changes at even places turn black: b1 under white, which is 0, has an even place, under black an odd one.
+fn b1_place(seen: usize, colour: u32) -> usize
+    requires { ⌜ (seen < 9223372036854775808) × (colour ≤ 1) ⌝ }
+    ensures { λ r. ⌜ r ≡ b1Place seen (colourOf colour) ⌝ }
+{
+    if seen % 2 == colour as usize {
+        return seen;
+    }
+    seen + 1
+}
+
+fn change_or(reference: &[u32], place: usize, width: u32) -> u32
+    ensures { λ r. ⌜ r ≡ headOr width (drop place (now (reference .entry))) ⌝ }
+{
+    if place < reference.len() {
+        return reference[place];
+    }
+    width
+}
+
+pub fn find(reference: &[u32], seen: usize, width: u32, position: u32, colour: u32) -> Found
+    requires { ⌜ Searches (now reference) seen width position colour ⌝ }
+    ensures { λ r. ⌜ Finds (now (reference .entry)) width position (colourOf colour) r ⌝ }
+{
+    let stop = scan(reference, seen, right_of_a0(position));
+    let place = b1_place(stop, colour);
+    Found {
+        seen: stop,
+        b1: change_or(reference, place, width),
+        b2: change_or(reference, place + 1, width),
+    }
+}
+
+pub fn ascends(row: &[u32], width: u32) -> bool
+    ensures { λ r. ⌜ r ≡ ascends width (now (row .entry)) ⌝ }
+{
+    let mut least: u32 = 0;
+    let mut place: usize = 0;
+    while place < row.len() {
+        let change = row[place];
+        if change < least {
+            return false;
+        }
+        if width <= change {
+            return false;
+        }
+        least = change + 1;
+        place += 1;
+    }
+    true
+}

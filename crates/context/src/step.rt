@@ -1,0 +1,21 @@
+// The rules of a reading, and what a code or a line answers.
+use crate::line::Line;
+ghost use mathlib.Core.Path.{_≡_};
+ghost use Rattle.context.specs.Outcome.{placeFor};
+
+pub struct Rules {
+    pub strict: bool,
+}
+
+// The line and the bit after; or the number of the fault, its bit, and the line so far, whose `changes` says how many it has recorded.
+pub enum Step {
+    On(Line, usize),
+    Stop(u32, usize, Line),
+}
+
+// A change for which there is no room is at no bit's fault.
+pub fn place_of(number: u32, place: usize) -> usize
+    ensures { λ r. ⌜ r ≡ placeFor number place ⌝ }
+{
+    if number == 4 { 0 } else { place }
+}

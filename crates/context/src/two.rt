@@ -1,0 +1,143 @@
+// A 2D line: what one mode code does, given b1 and b2, and codes to the width.
+use crate::line;
+use crate::line::Line;
+use crate::line::Push;
+use crate::offset;
+use crate::offset::Move;
+use crate::reference;
+use crate::reference::Found;
+use crate::runs;
+use crate::step;
+use crate::step::Rules;
+use crate::step::Step;
+use codes::mode;
+use codes::mode::Mode;
+ghost use mathlib.Core.Path.{_≡_};
+ghost use Rattle.tables.specs.Tables.{colourOf};
+ghost use Rattle.context.specs.Reference.{Finds};
+ghost use Rattle.context.specs.Coding.{Coloured, afterPush, Coding, Coded, referenceIn, Seeks, Lines, Lined};
+
+// What a push makes of the code that began at `at` and ends at `next`; vertical mode turns the colour, pass mode keeps it.
+fn after_push(push: Push, at: usize, next: usize, turns: bool) -> Step
+    requires { ⌜ Coloured push ⌝ }
+    ensures { λ r. ⌜ r ≡ afterPush push at next turns ⌝ }
+{
+    match push {
+        Push::Stop(number, line) => Step::Stop(number, step::place_of(number, at), line),
+        Push::On(line) => {
+            if turns {
+                return Step::On(line::turned(line), next);
+            }
+            Step::On(line, next)
+        }
+    }
+}
+
+pub fn code_2d<'a>(
+    white: &'a [u16; 8192],
+    black: &'a [u16; 8192],
+    src: &[u8],
+    changes: &mut [u32],
+    line: Line,
+    at: usize,
+    b1: u32,
+    b2: u32,
+    rules: Rules,
+) -> Step
+    requires { ⌜ Coding (now white) (now black) (now src) (now changes) line at b2 ⌝ }
+    ensures { λ r. ⌜ Coded (now (src .entry)) (now (changes .entry)) line at b1 b2 rules r (now (changes .exit)) ⌝ }
+{
+    match mode::read_mode(src, at) {
+        Mode::Bad(e) => Step::Stop(error::number(e), at, line),
+        Mode::Horizontal(next) => runs::runs(white, black, src, changes, true, line, next, rules),
+        Mode::Pass(next) => {
+            let pushed = line::push_pixels(changes, line, b2 - line.position, rules.strict);
+            after_push(pushed, at, next, false)
+        }
+        Mode::Vertical(offset, next) => match offset::moved(b1, offset, line.position) {
+            Move::Over => Step::Stop(3, at, line),
+            Move::By(count) => {
+                let pushed = line::push_pixels(changes, line, count, rules.strict);
+                after_push(pushed, at, next, true)
+            }
+        },
+    }
+}
+
+// Where the reference lies: in a slice of its own, or in the row's array, from a place to the row's first.
+pub enum Reference {
+    Lent,
+    Kept(usize),
+}
+
+fn find(
+    reference: &[u32],
+    changes: &[u32],
+    base: usize,
+    place: Reference,
+    seen: usize,
+    line: Line,
+) -> Found
+    requires { ⌜ Seeks place base (now reference) (now changes) seen line ⌝ }
+    ensures { λ r. ⌜ Finds (referenceIn place base (now (reference .entry)) (now (changes .entry))) (line .width) (line .position) (colourOf (line .colour)) r ⌝ }
+{
+    match place {
+        Reference::Lent => reference::find(reference, seen, line.width, line.position, line.colour),
+        Reference::Kept(start) => {
+            reference::find(
+                &changes[start..base],
+                seen,
+                line.width,
+                line.position,
+                line.colour,
+            )
+        }
+    }
+}
+
+// A line whose changes go into `changes` from `base` on. Each search goes on where the last one stopped.
+pub fn decode_2d_line<'a>(
+    white: &'a [u16; 8192],
+    black: &'a [u16; 8192],
+    src: &[u8],
+    reference: &[u32],
+    changes: &mut [u32],
+    base: usize,
+    place: Reference,
+    width: u32,
+    start: usize,
+    rules: Rules,
+) -> Step
+    requires { ⌜ Lines (now white) (now black) (now src) (now reference) (now changes) base place width start ⌝ }
+    ensures { λ r. ⌜ Lined (now (src .entry)) (now (reference .entry)) (now (changes .entry)) base place width start rules r (now (changes .exit)) ⌝ }
+{
+    let mut line = line::new_line(width);
+    let mut at = start;
+    let mut seen: usize = 0;
+    while line.position != line.width {
+        let found = find(reference, changes, base, place, seen, line);
+        let b1 = found.b1;
+        let b2 = found.b2;
+        match code_2d(
+            white,
+            black,
+            src,
+            &mut changes[base..],
+            line,
+            at,
+            b1,
+            b2,
+            rules,
+        ) {
+            Step::Stop(number, fault, stopped) => {
+                return Step::Stop(number, fault, stopped);
+            }
+            Step::On(next, after) => {
+                line = next;
+                at = after;
+                seen = found.seen;
+            }
+        }
+    }
+    Step::On(line, at)
+}
