@@ -7,6 +7,7 @@ use native.Mathlib.Nat.{add-zero}
 use lib.ListN.{length, take, drop, set, length-append, length-drop, length-take}
 use lib.Seq.{take-at, drop-at, drop-drop, set-at, drop-cons, length-take-le, take-append-le, drop-append-le}
 use Rattle.rules.specs.Pages.{entries, overlaid, joined, endsFrom}
+use Rattle.rules.specs.Write.{rowsIn}
 
 -- ---- An array that begins anew
 
@@ -59,3 +60,21 @@ ends-snoc base [] r = ap (λ (n : ℕ). n ∷ []) (let q : base + length r ≡ b
 ends-snoc base (x ∷ rows) r =
     ap (λ (l : List ℕ). (base + length x) ∷ l)
     (ends-snoc (base + length x) rows r ∙ ap (λ (n : ℕ). endsFrom (base + length x) rows ++ n ∷ []) (let q : base + length x + entries rows + length r ≡ base + (length x + entries rows) + length r = omega arith in q))
+
+-- ---- Rows that are read from a store by their ends
+
+-- the rows from a place on
+rows-from : (front : List ℕ) (rows : List (List ℕ)) (rest : List ℕ) (base : ℕ) → length front ≡ base → rowsIn base (front ++ (joined rows ++ rest)) (endsFrom base rows) ≡ rows
+unfolding rowsIn joined endsFrom
+rows-from front [] rest base e = refl
+rows-from front (r ∷ rows) rest base e =
+    ap₂ (λ (x : List ℕ) (l : List (List ℕ)). x ∷ l)
+    (ap₂ (λ (n : ℕ) (l : List ℕ). take n l) (let q : base + length r - base ≡ length r = omega arith in q) (drop-at front ((r ++ joined rows) ++ rest) base e)
+    ∙ ap (take (length r)) (append-assoc r (joined rows) rest)
+    ∙ take-at r (joined rows ++ rest) (length r) refl)
+    (ap (λ (l : List ℕ). rowsIn (base + length r) l (endsFrom (base + length r) rows)) (ap (λ (l : List ℕ). front ++ l) (append-assoc r (joined rows) rest) ∙ sym (append-assoc front r (joined rows ++ rest)))
+    ∙ rows-from (front ++ r) rows rest (base + length r) (length-append front r ∙ ap (λ (n : ℕ). n + length r) e))
+
+-- rows that were joined are read back by their ends, whatever lies behind them
+pub rows-back : (rows : List (List ℕ)) (rest : List ℕ) → rowsIn 0 (joined rows ++ rest) (endsFrom 0 rows) ≡ rows
+rows-back rows rest = rows-from [] rows rest 0 refl

@@ -1,0 +1,128 @@
+-- The end of a Group 4 page, test by test, and each way in which a row comes out. Assumes nothing.
+use mathlib.Core.Path.{_≡_, refl, sym, ap, _∙_, subst}
+use mathlib.Core.Bool.{Bool, true, false, cond, not, _&&_, _||_}
+use mathlib.Core.List.{List, [], _++_}
+use Prim.Native.Nat.{ℕ, suc, _+_, _-_, _*_, _≤_, _<_}
+use native.Mathlib.Omega.{arith}
+use lib.Dec.{eqb, leb}
+use lib.ListN.{length, take, drop, length-drop}
+use Rattle.rules.specs.Bits.{bitsOf}
+use Rattle.rules.specs.Eols as Eol
+use Rattle.rules.specs.Lines.{Went, went, failed, two, readLine}
+use Rattle.rules.specs.Rows as Rule
+use Rattle.rules.specs.Rows.{RowOut, rulesOf, alignedIf, finished}
+use Rattle.rules.specs.Group4.{eolsBefore, over, afterLine4, lineOrEnd, row4}
+use Rattle.rules.specs.Pages.{overlaid}
+use Rattle.rules.proofs.Bits.{length-bitsOf}
+use Rattle.rules.proofs.Eols.{eols-ahead}
+use Rattle.rules.proofs.Lines.{read-whole}
+use Rattle.bit_reader.specs.Cursor.{mostBits}
+use Rattle.bit_reader.specs.Loaded.{Loading}
+use Rattle.codes.specs.declared.eol.Eols.{Eols}
+use Rattle.codes.specs.Eols.{eolsOf}
+use Rattle.context.specs.declared.line.Line.{Line}
+use Rattle.context.specs.declared.step.Step.{Step}
+use Rattle.context.specs.declared.step.Step.the-variants as Step
+use Rattle.context.specs.declared.two.Reference.the-variants as Reference
+use Rattle.context.specs.State.{rulesFor, changesOf}
+use Rattle.context.specs.Coding.{Lines, Lined}
+use Rattle.context.proofs.Carried.{step-on, step-stop}
+use Rattle.rows.specs.declared.DecodeSettings.{DecodeSettings}
+use Rattle.rows.specs.declared.State.{State}
+use Rattle.rows.specs.declared.Row.{Row}
+use Rattle.rows.specs.declared.Row.the-variants.{Kept, Stop}
+use Rattle.rows.specs.Settings.{settingsOf}
+use Rattle.rows.specs.Between.{stateOf, rowFor, changesIn, RowFrom, RowGives}
+use Rattle.rows.proofs.Ended.{gives-stop}
+
+-- ---- The page's end
+
+module _ (S : Rule.Settings) (bs : List Bool) (st : Rule.State) (e : Eol.Eols) where
+  abbrev tests : Bool → Bool → Bool
+  tests a b = a || (b || leb (length bs) (e .at))
+
+  pub over-eofb : (S .endOfBlock && leb 2 (e .count)) ≡ true → true ≡ over S bs st e
+  over-eofb q = rw q
+
+  pub over-full : (not (eqb (S .rows) 0) && eqb (st .count) (S .rows)) ≡ true → true ≡ over S bs st e
+  over-full q = cases (S .endOfBlock && leb 2 (e .count)) (not (eqb (S .rows) 0) && eqb (st .count) (S .rows)) q
+    where
+      cases : (a b : Bool) → b ≡ true → true ≡ tests a b
+      cases true b q = refl
+      cases false b q = rw q
+
+  pub over-data : (S .endOfBlock && leb 2 (e .count)) ≡ false → (not (eqb (S .rows) 0) && eqb (st .count) (S .rows)) ≡ false → leb (length bs) (e .at) ≡ over S bs st e
+  over-data p q = rw (p, q)
+
+-- ---- A row
+
+module _ {w b bytes xs : List ℕ} {settings : DecodeSettings} {st : State} (h : RowFrom w b bytes xs settings st) (e : Eols) where
+  abbrev S : Rule.Settings
+  S = settingsOf settings
+
+  abbrev bs : List Bool
+  bs = bitsOf bytes
+
+  abbrev room : ℕ
+  room = length xs - st .base
+
+  abbrev outcome : RowOut
+  outcome = row4 S bs room (stateOf xs st)
+
+  module _ (q : eolsOf e ≡ eolsBefore S bs (stateOf [] st)) where
+    pub eols-loading : Loading bytes (e .at)
+    eols-loading =
+        let a = eols-ahead (cond (S .endOfBlock) 2 (length bs)) bs (st .at) .inside (omega (arith, h .loading .inside, length-bitsOf bytes)) in
+        record { size = h .loading .size; inside = omega (arith, ap (λ (e : Eol.Eols). e .at) q, length-bitsOf bytes) }
+
+    pub end-loading : e .at ≤ mostBits
+    end-loading = omega (arith, eols-loading .inside, eols-loading .size)
+
+    outcome-is : (o : Bool) → o ≡ over S bs (stateOf [] st) (eolsOf e) → outcome ≡ lineOrEnd S bs room (stateOf xs st) (eolsOf e) o
+    unfolding row4
+    outcome-is o p =
+        (λ i. lineOrEnd S bs room (stateOf xs st) (sym q i) (over S bs (stateOf xs st) (sym q i)))
+        ∙ ap (lineOrEnd S bs room (stateOf xs st) (eolsOf e)) (sym p)
+
+    pub row-ends : true ≡ over S bs (stateOf [] st) (eolsOf e) → (r : Row) → r ≡ rowFor (finished (e .at)) → RowGives (st .base) xs outcome r xs
+    row-ends p r a = subst (λ (o : RowOut). RowGives (st .base) xs o r xs) (sym (outcome-is true p)) (gives-stop (st .base) xs 0 0 _ r a)
+
+    module _ (lent : List ℕ) where
+      pub row-asks : Lines w b bytes lent xs (st .base) (Reference.Kept (st .start)) (settings .columns) (e .at)
+      row-asks = record { starts = record { lookups = h .lookups; loading = eols-loading; narrow = h .narrow }; placed = (h .ordered, h .held); rising = h .rising }
+
+      -- the page goes on, and the line was read
+      module _ (p : false ≡ over S bs (stateOf [] st) (eolsOf e)) (r : Step) (ys : List ℕ)
+          (l : Lined bytes lent xs (st .base) (Reference.Kept (st .start)) (settings .columns) (e .at) (record { strict = settings .strict }) r ys) where
+        abbrev lined : ℕ → Went
+        lined n = readLine (rulesOf S n) (two (stateOf xs st .reference)) bs (e .at)
+
+        room-is : length (drop (st .base) xs) ≡ room
+        room-is = length-drop (st .base) xs
+
+        -- where the line comes to an outcome, so does the row
+        gives : (o : Went) → lined (length (drop (st .base) xs)) ≡ o → (a : Row) → a ≡ rowFor (afterLine4 S bs (stateOf xs st) o) → changesIn (afterLine4 S bs (stateOf xs st) o) ≡ changesOf o → RowGives (st .base) xs outcome a ys
+        gives o t a k c =
+            subst (λ (u : RowOut). RowGives (st .base) xs u a ys)
+            (sym (outcome-is false p ∙ ap (afterLine4 S bs (stateOf xs st)) (ap lined (sym room-is) ∙ t)))
+            (record {
+              answer = k;
+              store = l .store ∙ ap (λ (o : Went). take (st .base) xs ++ overlaid (changesOf o) (drop (st .base) xs)) t ∙ ap (λ (c : List ℕ). take (st .base) xs ++ overlaid c (drop (st .base) xs)) (sym c);
+            })
+
+        pub line-inside : (m : Line) (at : ℕ) → r ≡ Step.On m at → at ≤ mostBits
+        line-inside m at a =
+            let (t, o, same, there) = step-on (settings .columns) (lined (length (drop (st .base) xs))) m at (sym a ∙ l .answer) in
+            let f = read-whole (rulesOf S (length (drop (st .base) xs))) (h .wide) (two (stateOf xs st .reference)) bs (e .at) t o in
+            omega (arith, there, f .inside, length-bitsOf bytes, h .loading .size)
+
+        pub row-kept : (m : Line) (at next : ℕ) → r ≡ Step.On m at → next ≡ alignedIf (settings .«rows_are_byte_aligned») at → RowGives (st .base) xs outcome (Kept (m .changes) next (st .eols)) ys
+        row-kept m at next a n =
+            let (t, o, same, there) = step-on (settings .columns) (lined (length (drop (st .base) xs))) m at (sym a ∙ l .answer) in
+            gives (went t) o (Kept (m .changes) next (st .eols))
+            (λ i. Kept (same i .changes) ((n ∙ ap (alignedIf (settings .«rows_are_byte_aligned»)) there) i) (st .eols)) refl
+
+        pub row-stops : (n place : ℕ) (m : Line) → r ≡ Step.Stop n place m → RowGives (st .base) xs outcome (Stop n place 0 (m .changes)) ys
+        row-stops n place m a =
+            let (t, o, same) = step-stop (settings .columns) (lined (length (drop (st .base) xs))) n place m (sym a ∙ l .answer) in
+            gives (failed n place t) o (Stop n place 0 (m .changes)) (λ i. Stop n place 0 (same i .changes)) refl

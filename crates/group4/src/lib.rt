@@ -1,0 +1,104 @@
+// One row of a Group 4 page: the EOLs before it, the page's end, and the line (group4.rs).
+use codes::eol;
+use codes::eol::Eols;
+use context::step::Rules;
+use context::step::Step;
+use context::two;
+use context::two::Reference;
+use rows::DecodeSettings;
+use rows::Row;
+use rows::State;
+ghost use mathlib.Core.Path.{_≡_};
+ghost use mathlib.Core.Bool.{not, _&&_};
+ghost use mathlib.Core.List.{[]};
+ghost use Prim.Native.Nat.{_-_};
+ghost use lib.Dec.{eqb, leb};
+ghost use lib.ListN.{length};
+ghost use Rattle.rules.specs.Bits.{bitsOf};
+ghost use Rattle.rules.specs.Group4.{eolsBefore, over, row4};
+ghost use Rattle.bit_reader.specs.Loaded.{Loading};
+ghost use Rattle.codes.specs.Eols.{eolsOf};
+ghost use Rattle.rows.specs.Settings.{settingsOf};
+ghost use Rattle.rows.specs.Between.{stateOf, RowFrom, RowGives};
+
+// EOLs are no part of Group 4, but PDF wants them accepted. Data behind an EOFB may begin like an EOL, so no more than its two are read.
+fn eols_before(src: &[u8], settings: DecodeSettings, state: State) -> Eols
+    requires { ⌜ Loading (now src) (state .at) ⌝ }
+    ensures { λ r. ⌜ eolsOf r ≡ eolsBefore (settingsOf settings) (bitsOf (now (src .entry))) (stateOf [] state) ⌝ }
+{
+    if settings.end_of_block {
+        return eol::read_eols(src, state.at, 2);
+    }
+    eol::read_all_eols(src, state.at)
+}
+
+// An EOFB is two EOLs.
+fn is_eofb(settings: DecodeSettings, count: usize) -> bool
+    ensures { λ r. ⌜ r ≡ settings .«end_of_block» && leb 2 count ⌝ }
+{
+    if settings.end_of_block {
+        return 2 <= count;
+    }
+    false
+}
+
+// 0 rows in the settings stand for any number.
+fn is_full(settings: DecodeSettings, rows: usize) -> bool
+    ensures { λ r. ⌜ r ≡ not (eqb (settings .rows) 0) && eqb rows (settings .rows) ⌝ }
+{
+    if settings.rows == 0 {
+        return false;
+    }
+    rows == settings.rows as usize
+}
+
+fn is_over(src: &[u8], settings: DecodeSettings, state: State, eols: Eols) -> bool
+    ensures { λ r. ⌜ r ≡ over (settingsOf settings) (bitsOf (now (src .entry))) (stateOf [] state) (eolsOf eols) ⌝ }
+{
+    if is_eofb(settings, eols.count) {
+        return true;
+    }
+    if is_full(settings, state.rows) {
+        return true;
+    }
+    bit_reader::at_end(src.len(), eols.at)
+}
+
+pub fn row<'a>(
+    white: &'a [u16; 8192],
+    black: &'a [u16; 8192],
+    src: &[u8],
+    settings: DecodeSettings,
+    changes: &mut [u32],
+    state: State,
+) -> Row
+    requires { ⌜ RowFrom (now white) (now black) (now src) (now changes) settings state ⌝ }
+    ensures { λ r. ⌜ RowGives (state .base) (now (changes .entry)) (row4 (settingsOf settings) (bitsOf (now (src .entry))) (length (now (changes .entry)) - state .base) (stateOf (now (changes .entry)) state)) r (now (changes .exit)) ⌝ }
+{
+    let eols = eols_before(src, settings, state);
+    if is_over(src, settings, state, eols) {
+        return rows::end_at(eols.at);
+    }
+    // The reference lies in the store, so none is lent.
+    let lent: [u32; 0] = [];
+    match two::decode_2d_line(
+        white,
+        black,
+        src,
+        &lent,
+        changes,
+        state.base,
+        Reference::Kept(state.start),
+        settings.columns,
+        eols.at,
+        Rules {
+            strict: settings.strict,
+        },
+    ) {
+        Step::On(line, at) => {
+            let next = rows::align_if(settings.rows_are_byte_aligned, at);
+            Row::Kept(line.changes, next, state.eols)
+        }
+        Step::Stop(number, place, line) => Row::Stop(number, place, 0, line.changes),
+    }
+}

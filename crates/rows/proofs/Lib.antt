@@ -1,0 +1,2 @@
+-- A law that the crates of the encodings cite.
+pub mod Ended
