@@ -2,11 +2,11 @@
 -- Assumes nothing.
 use mathlib.Core.Path.{_≡_, refl, sym, ap, _∙_, subst}
 use mathlib.Core.Bool.{Bool, true, false, cond}
-use mathlib.Core.List.{List, [], _∷_, _++_}
+use mathlib.Core.List.{List, [], _++_}
 use Prim.Native.Nat.{ℕ, _+_, _-_, _≤_, _<_}
 use native.Mathlib.Omega.{arith}
 use lib.Dec.{eqb, leb}
-use lib.ListN.{length, take, drop, length-append, length-drop}
+use lib.ListN.{length, drop, length-append, length-drop}
 use lib.Seq.{drop-append-add, drop-drop}
 use Rattle.rules.specs.Codes.{Colour, white, black}
 use Rattle.rules.specs.Lines as Rule
@@ -17,7 +17,7 @@ use Rattle.context.specs.declared.line.Push.{Push}
 use Rattle.context.specs.declared.line.Push.the-variants as Push
 use Rattle.context.specs.declared.step.Step.{Step}
 use Rattle.context.specs.declared.step.Step.the-variants as Step
-use Rattle.context.specs.State.{lineAt, lineFor, turnedFor, rulesFor, Holds, lineIn, changesOf, pushFor, Comes, Pushes, colourNumber, flagNumber}
+use Rattle.context.specs.State.{lineAt, lineFor, turnedFor, rulesFor, Holds, changesOf, pushFor, Comes, Pushes, colourNumber, flagNumber}
 use Rattle.context.specs.Outcome.{placeFor, stepFor, Steps}
 use Rattle.context.proofs.State.{line-for, line-at, overlaid-same}
 use Rattle.context.proofs.Grows.{Grows, GrowsTo, push-grows, behind}
@@ -113,7 +113,7 @@ turned-is width s = λ i. record { width = width; position = s .position; change
     opposite-is white = refl
     opposite-is black = refl
 
-module _ (width : ℕ) (xs : List ℕ) (s : Rule.Line) (l : Line) (ys : List ℕ) (k : Carries width xs s l ys) where
+module _ {width : ℕ} {xs : List ℕ} {s : Rule.Line} {l : Line} {ys : List ℕ} (k : Carries width xs s l ys) where
   pub carries-length : length ys ≡ length xs
   carries-length = ap length (k .store) ∙ overlaid-length (s .changes) xs (k .roomy)
 
@@ -146,13 +146,13 @@ module _ (width : ℕ) (xs : List ℕ) (s : Rule.Line) (l : Line) (ys : List ℕ
     abbrev R : Rules
     R = rulesFor width strict xs
 
-    store-on : (w : Went) (zs : List ℕ) → GrowsTo (R) s w → zs ≡ overlaid (changesOf w) ys → zs ≡ overlaid (changesOf w) xs
+    store-on : (w : Went) (zs : List ℕ) → GrowsTo R s w → zs ≡ overlaid (changesOf w) ys → zs ≡ overlaid (changesOf w) xs
     store-on w zs g e = e ∙ ap (overlaid (changesOf w)) (k .store) ∙ overlaid-over (changesOf w) (s .changes) xs (g .longer)
 
-    pub carries-push : (count : ℕ) (r : Push) (zs : List ℕ) → Pushes ys l count strict r zs → (at place : ℕ) → Comes width xs (push (R) place count (movedTo at s)) r zs
+    pub carries-push : (count : ℕ) (r : Push) (zs : List ℕ) → Pushes ys l count strict r zs → (at place : ℕ) → Comes width xs (push R place count (movedTo at s)) r zs
     carries-push count r zs p at place =
         let u = p at place in
-        let w = push (R) place count (movedTo at s) in
+        let w = push R place count (movedTo at s) in
         let e : push (rulesFor (l .width) strict ys) place count (lineAt at ys l) ≡ w = λ i. push (rules-same strict i) place count (carries-line at i) in
         record {
           answer = u .answer ∙ (λ i. pushFor (carries-width i) (e i));
@@ -160,10 +160,10 @@ module _ (width : ℕ) (xs : List ℕ) (s : Rule.Line) (l : Line) (ys : List ℕ
         }
 
     -- the same of a step, whatever it does
-    pub carries-step : (does : Rules → Rule.Line → Went) → GrowsTo (R) s (does (R) s)
-        → (r : Step) (zs : List ℕ) → Steps (l .width) ys (does (rulesFor (l .width) strict ys) (lineAt (s .at) ys l)) r zs → Steps width xs (does (R) s) r zs
+    pub carries-step : (does : Rules → Rule.Line → Went) → GrowsTo R s (does R s)
+        → (r : Step) (zs : List ℕ) → Steps (l .width) ys (does (rulesFor (l .width) strict ys) (lineAt (s .at) ys l)) r zs → Steps width xs (does R s) r zs
     carries-step does g r zs u =
-        let w = does (R) s in
+        let w = does R s in
         let e : does (rulesFor (l .width) strict ys) (lineAt (s .at) ys l) ≡ w = λ i. does (rules-same strict i) (carries-line (s .at) i) in
         record {
           answer = u .answer ∙ (λ i. stepFor (carries-width i) (e i));
@@ -171,7 +171,7 @@ module _ (width : ℕ) (xs : List ℕ) (s : Rule.Line) (l : Line) (ys : List ℕ
         }
 
     -- a line that goes on is carried on
-    pub carries-on : (t : Rule.Line) (m : Line) (zs : List ℕ) → m ≡ lineFor width t → Grows (R) s t → zs ≡ overlaid (t .changes) xs → Carries width xs t m zs
+    pub carries-on : (t : Rule.Line) (m : Line) (zs : List ℕ) → m ≡ lineFor width t → Grows R s t → zs ≡ overlaid (t .changes) xs → Carries width xs t m zs
     carries-on t m zs e g q = record { line-is = e; store = q; fits = g .fits (k .fits); roomy = g .roomy (k .roomy); narrow = k .narrow }
 
 -- ---- Which outcome an answer stands for

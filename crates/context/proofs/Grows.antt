@@ -11,7 +11,7 @@ use borrow.Author.Tests.{leb-true}
 use Rattle.rules.specs.Codes.{differ}
 use Rattle.rules.specs.Runs.{Res, ok, fault, Sum, readRun}
 use Rattle.rules.specs.Modes.{Mode, pass, horizontal, VR, VL, Moded, readMode}
-use Rattle.rules.specs.Lines.{Rules, Line, line, turned, movedTo, withCut, Went, went, failed, next, lastColour, recorded, add, push, pushTurn, afterRun, pushRun, b1, b2, vertical, apply, afterMode, code2D}
+use Rattle.rules.specs.Lines.{Rules, Line, line, turned, movedTo, withCut, Went, went, failed, next, lastColour, recorded, add, push, pushTurn, afterRun, pushRun, b1, vertical, apply, afterMode, code2D}
 use Rattle.context.specs.State.{lineIn}
 
 pub record Grows (R : Rules) (s t : Line) : Type 0 where

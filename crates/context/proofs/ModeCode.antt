@@ -1,7 +1,7 @@
 -- One mode code: what each mode makes of a line, as the code's answer says it. Assumes nothing.
 use mathlib.Core.Path.{_≡_, refl, sym, ap, _∙_, subst}
 use mathlib.Core.Bool.{Bool, true, false, cond, _&&_}
-use mathlib.Core.List.{List, [], _∷_}
+use mathlib.Core.List.{List, _∷_}
 use Prim.Native.Nat.{ℕ, zero, suc, _-_, _*_, _≤_}
 use native.Mathlib.Omega.{arith}
 use lib.Dec.{leb}
@@ -12,15 +12,14 @@ use Rattle.rules.specs.Bits.{bitsOf}
 use Rattle.rules.specs.Codes.{Colour, black, opposite, differ}
 use Rattle.rules.specs.Runs.{Res, ok, fault}
 use Rattle.rules.specs.Modes as Modes
-use Rattle.rules.specs.Modes.{Moded, moded, VR, VL, readMode}
+use Rattle.rules.specs.Modes.{Moded, moded, readMode}
 use Rattle.rules.specs.Lines as Rule
-use Rattle.rules.specs.Lines.{Rules, Went, went, failed, next, turned, movedTo, push, pushTurn, pushRun, rightOfA0, fromB1, headOr, tail, b1, b2, apply, afterMode, code2D}
+use Rattle.rules.specs.Lines.{Rules, Went, went, failed, next, turned, push, pushRun, rightOfA0, fromB1, headOr, tail, b1, b2, apply, afterMode, code2D}
 use Rattle.rules.specs.Pages.{overlaid}
 use Rattle.rules.proofs.Bits.{length-bitsOf}
 use Rattle.rules.proofs.Modes.{ModeAt, mode-at, Coded, c-right, c-left}
 use Rattle.rules.proofs.Ascending.{Rising, none, some, head-low}
 use Rattle.tables.specs.Tables.{colourOf}
-use Rattle.bit_reader.specs.Loaded.{Loading}
 use Rattle.error.specs.Error.{numberOf}
 use Rattle.error.specs.declared.DecodeError.{DecodeError}
 use Rattle.codes.specs.Modes.{offsetMode, modeOf}
@@ -33,8 +32,8 @@ use Rattle.context.specs.declared.offset.Move.{Move}
 use Rattle.context.specs.declared.offset.Move.the-variants.{By, Over}
 use Rattle.context.specs.declared.step.Step.{Step}
 use Rattle.context.specs.declared.step.Step.the-variants as Step
-use Rattle.context.specs.State.{lineAt, lineFor, turnedFor, rulesFor, Holds, changesOf, Comes, Pushes, pushFor}
-use Rattle.context.specs.Outcome.{placeFor, stepFor, Steps}
+use Rattle.context.specs.State.{lineAt, lineFor, turnedFor, rulesFor, Holds, changesOf, Comes, Pushes}
+use Rattle.context.specs.Outcome.{placeFor, Steps}
 use Rattle.context.specs.Offset.{Offset, moveBy}
 use Rattle.context.specs.Coding.{Coloured, afterPush}
 use Rattle.context.proofs.State.{line-for, overlaid-same}

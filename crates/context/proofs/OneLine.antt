@@ -1,29 +1,26 @@
 -- The tests and the reading of one line, each way out. Assumes nothing.
 use mathlib.Core.Path.{_≡_, refl, sym, ap, _∙_, subst}
 use mathlib.Core.Bool.{Bool, true, false}
-use mathlib.Core.List.{List, [], _∷_, _++_, append-nil}
+use mathlib.Core.List.{List, [], _++_, append-nil}
 use Prim.Native.Nat.{ℕ, _+_, _*_, _≤_, _<_}
 use native.Mathlib.Omega.{arith}
-use lib.Dec.{eqb, leb, ltb}
-use lib.ListN.{length, drop}
+use lib.ListN.{length}
 use borrow.Author.Tests.{eq-eqb, ne-eqb, lt-ltb, le-ltb, le-leb, lt-leb}
 use Rattle.rules.specs.Bits.{bitsOf}
-use Rattle.rules.specs.Lines as Rule
-use Rattle.rules.specs.Lines.{Rules, Went, went, failed, newLine, two, readLine}
+use Rattle.rules.specs.Lines.{Went, went, failed, newLine, two, readLine}
 use Rattle.rules.specs.Pages as Page
 use Rattle.rules.specs.Pages.{mostBytes, ascends, refusal, oneLine, readOneLine, overlaid, joined, entries, changesAfter}
 use Rattle.rules.proofs.Bits.{length-bitsOf}
 use Rattle.rules.proofs.Lines.{data-bound, read-whole, read-broken}
-use Rattle.rules.proofs.Ascending.{Rising, ascends-rises, rises-length, rises-wider}
+use Rattle.rules.proofs.Ascending.{ascends-rises, rises-length}
 use Rattle.tables.specs.Tables.{Lookups}
 use Rattle.error.specs.Error.{answerOf}
 use Rattle.error.specs.declared.Answer.{Answer}
 use Rattle.context.specs.declared.line.Line.{Line}
-use Rattle.context.specs.declared.step.Rules as Code
 use Rattle.context.specs.declared.step.Step.{Step}
 use Rattle.context.specs.declared.step.Step.the-variants.{On, Stop}
 use Rattle.context.specs.declared.two.Reference.the-variants.{Lent}
-use Rattle.context.specs.State.{rulesFor, changesOf, lineFor}
+use Rattle.context.specs.State.{rulesFor, changesOf}
 use Rattle.context.specs.Outcome.{stepFor}
 use Rattle.context.specs.Coding.{Lines, Lined}
 use Rattle.context.specs.OneLine.{Counts, Answers, ReadOne}
@@ -52,12 +49,9 @@ changes-after (failed n p t) xs = refl
 
 -- ---- The tests
 
-module _ (bytes : List ℕ) (at columns : ℕ) (strict : Bool) (reference xs : List ℕ) where
-  abbrev one : Page.Answer
-  one = readOneLine bytes at columns strict reference (length xs)
-
+module _ {bytes : List ℕ} {at columns : ℕ} {strict : Bool} {reference xs : List ℕ} where
   -- a refusal leaves everything as found
-  refused : (n : ℕ) → one ≡ refusal n → ReadOne bytes at columns strict reference xs (answerOf (refusal n)) xs
+  refused : (n : ℕ) → readOneLine bytes at columns strict reference (length xs) ≡ refusal n → ReadOne bytes at columns strict reference xs (answerOf (refusal n)) xs
   unfolding changesAfter joined
   refused n e = record { answer = ap answerOf (sym e); store = overlaid-none xs ∙ ap (λ (a : Page.Answer). changesAfter a xs) (sym e) }
 
@@ -80,47 +74,79 @@ module _ (bytes : List ℕ) (at columns : ℕ) (strict : Bool) (reference xs : L
         unfolding readOneLine
         refused-reference e = refused 8 (rw (readOneLine, ne-eqb columns 0 some, ne-eqb columns 4294967295 narrow, le-ltb mostBytes (length bytes) short, e))
 
-        module _ (rising : ascends columns reference ≡ true) where
-          pub past-end : 8 * length bytes < at → ReadOne bytes at columns strict reference xs (answerOf (refusal 2)) xs
-          unfolding readOneLine changesAfter joined entries
-          past-end h =
-              let e : one ≡ oneLine (failed 2 (length (bitsOf bytes)) (newLine at)) = rw (readOneLine, ne-eqb columns 0 some, ne-eqb columns 4294967295 narrow, le-ltb mostBytes (length bytes) short, rising, lt-leb at (length (bitsOf bytes)) (omega (arith, length-bitsOf bytes))) in
-              record { answer = ap answerOf (sym e); store = overlaid-none xs ∙ ap (λ (a : Page.Answer). changesAfter a xs) (sym e) }
+        -- a start past the data is answered as a refusal is
+        pub past-end : ascends columns reference ≡ true → 8 * length bytes < at → ReadOne bytes at columns strict reference xs (answerOf (refusal 2)) xs
+        unfolding readOneLine changesAfter joined entries
+        past-end rising h =
+            let e : readOneLine bytes at columns strict reference (length xs) ≡ oneLine (failed 2 (length (bitsOf bytes)) (newLine at)) =
+            rw (
+              readOneLine,
+              ne-eqb columns 0 some,
+              ne-eqb columns 4294967295 narrow,
+              le-ltb mostBytes (length bytes) short,
+              rising,
+              lt-leb at (length (bitsOf bytes)) (omega (arith, length-bitsOf bytes)),
+            ) in
+            record { answer = ap answerOf (sym e); store = overlaid-none xs ∙ ap (λ (a : Page.Answer). changesAfter a xs) (sym e) }
 
-          module _ (inside : at ≤ 8 * length bytes) (small : columns < 4294967296) where
-            pub line-asked : (w b : List ℕ) → Lookups w b → Lines w b bytes reference xs 0 Lent columns at
-            line-asked w b k = record {
-              starts = record { lookups = k; loading = record { size = short; inside = inside }; narrow = omega arith };
-              placed = omega arith;
-              rising = ascends-rises columns 0 reference rising;
-            }
+-- ---- The line
 
-            abbrev w : Went
-            w = readLine (rulesFor columns strict xs) (two reference) (bitsOf bytes) at
+-- all tests are passed
+pub record Open (bytes : List ℕ) (at columns : ℕ) (reference : List ℕ) : Type 0 where
+  pub some : columns ≡ 0 → ⊥
+  pub narrow : columns ≡ 4294967295 → ⊥
+  pub small : columns < 4294967296
+  pub short : length bytes ≤ mostBytes
+  pub rising : ascends columns reference ≡ true
+  pub inside : at ≤ 8 * length bytes
 
-            wide : 0 < columns
-            wide = omega arith
+module _ {bytes : List ℕ} {at columns : ℕ} {reference : List ℕ} (o : Open bytes at columns reference) where
+  pub line-asked : {w b xs : List ℕ} → Lookups w b → Lines w b bytes reference xs 0 Lent columns at
+  line-asked k =
+      let n = o .narrow in
+      record {
+        starts = record { lookups = k; loading = record { size = o .short; inside = o .inside }; narrow = omega (arith, o .small) };
+        placed = omega arith;
+        rising = ascends-rises columns 0 reference (o .rising);
+      }
 
-            within : at ≤ length (bitsOf bytes)
-            within = omega (arith, length-bitsOf bytes)
+  wide : 0 < columns
+  wide = let n = o .some in omega arith
 
-            read-is : one ≡ oneLine w
-            unfolding readOneLine
-            read-is = rw (readOneLine, ne-eqb columns 0 some, ne-eqb columns 4294967295 narrow, le-ltb mostBytes (length bytes) short, rising, le-leb at (length (bitsOf bytes)) within)
+  within : at ≤ length (bitsOf bytes)
+  within = omega (arith, o .inside, length-bitsOf bytes)
 
-            -- a line's changes ascend below its width, so there are no more of them than columns
-            counted : (o : Went) → w ≡ o → Counts (stepFor columns o)
-            counted (went t) e = let f = read-whole (rulesFor columns strict xs) wide (two reference) (bitsOf bytes) at t e in omega (arith, rises-length (omega arith) (f .rising))
-            counted (failed n p t) e =
-                let f = read-broken (rulesFor columns strict xs) wide (two reference) (bitsOf bytes) at (length (bitsOf bytes)) (data-bound (bitsOf bytes)) within n p t e in
-                omega (arith, rises-length (omega arith) (f .line .rising), f .line .fits)
+  module _ (strict : Bool) (xs : List ℕ) where
+    abbrev w : Went
+    w = readLine (rulesFor columns strict xs) (two reference) (bitsOf bytes) at
 
-            module _ (step : Step) (ys : List ℕ) (l : Lined bytes reference xs 0 Lent columns at (record { strict = strict }) step ys) where
-              pub line-counts : Counts step
-              line-counts = subst Counts (sym (l .answer)) (counted w refl)
+    read-is : readOneLine bytes at columns strict reference (length xs) ≡ oneLine w
+    unfolding readOneLine
+    read-is =
+        rw (
+          readOneLine,
+          ne-eqb columns 0 (o .some),
+          ne-eqb columns 4294967295 (o .narrow),
+          le-ltb mostBytes (length bytes) (o .short),
+          o .rising,
+          le-leb at (length (bitsOf bytes)) within,
+        )
 
-              pub line-read : (r : Answer) → Answers step r → ReadOne bytes at columns strict reference xs r ys
-              line-read r a = record {
-                answer = a columns w (l .answer) ∙ ap answerOf (sym read-is);
-                store = l .store ∙ changes-after w xs ∙ ap (λ (a : Page.Answer). changesAfter a xs) (sym read-is);
-              }
+    -- a line's changes ascend below its width, so there are no more of them than columns
+    counted : (v : Went) → w ≡ v → Counts (stepFor columns v)
+    counted (went t) e =
+        let f = read-whole (rulesFor columns strict xs) wide (two reference) (bitsOf bytes) at t e in
+        omega (arith, o .small, rises-length (omega arith) (f .rising))
+    counted (failed n p t) e =
+        let f = read-broken (rulesFor columns strict xs) wide (two reference) (bitsOf bytes) at (length (bitsOf bytes)) (data-bound (bitsOf bytes)) within n p t e in
+        omega (arith, o .small, rises-length (omega arith) (f .line .rising), f .line .fits)
+
+    module _ {step : Step} {ys : List ℕ} (l : Lined bytes reference xs 0 Lent columns at (record { strict = strict }) step ys) where
+      pub line-counts : Counts step
+      line-counts = subst Counts (sym (l .answer)) (counted w refl)
+
+      pub line-read : {r : Answer} → Answers step r → ReadOne bytes at columns strict reference xs r ys
+      line-read a = record {
+        answer = a columns w (l .answer) ∙ ap answerOf (sym read-is);
+        store = l .store ∙ changes-after w xs ∙ ap (λ (a : Page.Answer). changesAfter a xs) (sym read-is);
+      }

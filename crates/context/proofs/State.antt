@@ -1,16 +1,16 @@
 -- Laws of the line's state: the line of the code and that of the rules are one, and what a push does to the slice. Assumes nothing.
-use mathlib.Core.Path.{_≡_, refl, sym, ap, _∙_, subst}
+use mathlib.Core.Path.{_≡_, refl, sym, ap, _∙_}
 use mathlib.Core.Bool.{Bool, true, false, cond, not}
 use mathlib.Core.List.{List, [], _∷_, _++_, append-assoc}
-use Prim.Native.Nat.{ℕ, zero, suc, _+_, _-_, _*_, _/_, _%_, _≤_, _<_}
+use Prim.Native.Nat.{ℕ, zero, suc, _+_, _-_, _%_, _≤_, _<_}
 use native.Mathlib.Omega.{arith}
 use lib.Dec.{eqb, leb}
-use lib.ListN.{length, take, drop, set, length-append, take-append-drop, length-take}
+use lib.ListN.{length, take, drop, set, length-append, take-append-drop}
 use lib.Seq.{length-take-le, set-split, take-at}
-use borrow.Author.Tests.{eq-eqb, ne-eqb, le-leb, lt-leb, leb-true, leb-false, eqb-true, eqb-false}
+use borrow.Author.Tests.{eq-eqb, ne-eqb, le-leb, lt-leb, leb-true, leb-false}
 use Rattle.rules.specs.Codes.{Colour, white, black, opposite, differ}
 use Rattle.rules.specs.Lines as Rule
-use Rattle.rules.specs.Lines.{Rules, Went, went, failed, lastColour, recorded, add, push, withCut, movedTo}
+use Rattle.rules.specs.Lines.{Rules, lastColour, recorded, add, push}
 use Rattle.rules.specs.Pages.{overlaid}
 use Rattle.tables.specs.Tables.{colourOf}
 use Rattle.context.specs.declared.line.Line.{Line}
@@ -18,7 +18,7 @@ use Rattle.context.specs.declared.line.Push.{Push}
 use Rattle.context.specs.declared.line.Push.the-variants.{On, Stop}
 use Rattle.context.specs.declared.line.Count.{Count}
 use Rattle.context.specs.declared.line.Count.the-variants.{Whole, Cut, TooMany}
-use Rattle.context.specs.State.{flagOf, colourNumber, flagNumber, lineAt, lineFor, movedFor, cutFor, rulesFor, Holds, fitted, turns, changesOf, pushFor, Adds, Comes, Added, Pushes}
+use Rattle.context.specs.State.{flagOf, colourNumber, flagNumber, lineAt, lineFor, movedFor, cutFor, rulesFor, Holds, fitted, turns, Adds, Comes, Added, Pushes}
 
 -- ---- The two lines are one
 

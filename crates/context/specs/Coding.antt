@@ -1,8 +1,8 @@
 -- What one mode code does to a line, given b1 and b2, and what a 2D line does to the array that holds it.
 use mathlib.Core.Path.{_≡_}
-use mathlib.Core.Bool.{Bool, true, false, cond}
+use mathlib.Core.Bool.{Bool, cond}
 use mathlib.Core.List.{List, _++_}
-use Prim.Native.Nat.{ℕ, _-_, _≤_, _<_}
+use Prim.Native.Nat.{ℕ, _-_, _≤_}
 use lib.ListN.{length, take, drop}
 use Rattle.rules.specs.Bits.{bitsOf}
 use Rattle.rules.specs.Lines as Rule

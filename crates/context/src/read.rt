@@ -5,7 +5,6 @@ use crate::step::Step;
 use crate::two;
 use crate::two::Reference;
 use error::Answer;
-ghost use Prim.Native.Nat.{_≤_};
 ghost use Rattle.context.specs.OneLine.{Counts, Answers, ReadOne};
 
 // The bit after the line stands in place of bytes, and a line read whole counts as one row.

@@ -116,8 +116,6 @@ pub fn decode_2d_line<'a>(
     let mut seen: usize = 0;
     while line.position != line.width {
         let found = find(reference, changes, base, place, seen, line);
-        let b1 = found.b1;
-        let b2 = found.b2;
         match code_2d(
             white,
             black,
@@ -125,8 +123,8 @@ pub fn decode_2d_line<'a>(
             &mut changes[base..],
             line,
             at,
-            b1,
-            b2,
+            found.b1,
+            found.b2,
             rules,
         ) {
             Step::Stop(number, fault, stopped) => {

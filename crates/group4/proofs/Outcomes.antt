@@ -2,7 +2,7 @@
 use mathlib.Core.Path.{_≡_, refl, sym, ap, _∙_, subst}
 use mathlib.Core.Bool.{Bool, true, false, cond, not, _&&_, _||_}
 use mathlib.Core.List.{List, [], _++_}
-use Prim.Native.Nat.{ℕ, suc, _+_, _-_, _*_, _≤_, _<_}
+use Prim.Native.Nat.{ℕ, _-_, _≤_}
 use native.Mathlib.Omega.{arith}
 use lib.Dec.{eqb, leb}
 use lib.ListN.{length, take, drop, length-drop}
@@ -24,7 +24,7 @@ use Rattle.context.specs.declared.line.Line.{Line}
 use Rattle.context.specs.declared.step.Step.{Step}
 use Rattle.context.specs.declared.step.Step.the-variants as Step
 use Rattle.context.specs.declared.two.Reference.the-variants as Reference
-use Rattle.context.specs.State.{rulesFor, changesOf}
+use Rattle.context.specs.State.{changesOf}
 use Rattle.context.specs.Coding.{Lines, Lined}
 use Rattle.context.proofs.Carried.{step-on, step-stop}
 use Rattle.rows.specs.declared.DecodeSettings.{DecodeSettings}

@@ -3,7 +3,7 @@ use mathlib.Core.Path.{_≡_, sym, ap, _∙_}
 use mathlib.Core.List.{List, [], _++_}
 use Prim.Native.Nat.{ℕ}
 use lib.ListN.{take, drop, take-append-drop}
-use Rattle.rules.specs.Rows.{RowOut, stop, finished}
+use Rattle.rules.specs.Rows.{stop}
 use Rattle.rules.specs.Pages.{overlaid}
 use Rattle.rules.proofs.Store.{overlaid-nothing}
 use Rattle.rows.specs.declared.Row.{Row}

@@ -56,7 +56,7 @@ decode-reads S wide narrow bytes small store places =
     rw (ne-eqb (S .columns) 4294967295 (λ q. omega arith), le-ltb mostBytes (length bytes) small, ne-eqb (S .columns) 0 (λ q. omega arith), decode)
 
 -- the bits of the first bytes, and those of the others
-bits-split : (m : ℕ) (bytes : List ℕ) → bitsOf (take m bytes) ++ bitsOf (drop m bytes) ≡ bitsOf bytes
+pub bits-split : (m : ℕ) (bytes : List ℕ) → bitsOf (take m bytes) ++ bitsOf (drop m bytes) ≡ bitsOf bytes
 unfolding bitsOf
 bits-split zero bytes = refl
 bits-split (suc m) [] = refl

@@ -41,7 +41,9 @@ enum-known-line : tie.Need-enum-known-line
 enum-known-line c = search needs
 
 -- the page goes on
-goes-on : (c : tie.After-decode-2d-line) → false ≡ over (settingsOf (c .before .before .before .before .before .before .before .before .args .settings)) (bitsOf (now (c .before .before .before .before .before .before .before .before .args .src))) (stateOf [] (c .before .before .before .before .before .before .before .before .args .state)) (eolsOf (c .before .before .before .before .before .eols-before .result))
+goes-on : (c : tie.After-decode-2d-line) →
+    let a = c .before .before .before .before .before .before .before .before .args in
+    false ≡ over (settingsOf (a .settings)) (bitsOf (now (a .src))) (stateOf [] (a .state)) (eolsOf (c .before .before .before .before .before .eols-before .result))
 goes-on c = sym (c .before .before .before .if1 .left) ∙ c .before .before .before .before .is-over .ensures
 
 align-if-requires : tie.Need-align-if-requires

@@ -1,73 +1,56 @@
-use Rattle.context.proofs.State.{adds-whole, adds-cut, push-whole, push-cut, push-refused}
+-- Each kind of count by its law.
+use mathlib.Core.Path.{sym, _∙_}
 use Prim.Native.Nat.{_-_}
 use denote.Ref.{now}
-use mathlib.Core.Path.{sym, _∙_}
 use borrow.Author.Needs.{needs}
+use Rattle.context.proofs.State.{adds-whole, adds-cut, push-whole, push-cut, push-refused}
 use Rattle.context.proofs.line.push_pixels.Statement.{statement}
 use Rattle.context.proofs.line.push_pixels.Tie as tie
-use Rattle.context.proofs.line.push_pixels.Reads as reads
-use Rattle.context.proofs.line.push_pixels.Lts as lts
-use Rattle.context.proofs.line.add.Reads as add-reads
-use Rattle.context.proofs.line.fit.Reads as fit-reads
-use Rattle.context.proofs.line.with_cut.Reads as with-cut-reads
 
--- src/line.rt:124:15
 sub-fit : tie.Need-sub-fit
 sub-fit c = search needs
 
--- src/line.rt:124:11
 fit-requires : tie.Need-fit-requires
 fit-requires c κs = search needs
 
--- src/line.rt:125:22
 enum-known-n : tie.Need-enum-known-n
 enum-known-n c = search needs
 
--- src/line.rt:125:28
 add-requires : tie.Need-add-requires
 add-requires c κs =
     let a = c .before .before .before .before .before .before .before .args in
     adds-whole (now (a .changes)) (a .line) (c .before .before .before .before .before .before .before .pre) (a .count) (a .strict) _ (sym (c .before .before .n .given .1) ∙ c .before .before .before .before .fit .ensures)
 
--- src/line.rt:126:20
 enum-known-n-2 : tie.Need-enum-known-n-2
 enum-known-n-2 c = search needs
 
--- src/line.rt:126:39
 with-cut-requires : tie.Need-with-cut-requires
 with-cut-requires c κs = search needs
 
--- src/line.rt:126:26
 add-requires-2 : tie.Need-add-requires-2
 add-requires-2 c κs =
     let a = c .before .before .before .before .before .before .before .before .args in
     rw (c .with-cut .ensures) (adds-cut (now (a .changes)) (a .line) (c .before .before .before .before .before .before .before .before .pre) (a .count) (a .strict) _ (sym (c .before .before .before .n2 .given .1) ∙ c .before .before .before .before .before .fit .ensures))
 
--- src/line.rt:127:27
 enum-told : tie.Need-enum-told
 enum-told c = search needs
 
--- src/line.rt:120:1
 same-length : tie.Need-same-length
 same-length c = search needs
 
--- src/line.rt:120:1
 returns : tie.Need-returns
 returns c =
     let a = c .before .before .before .before .before .before .before .before .before .before .args in
     push-whole (now (a .changes)) (a .line) (c .before .before .before .before .before .before .before .before .before .before .pre) (a .count) (a .strict) _ (sym (c .before .before .before .before .before .n .given .1) ∙ c .before .before .before .before .before .before .before .fit .ensures) _ _ (c .before .before .add .ensures)
 
--- src/line.rt:120:1
 same-length-2 : tie.Need-same-length-2
 same-length-2 c = search needs
 
--- src/line.rt:120:1
 returns-2 : tie.Need-returns-2
 returns-2 c =
     let a = c .before .before .before .before .before .before .before .before .before .before .before .args in
     push-cut (now (a .changes)) (a .line) (c .before .before .before .before .before .before .before .before .before .before .before .pre) (a .count) (a .strict) _ (sym (c .before .before .before .before .before .before .n2 .given .1) ∙ c .before .before .before .before .before .before .before .before .fit .ensures) _ _ (rw (c .before .before .before .with-cut .ensures) at (c .before .before .add2 .ensures))
 
--- src/line.rt:120:1
 returns-3 : tie.Need-returns-3
 returns-3 c =
     let a = c .before .before .before .before .before .args in

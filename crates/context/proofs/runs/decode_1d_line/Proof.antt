@@ -1,18 +1,13 @@
-use Rattle.rules.specs.Lines.{readLine}
+-- The runs of a new line are the line.
 use native.Mathlib.Omega.{arith}
 use borrow.Author.Needs.{needs}
+use Rattle.rules.specs.Lines.{readLine}
 use Rattle.context.proofs.runs.decode_1d_line.Statement.{statement}
 use Rattle.context.proofs.runs.decode_1d_line.Tie as tie
-use Rattle.context.proofs.runs.decode_1d_line.Reads as reads
-use Rattle.context.proofs.runs.decode_1d_line.Lts as lts
-use Rattle.context.proofs.line.new_line.Reads as new-line-reads
-use Rattle.context.proofs.runs.runs.Reads as runs-reads
 
--- src/runs.rt:75:45
 new-line-requires : tie.Need-new-line-requires
 new-line-requires c κs = search needs
 
--- src/runs.rt:75:5
 runs-requires : tie.Need-runs-requires
 runs-requires c κs =
     rw (c .new-line .ensures) (record {
@@ -21,11 +16,9 @@ runs-requires c κs =
       holds = record { narrow = c .before .before .before .before .pre .narrow; fits = omega arith; held = omega arith; coloured = omega arith; flagged = omega arith };
     })
 
--- src/runs.rt:63:1
 same-length : tie.Need-same-length
 same-length c = search needs
 
--- src/runs.rt:63:1
 returns : tie.Need-returns
 unfolding readLine
 returns c = rw (c .before .before .before .new-line .ensures) at (c .before .before .runs .ensures)

@@ -1,14 +1,11 @@
+-- By the number that was tested.
 use borrow.Author.Tests.{eq-eqb, ne-eqb}
 use Rattle.context.proofs.step.place_of.Statement.{statement}
 use Rattle.context.proofs.step.place_of.Tie as tie
-use Rattle.context.proofs.step.place_of.Reads as reads
-use Rattle.context.proofs.step.place_of.Lts as lts
 
--- src/step.rt:18:1
 returns : tie.Need-returns
 returns c = simp (eq-eqb _ _ (c .if1 .taken))
 
--- src/step.rt:18:1
 returns-2 : tie.Need-returns-2
 returns-2 c = simp (ne-eqb _ _ (c .if1 .left))
 

@@ -1,35 +1,23 @@
-use Rattle.context.proofs.ModeCode.{comes-coloured, mode-inside, mode-offset, mode-bad, mode-horizontal, mode-pass, mode-over, mode-vertical}
+-- Each mode by its law.
+use mathlib.Core.Path.{sym, _∙_}
 use denote.Ref.{now}
-use mathlib.Core.Path.{sym, ap, _∙_}
 use borrow.Author.Needs.{needs}
+use Rattle.context.proofs.ModeCode.{comes-coloured, mode-inside, mode-offset, mode-bad, mode-horizontal, mode-pass, mode-over, mode-vertical}
 use Rattle.context.proofs.two.code_2d.Statement.{statement}
 use Rattle.context.proofs.two.code_2d.Tie as tie
-use Rattle.context.proofs.two.code_2d.Reads as reads
-use Rattle.context.proofs.two.code_2d.Lts as lts
-use Rattle.codes.proofs.mode.read_mode.Reads as read-mode-reads
-use Rattle.context.proofs.line.push_pixels.Reads as push-pixels-reads
-use Rattle.context.proofs.offset.moved.Reads as moved-reads
-use Rattle.context.proofs.runs.runs.Reads as runs-reads
-use Rattle.context.proofs.two.after_push.Reads as after-push-reads
-use Rattle.error.proofs.number.Reads as number-reads
 
--- src/two.rt:49:11
 read-mode-requires : tie.Need-read-mode-requires
 read-mode-requires c κs = c .before .before .pre .reads .loading
 
--- src/two.rt:50:19
 enum-known-e : tie.Need-enum-known-e
 enum-known-e c = search needs
 
--- src/two.rt:50:36
 number-requires : tie.Need-number-requires
 number-requires c κs = search needs
 
--- src/two.rt:51:26
 enum-known-next : tie.Need-enum-known-next
 enum-known-next c = search needs
 
--- src/two.rt:51:35
 runs-requires : tie.Need-runs-requires
 runs-requires c κs =
     let a = c .before .before .before .before .before .before .before .args in
@@ -40,85 +28,67 @@ runs-requires c κs =
       holds = h .holds;
     }
 
--- src/two.rt:52:20
 enum-known-next-2 : tie.Need-enum-known-next-2
 enum-known-next-2 c = search needs
 
--- src/two.rt:53:59
 sub-push-pixels : tie.Need-sub-push-pixels
 sub-push-pixels c = search needs
 
--- src/two.rt:53:17
 push-pixels-requires : tie.Need-push-pixels-requires
 push-pixels-requires c κs = search needs
 
--- src/two.rt:54:13
 after-push-requires : tie.Need-after-push-requires
 after-push-requires c κs = comes-coloured _ _ _ _ _ (c .before .before .push-pixels .ensures 0 0)
 
--- src/two.rt:56:24
 enum-known-offset : tie.Need-enum-known-offset
 enum-known-offset c = search needs
 
--- src/two.rt:56:47
 moved-requires : tie.Need-moved-requires
 moved-requires c κs =
     let a = c .before .before .before .before .before .before .args in
     mode-offset (now (a .src)) (now (a .changes)) (a .line) (a .at) (a .rules .strict) (c .before .before .before .read-mode .result) (c .before .before .before .read-mode .ensures) _ _ (c .before .offset .given .1)
 
--- src/two.rt:57:27
 enum-told : tie.Need-enum-told
 enum-told c = search needs
 
--- src/two.rt:58:22
 enum-known-count : tie.Need-enum-known-count
 enum-known-count c = search needs
 
--- src/two.rt:59:21
 push-pixels-requires-2 : tie.Need-push-pixels-requires-2
 push-pixels-requires-2 c κs = search needs
 
--- src/two.rt:60:17
 after-push-requires-2 : tie.Need-after-push-requires-2
 after-push-requires-2 c κs = comes-coloured _ _ _ _ _ (c .before .before .push-pixels2 .ensures 0 0)
 
--- src/two.rt:35:1
 returns : tie.Need-returns
 returns c = λ reference e1 e2.
     let a = c .before .before .before .before .before .before .before .args in
     rw (c .number .ensures) (mode-bad (now (a .src)) (now (a .changes)) (a .line) (a .at) (a .rules .strict) _ (c .before .before .before .before .read-mode .ensures) reference (c .before .before .before .before .before .before .before .pre .reads .holds) _ (c .before .before .e .given .1))
 
--- src/two.rt:35:1
 same-length : tie.Need-same-length
 same-length c = search needs
 
--- src/two.rt:35:1
 returns-2 : tie.Need-returns-2
 returns-2 c = λ reference e1 e2.
     let a = c .before .before .before .before .before .before .before .before .before .before .args in
     mode-horizontal (now (a .src)) (now (a .changes)) (a .line) (a .at) (a .rules .strict) _ (c .before .before .before .before .before .before .before .read-mode .ensures) reference _ (c .before .before .before .before .before .next .given .1) _ _ (c .before .before .runs .ensures)
 
--- src/two.rt:35:1
 same-length-2 : tie.Need-same-length-2
 same-length-2 c = search needs
 
--- src/two.rt:35:1
 returns-3 : tie.Need-returns-3
 returns-3 c = λ reference e1 e2.
     let a = c .before .before .before .before .before .before .before .before .before .before .before .before .args in
     rw (c .after-push .ensures) (mode-pass (now (a .src)) (now (a .changes)) (a .line) (a .at) (a .rules .strict) _ (c .before .before .before .before .before .before .before .before .before .read-mode .ensures) reference _ _ (c .before .before .before .before .before .before .before .next2 .given .1) e2 _ _ (c .before .before .before .push-pixels .ensures))
 
--- src/two.rt:35:1
 returns-4 : tie.Need-returns-4
 returns-4 c = λ reference e1 e2.
     let a = c .before .before .before .before .before .before .before .before .before .args in
     mode-over (now (a .src)) (now (a .changes)) (a .line) (a .at) (a .rules .strict) _ (c .before .before .before .before .before .before .read-mode .ensures) reference _ _ _ (c .before .before .before .before .offset .given .1) e1 (c .before .before .before .before .before .before .before .before .before .pre .reads .holds) (sym (c .enum-told .given .1) ∙ c .before .before .moved .ensures)
 
--- src/two.rt:35:1
 same-length-3 : tie.Need-same-length-3
 same-length-3 c = search needs
 
--- src/two.rt:35:1
 returns-5 : tie.Need-returns-5
 returns-5 c = λ reference e1 e2.
     let a = c .before .before .before .before .before .before .before .before .before .before .before .before .before .before .before .args in

@@ -1,49 +1,36 @@
+-- Where the reference lies decides which slice is lent.
 use native.Mathlib.Omega.{arith}
-use mathlib.Core.Path.{sym}
 use borrow.Author.Needs.{needs}
 use Rattle.context.proofs.two.find.Statement.{statement}
 use Rattle.context.proofs.two.find.Tie as tie
-use Rattle.context.proofs.two.find.Reads as reads
-use Rattle.context.proofs.two.find.Lts as lts
-use Rattle.context.proofs.reference.find.Reads as find-reads
 
--- src/two.rt:84:28
 enum-told : tie.Need-enum-told
 enum-told c = search needs
 
--- src/two.rt:84:28
 find-requires : tie.Need-find-requires
 find-requires c κs = rw (c .enum-told .given .1) at (c .before .before .before .before .pre .searches)
 
--- src/two.rt:85:25
 enum-known-place : tie.Need-enum-known-place
 enum-known-place c = search needs
 
--- src/two.rt:86:29
 mul-find : tie.Need-mul-find
 mul-find c = omega (arith, rw (c .before .place .given .1) at (c .before .before .before .before .before .pre .placed), c .before .before .before .before .before .good .1 .0 .1)
 
--- src/two.rt:86:29
 sub-find : tie.Need-sub-find
 sub-find c = omega (arith, rw (c .before .place .given .1) at (c .before .before .before .before .before .pre .placed))
 
--- src/two.rt:86:29
 part-find-start : tie.Need-part-find-start
 part-find-start c = omega (arith, rw (c .before .place .given .1) at (c .before .before .before .before .before .pre .placed))
 
--- src/two.rt:86:29
 part-find-end : tie.Need-part-find-end
 part-find-end c = omega (arith, rw (c .before .place .given .1) at (c .before .before .before .before .before .pre .placed))
 
--- src/two.rt:86:13
 find-requires-2 : tie.Need-find-requires-2
 find-requires-2 c κs = rw (c .before .before .place .given .1) at (c .before .before .before .before .before .before .pre .searches)
 
--- src/two.rt:72:1
 returns : tie.Need-returns
 returns c = rw (c .before .enum-told .given .1) (c .find .ensures)
 
--- src/two.rt:72:1
 returns-2 : tie.Need-returns-2
 returns-2 c = rw (c .before .before .before .place .given .1) (c .find2 .ensures)
 

@@ -1,0 +1,45 @@
+-- What comes before a row of a page, under settings and in bytes, and the answers that stand for it.
+use mathlib.Core.Path.{_≡_}
+use mathlib.Core.Bool.{Bool, not, _&&_}
+use mathlib.Core.List.{List, []}
+use Prim.Native.Nat.{ℕ}
+use Rattle.rules.specs.Bits.{bitsOf}
+use Rattle.rules.specs.Rows.{Settings, alignedIf}
+use Rattle.rules.specs.Group3 as Rule
+use Rattle.rules.specs.Group3.{Tagging, line-at, end-at, no-eol-at, judged, missing, lacking, before}
+use Rattle.codes.specs.declared.eol.Eols.{Eols}
+use Rattle.codes.specs.Eols.{eolsOf}
+use Rattle.rows.specs.declared.DecodeSettings.{DecodeSettings}
+use Rattle.rows.specs.declared.State.{State}
+use Rattle.rows.specs.Settings.{settingsOf}
+use Rattle.rows.specs.Between.{stateOf}
+use Rattle.group3.specs.declared.eob.Before.{Before}
+use Rattle.group3.specs.declared.eob.Before.the-variants.{Line, End, NoEol}
+use Rattle.group3.specs.Tags.{taggingOf}
+
+-- "Without EOLs, we need to align first"
+abbrev pub alignedFrom : DecodeSettings → State → ℕ
+alignedFrom s st = alignedIf (s .«rows_are_byte_aligned» && not (st .eols)) (st .at)
+
+-- an EOL is lacking after the row, whatever the settings
+abbrev pub Lacks : List ℕ → Bool → State → Eols → Bool → Type 0
+Lacks bytes rowsDone st e r = (S : Settings) (t : Tagging) → r ≡ lacking S t (bitsOf bytes) rowsDone (stateOf [] st) (eolsOf e)
+
+module _ (s : DecodeSettings) (bytes : List ℕ) where
+  abbrev pub BeforeIn : Type 0
+  BeforeIn = Rule.Before (settingsOf s) (taggingOf (s .encoding)) (bitsOf bytes)
+
+  abbrev pub beforeOf : Before → BeforeIn
+  beforeOf (Line at expected) = line-at at expected
+  beforeOf (End at) = end-at at
+  beforeOf (NoEol at) = no-eol-at at
+
+  abbrev pub judgedIn : Bool → Bool → Eols → BeforeIn
+  judgedIn rowsDone expected e = judged (settingsOf s) (taggingOf (s .encoding)) (bitsOf bytes) rowsDone expected (eolsOf e)
+
+  abbrev pub missingIn : ℕ → BeforeIn
+  missingIn at = missing (settingsOf s) (taggingOf (s .encoding)) (bitsOf bytes) (s .strict) at
+
+  -- before the first row, or another; the reference has no part in it
+  abbrev pub beforeIn : State → Bool → BeforeIn
+  beforeIn st first = before (settingsOf s) (taggingOf (s .encoding)) (bitsOf bytes) (stateOf [] st) first

@@ -1,0 +1,5 @@
+-- What the contracts cite.
+pub mod Tags
+pub mod Ahead
+pub mod Lined
+pub mod Recovery

@@ -1,0 +1,44 @@
+-- The line of a row: where it begins, and what reading it asks and gives.
+use mathlib.Core.Path.{_≡_}
+use mathlib.Core.Bool.{Bool}
+use mathlib.Core.List.{List}
+use Prim.Native.Nat.{ℕ, _-_}
+use lib.ListN.{length}
+use Rattle.rules.specs.Bits.{bitsOf}
+use Rattle.rules.specs.Lines.{Rules, newLine, Went, failed, one, two, readLine}
+use Rattle.rules.specs.Rows.{Settings, rulesOf}
+use Rattle.rules.specs.Group3.{Tagging, line3}
+use Rattle.bit_reader.specs.Loaded.{Loading}
+use Rattle.rows.specs.declared.DecodeSettings.{DecodeSettings}
+use Rattle.rows.specs.declared.State.{State}
+use Rattle.rows.specs.Settings.{settingsOf}
+use Rattle.rows.specs.Between.{stateOf, RowFrom}
+use Rattle.group3.specs.declared.line.Kind.{Kind}
+use Rattle.group3.specs.declared.line.Kind.the-variants.{One, Two, NoTag}
+use Rattle.group3.specs.Tags.{taggingOf}
+
+-- the line of a kind, of which the tag bit or the first code begins at a bit
+abbrev pub kindLine : Rules → List ℕ → List Bool → ℕ → Kind → Went
+kindLine R reference bs at (One start) = readLine R one bs start
+kindLine R reference bs at (Two start) = readLine R (two reference) bs start
+kindLine R reference bs at NoTag = failed 2 (length bs) (newLine at)
+
+abbrev pub KindStarts : List ℕ → Kind → Type 0
+KindStarts bytes (One start) = Loading bytes start
+KindStarts bytes (Two start) = Loading bytes start
+KindStarts bytes NoTag = Unit {0}
+
+-- the kind of the line at a bit, whatever its rules and its reference
+pub record KindAt (bytes : List ℕ) (t : Tagging) (at : ℕ) (r : Kind) : Type 0 where
+  pub starts : KindStarts bytes r
+  pub same : (S : Settings) (R : Rules) (reference : List ℕ) → kindLine R reference (bitsOf bytes) at r ≡ line3 S t (bitsOf bytes) R reference at t
+
+-- what a line asks: a row that may begin, and a bit inside the data
+pub record LineFrom (w b bytes xs : List ℕ) (s : DecodeSettings) (st : State) (at : ℕ) : Type 0 where
+  pub row : RowFrom w b bytes xs s st
+  pub loading : Loading bytes at
+
+-- the line that begins at a bit, in the room that the store has
+abbrev pub lineIn : DecodeSettings → List ℕ → List ℕ → State → ℕ → Went
+lineIn s bytes xs st at =
+    line3 (settingsOf s) (taggingOf (s .encoding)) (bitsOf bytes) (rulesOf (settingsOf s) (length xs - st .base)) (stateOf xs st .reference) at (taggingOf (s .encoding))

@@ -1,0 +1,62 @@
+// One row of a Group 3 page, 1D or 2D: what comes before it, its line, and the recovery of a damaged one (group3.rs).
+mod eob;
+mod eols;
+mod line;
+mod recover;
+
+use crate::eob::Before;
+use context::step::Step;
+use rows::DecodeSettings;
+use rows::Row;
+use rows::State;
+ghost use Prim.Native.Nat.{_-_};
+ghost use lib.ListN.{length};
+ghost use Rattle.rules.specs.Bits.{bitsOf};
+ghost use Rattle.rules.specs.Group3.{row3};
+ghost use Rattle.rows.specs.Settings.{settingsOf};
+ghost use Rattle.rows.specs.Between.{stateOf, RowFrom, RowGives};
+ghost use Rattle.group3.specs.Tags.{taggingOf};
+ghost use Rattle.group3.specs.Lined.{LineFrom, lineIn};
+ghost use Rattle.group3.specs.Recovery.{afterLineIn};
+
+// A row whose line begins at a bit.
+fn row_at<'a>(
+    white: &'a [u16; 8192],
+    black: &'a [u16; 8192],
+    src: &[u8],
+    settings: DecodeSettings,
+    changes: &mut [u32],
+    state: State,
+    at: usize,
+    expected: bool,
+) -> Row
+    requires { ⌜ LineFrom (now white) (now black) (now src) (now changes) settings state at ⌝ }
+    ensures { λ r. ⌜ RowGives (state .base) (now (changes .entry)) (afterLineIn settings (now (src .entry)) (now (changes .entry)) state at expected (lineIn settings (now (src .entry)) (now (changes .entry)) state at)) r (now (changes .exit)) ⌝ }
+{
+    match line::decode(white, black, src, settings, changes, state, at) {
+        Step::On(line, next) => Row::Kept(line.changes, next, expected),
+        Step::Stop(number, place, line) => {
+            recover::recover(changes, settings, state, at, expected, number, place, line)
+        }
+    }
+}
+
+pub fn row<'a>(
+    white: &'a [u16; 8192],
+    black: &'a [u16; 8192],
+    src: &[u8],
+    settings: DecodeSettings,
+    changes: &mut [u32],
+    state: State,
+) -> Row
+    requires { ⌜ RowFrom (now white) (now black) (now src) (now changes) settings state ⌝ }
+    ensures { λ r. ⌜ RowGives (state .base) (now (changes .entry)) (row3 (settingsOf settings) (taggingOf (settings .encoding)) (bitsOf (now (src .entry))) (length (now (changes .entry)) - state .base) (stateOf (now (changes .entry)) state)) r (now (changes .exit)) ⌝ }
+{
+    match eob::between(src, settings, state) {
+        Before::End(at) => rows::end_at(at),
+        Before::NoEol(at) => Row::Stop(1, at, 0, 0),
+        Before::Line(at, expected) => {
+            row_at(white, black, src, settings, changes, state, at, expected)
+        }
+    }
+}

@@ -1,0 +1,87 @@
+// The line of a row, of the kind that its tag bit tells.
+use crate::eols;
+use context::line;
+use context::runs;
+use context::step::Rules;
+use context::step::Step;
+use context::two;
+use context::two::Reference;
+use rows::DecodeSettings;
+use rows::State;
+ghost use Rattle.bit_reader.specs.Loaded.{Loading};
+ghost use Rattle.context.specs.Coding.{StepsAt};
+ghost use Rattle.group3.specs.Tags.{taggingOf};
+ghost use Rattle.group3.specs.Lined.{KindAt, LineFrom, lineIn};
+
+// Where the codes of a 1D or a 2D line begin; or no tag bit is left.
+enum Kind {
+    One(usize),
+    Two(usize),
+    NoTag,
+}
+
+fn kind_at(src: &[u8], settings: DecodeSettings, at: usize) -> Kind
+    requires { ⌜ Loading (now src) at ⌝ }
+    ensures { λ r. ⌜ KindAt (now (src .entry)) (taggingOf (settings .encoding)) at r ⌝ }
+{
+    if !eols::is_tagged(settings) {
+        return Kind::One(at);
+    }
+    if bit_reader::at_end(src.len(), at) {
+        return Kind::NoTag;
+    }
+    if eols::is_one(src, at) {
+        return Kind::One(at + 1);
+    }
+    Kind::Two(at + 1)
+}
+
+pub fn decode<'a>(
+    white: &'a [u16; 8192],
+    black: &'a [u16; 8192],
+    src: &[u8],
+    settings: DecodeSettings,
+    changes: &mut [u32],
+    state: State,
+    at: usize,
+) -> Step
+    requires { ⌜ LineFrom (now white) (now black) (now src) (now changes) settings state at ⌝ }
+    ensures { λ r. ⌜ StepsAt (state .base) (settings .columns) (now (changes .entry)) (lineIn settings (now (src .entry)) (now (changes .entry)) state at) r (now (changes .exit)) ⌝ }
+{
+    let columns = settings.columns;
+    let base = state.base;
+    let rules = Rules {
+        strict: settings.strict,
+    };
+    match kind_at(src, settings, at) {
+        Kind::NoTag => Step::Stop(2, 8 * src.len(), line::new_line(columns)),
+        Kind::One(start) => {
+            runs::decode_1d_line(
+                white,
+                black,
+                src,
+                &mut changes[base..],
+                columns,
+                start,
+                rules,
+            )
+        }
+        Kind::Two(start) => {
+            // The reference lies in the store, so none is lent.
+            let lent: [u32; 0] = [];
+            let place = Reference::Kept(state.start);
+            two::decode_2d_line(
+                white,
+                black,
+                src,
+                &lent,
+                changes,
+                base,
+                place,
+                columns,
+                start,
+                rules,
+            )
+        }
+    }
+}
