@@ -1,0 +1,413 @@
+-- One turn of the page loop is one step of the page machine: where the store and its ends stand between rows, and what each turn makes of them.
+-- Assumes nothing.
+use mathlib.Core.Path.{_≡_, refl, sym, ap, ap₂, _∙_, subst, subst₂}
+use mathlib.Core.Bool.{Bool, false, cond}
+use mathlib.Core.List.{List, [], _∷_, _++_, append-assoc}
+use Prim.Native.Nat.{ℕ, zero, suc, _+_, _-_, _*_, _≤_, _<_}
+use native.Mathlib.Omega.{arith}
+use lib.Dec.{eqb}
+use lib.ListN.{length, take, drop, set, length-append, length-set}
+use lib.Seq.{take-at, drop-at}
+use borrow.Author.Tests.{eq-eqb, ne-eqb, lt-ltb, le-ltb}
+use Rattle.rules.specs.Machine.{Out, more, done, ends}
+use Rattle.rules.specs.Bits.{bitsOf}
+use Rattle.rules.specs.Rows as Rule
+use Rattle.rules.specs.Rows.{Encoding, Settings, pageStart, RowOut, row, stop}
+use Rattle.rules.specs.Group4.{row4}
+use Rattle.rules.specs.Group3.{row3}
+use Rattle.rules.specs.Pages as Page
+use Rattle.rules.specs.Pages.{mostBytes, entries, rowOf, rowsLeft, pageOf, readPage, decode, overlaid, joined, endsFrom, changesAfter, endsAfter}
+use Rattle.rules.proofs.Machine.{ends-more, ends-done}
+use Rattle.rules.proofs.Bits.{length-bitsOf}
+use Rattle.rules.proofs.Ascending.{Rising}
+use Rattle.rules.proofs.Budget.{Bytes}
+use Rattle.rules.proofs.Pages.{Onward, Moved, Stopped, Goes, Does, row-goes, row-does, step, roomFor, page-kept, page-full, page-stopped, page-falls, Held, held-start, held-next, held-entries}
+use Rattle.rules.proofs.Store.{length-overlaid, overlaid-nothing, overlaid-behind, overlaid-one, length-joined, joined-snoc, length-ends, ends-snoc}
+use Rattle.tables.specs.Tables.{Lookups}
+use Rattle.error.specs.Error.{answerOf}
+use Rattle.error.specs.declared.Answer.{Answer}
+use Rattle.rows.specs.declared.DecodeSettings.{DecodeSettings}
+use Rattle.rows.specs.declared.State.{State}
+use Rattle.rows.specs.declared.Row.{Row}
+use Rattle.rows.specs.declared.Row.the-variants.{Kept, Stop}
+use Rattle.rows.specs.declared.EncodingMode.{EncodingMode}
+use Rattle.rows.specs.declared.EncodingMode.the-variants.{Group4, «Group3_1D», «Group3_2D»}
+use Rattle.rows.specs.Settings.{encodingOf, settingsOf}
+use Rattle.group3.specs.Tags.{taggingOf}
+use Rattle.rows.specs.Between.{stateOf, rowFor, changesIn, RowFrom, RowGives}
+use Rattle.ccitt.specs.Decode.{Rowed, counted, Counts, behindRow, Behind, PageFrom, Gives, Reads}
+
+-- ---- What an answer of the code says of the outcome
+
+record StopOf (n p b m : ℕ) (w : RowOut) : Type 0 where
+  loose : List ℕ
+  is : w ≡ stop n p b loose
+  size : length loose ≡ m
+
+stop-of : {n p b m : ℕ} (w : RowOut) → Stop n p b m ≡ rowFor w → StopOf n p b m w
+stop-of (row r next) e = absurd (let z : _≡_ {A = ℕ} 0 1 = cc in omega arith)
+stop-of {n} {p} {b} {m} (stop n′ p′ b′ l) e = record { loose = l; is = λ i. stop (number i) (place i) (bytes i) l; size = sym (let q : m ≡ length l = cc in q) }
+  where
+    number : n′ ≡ n
+    number = sym (let q : n ≡ n′ = cc in q)
+
+    place : p′ ≡ p
+    place = sym (let q : p ≡ p′ = cc in q)
+
+    bytes : b′ ≡ b
+    bytes = sym (let q : b ≡ b′ = cc in q)
+
+record RowIs (count at : ℕ) (eols : Bool) (w : RowOut) : Type 0 where
+  changes : List ℕ
+  next : Rule.State
+  is : w ≡ row changes next
+  size : length changes ≡ count
+  at-is : next .at ≡ at
+  eols-is : next .eols ≡ eols
+
+row-of : {count at : ℕ} {eols : Bool} (w : RowOut) → Kept count at eols ≡ rowFor w → RowIs count at eols w
+row-of (row r next) e = record { changes = r; next = next; is = refl; size = cc; at-is = cc; eols-is = cc }
+row-of (stop n p b l) e = absurd (let z : _≡_ {A = ℕ} 0 1 = cc in omega arith)
+
+-- ---- Between rows
+
+module _ (bytes : List ℕ) (settings : DecodeSettings) (size : length bytes ≤ mostBytes) (wide : 0 < settings .columns) (narrow : settings .columns < 4294967295) (xs es : List ℕ) where
+  abbrev pub S : Settings
+  S = settingsOf settings
+
+  abbrev pub enc : Encoding
+  enc = S .encoding
+
+  abbrev pub bs : List Bool
+  bs = bitsOf bytes
+
+  pub data-bytes : Bytes bs
+  data-bytes = record { count = length bytes; whole = length-bitsOf bytes }
+
+  abbrev pub stepped : Page.Kept → Out Page.Kept Page.Answer
+  stepped = step enc S wide bs data-bytes (length xs) (length es)
+
+  abbrev pub Holds : Page.Kept → Type 0
+  Holds k = Held enc S wide bs data-bytes (length xs) (length es) k
+
+  abbrev pub start : Page.Kept
+  start = record { state = pageStart; rows = [] }
+
+  -- the machine stands at k, and the arrays hold its rows
+  pub record Going (ys fs : List ℕ) (st : State) : Type 0 where
+    pub kept : Page.Kept
+    pub held : Holds kept
+    pub same : ends stepped (rowsLeft bs) kept ≡ ends stepped (rowsLeft bs) start
+    pub state : stateOf ys st ≡ kept .state
+    pub base : st .base ≡ entries (kept .rows)
+    pub ordered : st .start ≤ st .base
+    pub changes : ys ≡ overlaid (joined (kept .rows)) xs
+    pub row-ends : fs ≡ overlaid (endsFrom 0 (kept .rows)) es
+
+  pub going-start : Going xs es (record { at = 0; rows = 0; start = 0; base = 0; eols = false })
+  unfolding entries joined endsFrom
+  going-start = record {
+    kept = start;
+    held = held-start enc S wide bs data-bytes (length xs) (length es);
+    same = refl;
+    state = refl;
+    base = refl;
+    ordered = omega arith;
+    changes = sym (overlaid-nothing xs);
+    row-ends = sym (overlaid-nothing es);
+  }
+
+  module _ (ys fs : List ℕ) (st : State) (g : Going ys fs st) where
+    k : Page.Kept
+    k = g .kept
+
+    length-ys : length ys ≡ length xs
+    length-ys = ap length (g .changes) ∙ length-overlaid (joined (g .kept .rows)) xs (omega (arith, length-joined (g .kept .rows), g .held .roomy))
+
+    rows-is : st .rows ≡ length (g .kept .rows)
+    rows-is = ap (λ (s : Rule.State). s .count) (g .state) ∙ g .held .counted
+
+    -- what a row asks
+    pub row-asked : {w b : List ℕ} → Lookups w b → RowFrom w b bytes ys settings st
+    row-asked l = record {
+      lookups = l;
+      loading = record { size = size; inside = omega (arith, ap (λ (s : Rule.State). s .at) (g .state), g .held .inside, length-bitsOf bytes) };
+      wide = wide;
+      narrow = narrow;
+      ordered = g .ordered;
+      held = omega (arith, g .base, g .held .roomy, length-ys);
+      rising = subst (Rising (settings .columns) 0) (sym (ap (λ (s : Rule.State). s .reference) (g .state))) (g .held .reference);
+    }
+
+    -- the row of the code is the machine's
+    outcome : rowOf enc S bs (length ys - st .base) (stateOf ys st) ≡ rowOf enc S bs (roomFor enc S wide bs data-bytes (length xs) (length es) (g .kept)) (g .kept .state)
+    outcome = ap₂ (λ (n : ℕ) (s : Rule.State). rowOf enc S bs n s) (ap₂ (λ (a b : ℕ). a - b) length-ys (g .base)) (g .state)
+
+    -- the changes behind the rows
+    behind : (zs r : List ℕ) → zs ≡ take (st .base) ys ++ overlaid r (drop (st .base) ys) → zs ≡ overlaid (joined (g .kept .rows) ++ r) xs
+    behind zs r e =
+        e ∙ ap (λ (l : List ℕ). take (st .base) l ++ overlaid r (drop (st .base) l)) (g .changes)
+        ∙ overlaid-behind (joined (g .kept .rows)) r xs (st .base) (length-joined (g .kept .rows) ∙ sym (g .base))
+
+    bits : length bs ≤ 2147483648
+    bits = omega (arith, length-bitsOf bytes)
+
+    -- the page's answer
+    answers : (a : Page.Answer) → stepped (g .kept) ≡ done a → readPage S bs (length xs) (length es) ≡ a
+    unfolding readPage
+    answers a e = ap pageOf (sym (g .same) ∙ ends-done stepped (rowsLeft bs) (page-falls enc S wide bs data-bytes (length xs) (length es)) (g .kept) a e)
+
+    -- an answer that was reached, with the arrays as they stand
+    given : (n p b m : ℕ) (loose zs : List ℕ) → length loose ≡ m → zs ≡ take (st .base) ys ++ overlaid loose (drop (st .base) ys)
+        → stepped (g .kept) ≡ done (record { number = n; place = p; bytes = b; rows = g .kept .rows; loose = loose })
+        → Reads bytes settings xs es (counted n (st .rows) (st .base) m b) zs fs
+    unfolding changesAfter endsAfter
+    given n p b m loose zs l e q =
+        subst (λ (a : Page.Answer). Gives a xs es (counted n (st .rows) (st .base) m b) zs fs) (sym (answers _ q))
+        (record {
+          answer = λ i. counted n (rows-is i) (g .base i) (sym l i) b;
+          changes = behind zs loose e;
+          ends = g .row-ends;
+        })
+
+    module _ (r : Row) (zs : List ℕ) (o : Rowed bytes ys settings st r zs) where
+      -- the page has ended
+      module _ (n p b m : ℕ) (e : r ≡ Stop n p b m) where
+        s : StopOf n p b m (rowOf enc S bs (length ys - st .base) (stateOf ys st))
+        s = stop-of (rowOf enc S bs (length ys - st .base) (stateOf ys st)) (sym e ∙ o .answer)
+
+        stops : rowOf enc S bs (roomFor enc S wide bs data-bytes (length xs) (length es) (g .kept)) (g .kept .state) ≡ stop n p b (s .loose)
+        stops = sym outcome ∙ s .is
+
+        pub stopped-counts : Counts (st .rows) (st .base) m
+        unfolding s
+        stopped-counts =
+            let d = subst (Does S bs _ (g .kept .state)) stops (row-does S wide bs data-bytes _ (g .kept .state) enc (g .held .fitting) (g .held .inside)) in
+            record {
+              of-rows = omega (arith, rows-is, g .held .few, g .held .inside, bits);
+              of-entries = omega (arith, g .base, held-entries enc S wide bs data-bytes (length xs) (length es) (g .kept) (g .held), bits);
+              of-loose = omega (arith, s .size, d .short, bits);
+            }
+
+        pub stopped-gives : Reads bytes settings xs es (counted n (st .rows) (st .base) m b) zs fs
+        unfolding s
+        stopped-gives =
+            given n p b m (s .loose) zs (s .size) (o .store ∙ ap (λ (w : RowOut). take (st .base) ys ++ overlaid (changesIn w) (drop (st .base) ys)) (s .is))
+            (page-stopped enc S wide bs data-bytes (length xs) (length es) (g .kept) n p b (s .loose) stops)
+
+      -- a row
+      module _ (count at : ℕ) (eols : Bool) (e : r ≡ Kept count at eols) where
+        t : RowIs count at eols (rowOf enc S bs (length ys - st .base) (stateOf ys st))
+        t = row-of (rowOf enc S bs (length ys - st .base) (stateOf ys st)) (sym e ∙ o .answer)
+
+        reads : rowOf enc S bs (roomFor enc S wide bs data-bytes (length xs) (length es) (g .kept)) (g .kept .state) ≡ row (t .changes) (t .next)
+        reads = sym outcome ∙ t .is
+
+        does : Moved S bs (roomFor enc S wide bs data-bytes (length xs) (length es) (g .kept)) (g .kept .state) (t .changes) (t .next)
+        does = subst (Does S bs _ (g .kept .state)) reads (row-does S wide bs data-bytes _ (g .kept .state) enc (g .held .fitting) (g .held .inside))
+
+        stored : zs ≡ overlaid (joined (g .kept .rows) ++ t .changes) xs
+        stored = behind zs (t .changes) (o .store ∙ ap (λ (w : RowOut). take (st .base) ys ++ overlaid (changesIn w) (drop (st .base) ys)) (t .is))
+
+        pub full-counts : Counts (st .rows) (st .base) count
+        unfolding t
+        full-counts = record {
+          of-rows = omega (arith, rows-is, g .held .few, g .held .inside, bits);
+          of-entries = omega (arith, g .base, held-entries enc S wide bs data-bytes (length xs) (length es) (g .kept) (g .held), bits);
+          of-loose = omega (arith, t .size, does .short, bits);
+        }
+
+        -- no row end is left
+        pub full-gives : length es ≤ st .rows → Reads bytes settings xs es (counted 5 (st .rows) (st .base) count 0) zs fs
+        unfolding t
+        full-gives h =
+            given 5 0 0 count (t .changes) zs (t .size) (o .store ∙ ap (λ (w : RowOut). take (st .base) ys ++ overlaid (changesIn w) (drop (st .base) ys)) (t .is))
+            (page-full enc S wide bs data-bytes (length xs) (length es) (g .kept) (t .changes) (t .next) reads (omega (arith, rows-is)))
+
+        module _ (place : st .rows < length es) where
+          next : Page.Kept
+          next = record { state = t .next; rows = g .kept .rows ++ t .changes ∷ [] }
+
+          stepping : stepped (g .kept) ≡ more next
+          unfolding next
+          stepping = page-kept enc S wide bs data-bytes (length xs) (length es) (g .kept) (t .changes) (t .next) reads (omega (arith, rows-is))
+
+          holds : Holds next
+          holds = held-next enc S wide bs data-bytes (length xs) (length es) (g .kept) next (g .held) stepping
+
+          more-entries : entries (next .rows) ≡ st .base + count
+          unfolding next t
+          more-entries = sym (length-joined (next .rows)) ∙ ap length (joined-snoc (g .kept .rows) (t .changes)) ∙ length-append (joined (g .kept .rows)) (t .changes) ∙ ap₂ (λ (a b : ℕ). a + b) (length-joined (g .kept .rows) ∙ sym (g .base)) (t .size)
+
+          pub behind-asked : Behind st count
+          behind-asked = record {
+            few-rows = omega (arith, rows-is, g .held .few, g .held .inside, bits);
+            few-entries = omega (arith, more-entries, held-entries enc S wide bs data-bytes (length xs) (length es) next holds, bits);
+          }
+
+          state-next : stateOf zs (behindRow st count at eols) ≡ t .next
+          unfolding t overlaid
+          state-next = λ i. record {
+            at = sym (t .at-is) i;
+            reference = (front ∙ sym (does .refers)) i;
+            count = (ap (λ (n : ℕ). n + 1) (ap (λ (s : Rule.State). s .count) (g .state)) ∙ (let q : g .kept .state .count + 1 ≡ suc (g .kept .state .count) = omega arith in q) ∙ sym (onward .counted)) i;
+            eols = sym (t .eols-is) i;
+          }
+            where
+              onward : Onward bs (g .kept .state) (t .next)
+              onward = subst (Goes bs (g .kept .state)) reads (row-goes S wide bs data-bytes _ (g .kept .state) enc)
+
+              J : List ℕ
+              J = joined (g .kept .rows)
+
+              front : take (st .base + count - st .base) (drop (st .base) zs) ≡ t .changes
+              front =
+                  ap₂ (λ (n : ℕ) (l : List ℕ). take n (drop (st .base) l)) (let q : st .base + count - st .base ≡ length (t .changes) = omega (arith, t .size) in q) (stored ∙ append-assoc J (t .changes) (drop (length (J ++ t .changes)) xs))
+                  ∙ ap (take (length (t .changes))) (drop-at J (t .changes ++ drop (length (J ++ t .changes)) xs) (st .base) (length-joined (g .kept .rows) ∙ sym (g .base)))
+                  ∙ take-at (t .changes) (drop (length (J ++ t .changes)) xs) (length (t .changes)) refl
+
+          pub going-next : Going zs (set fs (st .rows) (st .base + count)) (behindRow st count at eols)
+          unfolding next t
+          going-next = record {
+            kept = next;
+            held = holds;
+            same = sym (ends-more stepped (rowsLeft bs) (page-falls enc S wide bs data-bytes (length xs) (length es)) (g .kept) next stepping) ∙ g .same;
+            state = state-next;
+            base = sym more-entries;
+            ordered = omega arith;
+            changes = stored ∙ ap (λ (l : List ℕ). overlaid l xs) (sym (joined-snoc (g .kept .rows) (t .changes)));
+            row-ends = set-end;
+          }
+            where
+              set-end : set fs (st .rows) (st .base + count) ≡ overlaid (endsFrom 0 (g .kept .rows ++ t .changes ∷ [])) es
+              set-end =
+                  ap (λ (l : List ℕ). set l (st .rows) (st .base + count)) (g .row-ends)
+                  ∙ overlaid-one (endsFrom 0 (g .kept .rows)) es (st .base + count) (st .rows) (length-ends 0 (g .kept .rows) ∙ sym rows-is) place
+                  ∙ ap (λ (l : List ℕ). overlaid l es) (ap (λ (n : ℕ). endsFrom 0 (g .kept .rows) ++ n ∷ []) (let q : st .base + count ≡ 0 + entries (g .kept .rows) + length (t .changes) = omega (arith, g .base, t .size) in q) ∙ sym (ends-snoc 0 (g .kept .rows) (t .changes)))
+
+          -- what falls with each row
+          pub going-falls : length bs - at + cond (eqb (st .rows + 1) 0) 1 0 < length bs - st .at + cond (eqb (st .rows) 0) 1 0
+          unfolding next t
+          going-falls =
+              subst₂ (λ (a b : ℕ). a < b)
+              (ap₂ (λ (a c : ℕ). length bs - a + cond (eqb c 0) 1 0) (t .at-is) (sym (ap (λ (s : Rule.State). s .count) state-next)))
+              (ap₂ (λ (a c : ℕ). length bs - a + cond (eqb c 0) 1 0) (sym (ap (λ (s : Rule.State). s .at) (g .state))) (sym (ap (λ (s : Rule.State). s .count) (g .state))))
+              (page-falls enc S wide bs data-bytes (length xs) (length es) (g .kept) next stepping)
+
+-- ---- The loop's invariant
+
+-- the tests were passed, and the machine goes on
+pub record Turn (bytes : List ℕ) (settings : DecodeSettings) (xs es ys fs : List ℕ) (st : State) : Type 0 where
+  pub size : length bytes ≤ mostBytes
+  pub wide : 0 < settings .columns
+  pub narrow : settings .columns < 4294967295
+  pub going : Going bytes settings size wide narrow xs es ys fs st
+  pub same-changes : length ys ≡ length xs
+  pub same-ends : length fs ≡ length es
+
+-- what falls with each turn
+abbrev pub turnsLeft : List ℕ → State → ℕ
+turnsLeft bytes st = length (bitsOf bytes) - st .at + cond (eqb (st .rows) 0) 1 0
+
+pub turn-start : {w b : List ℕ} (bytes : List ℕ) (settings : DecodeSettings) (xs es : List ℕ) → PageFrom w b bytes settings
+    → Turn bytes settings xs es xs es (record { at = 0; rows = 0; start = 0; base = 0; eols = false })
+turn-start bytes settings xs es p = record { size = p .size; wide = p .wide; narrow = p .narrow; going = going-start bytes settings (p .size) (p .wide) (p .narrow) xs es; same-changes = refl; same-ends = refl }
+
+module _ {bytes : List ℕ} {settings : DecodeSettings} {xs es ys fs : List ℕ} {st : State} (t : Turn bytes settings xs es ys fs st) where
+  pub turn-asked : {w b : List ℕ} → Lookups w b → RowFrom w b bytes ys settings st
+  turn-asked l = row-asked bytes settings (t .size) (t .wide) (t .narrow) xs es ys fs st (t .going) l
+
+  module _ {r : Row} {zs : List ℕ} (o : Rowed bytes ys settings st r zs) where
+    pub turn-stopped : {n p b m : ℕ} → r ≡ Stop n p b m → Counts (st .rows) (st .base) m × Reads bytes settings xs es (counted n (st .rows) (st .base) m b) zs fs
+    turn-stopped {n} {p} {b} {m} e =
+        (stopped-counts bytes settings (t .size) (t .wide) (t .narrow) xs es ys fs st (t .going) r zs o n p b m e, stopped-gives bytes settings (t .size) (t .wide) (t .narrow) xs es ys fs st (t .going) r zs o n p b m e)
+
+    module _ {count at : ℕ} {eols : Bool} (e : r ≡ Kept count at eols) where
+      pub turn-counts : Counts (st .rows) (st .base) count
+      turn-counts = full-counts bytes settings (t .size) (t .wide) (t .narrow) xs es ys fs st (t .going) r zs o count at eols e
+
+      pub turn-full : length es ≤ st .rows → Reads bytes settings xs es (counted 5 (st .rows) (st .base) count 0) zs fs
+      turn-full h = full-gives bytes settings (t .size) (t .wide) (t .narrow) xs es ys fs st (t .going) r zs o count at eols e h
+
+      module _ (place : st .rows < length es) where
+        pub turn-behind : Behind st count
+        turn-behind = behind-asked bytes settings (t .size) (t .wide) (t .narrow) xs es ys fs st (t .going) r zs o count at eols e place
+
+        pub turn-next : length zs ≡ length ys → Turn bytes settings xs es zs (set fs (st .rows) (st .base + count)) (behindRow st count at eols)
+        turn-next q = record {
+          size = t .size;
+          wide = t .wide;
+          narrow = t .narrow;
+          going = going-next bytes settings (t .size) (t .wide) (t .narrow) xs es ys fs st (t .going) r zs o count at eols e place;
+          same-changes = q ∙ t .same-changes;
+          same-ends = length-set fs (st .rows) (st .base + count) ∙ t .same-ends;
+        }
+
+        pub turn-falls : turnsLeft bytes (behindRow st count at eols) < turnsLeft bytes st
+        turn-falls = going-falls bytes settings (t .size) (t .wide) (t .narrow) xs es ys fs st (t .going) r zs o count at eols e place
+
+-- ---- The tests before any reading
+
+module _ (bytes : List ℕ) (settings : DecodeSettings) (xs es : List ℕ) where
+  abbrev said : Page.Answer
+  said = decode (settingsOf settings) bytes (length xs) (length es)
+
+  -- a refusal leaves everything as found
+  refused : (n : ℕ) → said ≡ Page.refusal n → Gives said xs es (answerOf (Page.refusal n)) xs es
+  unfolding changesAfter endsAfter joined endsFrom
+  refused n e =
+      subst (λ (a : Page.Answer). Gives a xs es (answerOf (Page.refusal n)) xs es) (sym e)
+      (record { answer = refl; changes = sym (overlaid-nothing xs); ends = sym (overlaid-nothing es) })
+
+  pub refused-6 : settings .columns ≡ 4294967295 → Gives said xs es (answerOf (Page.refusal 6)) xs es
+  unfolding decode
+  refused-6 e = refused 6 (rw (eq-eqb _ _ e, decode))
+
+  module _ (narrow : settings .columns ≡ 4294967295 → ⊥) where
+    pub refused-7 : mostBytes < length bytes → Gives said xs es (answerOf (Page.refusal 7)) xs es
+    unfolding decode
+    refused-7 h = refused 7 (rw (ne-eqb _ _ narrow, lt-ltb _ _ h, decode))
+
+    module _ (size : length bytes ≤ mostBytes) where
+      pub no-columns : settings .columns ≡ 0 → Gives said xs es (answerOf (Page.refusal 0)) xs es
+      unfolding decode
+      no-columns e = refused 0 (rw (ne-eqb _ _ narrow, le-ltb _ _ size, eq-eqb _ _ e, decode))
+
+      pub page-read : (settings .columns ≡ 0 → ⊥) → {r : Answer} {ys fs : List ℕ} → Reads bytes settings xs es r ys fs → Gives said xs es r ys fs
+      unfolding decode
+      page-read ne {r} {ys} {fs} g = subst (λ (a : Page.Answer). Gives a xs es r ys fs) (sym reads) g
+        where
+          reads : said ≡ readPage (settingsOf settings) (bitsOf bytes) (length xs) (length es)
+          reads = rw (ne-eqb _ _ narrow, le-ltb _ _ size, ne-eqb _ _ ne, decode)
+
+-- ---- One row, by the encoding
+
+-- the encoding's row is Group 4's, or Group 3's with or without tags
+byEncoding : EncodingMode → Settings → List Bool → ℕ → Rule.State → RowOut
+byEncoding Group4 S bs = row4 S bs
+byEncoding «Group3_1D» S bs = row3 S (taggingOf «Group3_1D») bs
+byEncoding «Group3_2D» S bs = row3 S (taggingOf «Group3_2D») bs
+
+by-encoding : (e : EncodingMode) (S : Settings) (bs : List Bool) (room : ℕ) (st : Rule.State) → byEncoding e S bs room st ≡ rowOf (encodingOf e) S bs room st
+unfolding byEncoding rowOf
+by-encoding Group4 S bs room st = refl
+by-encoding «Group3_1D» S bs room st = refl
+by-encoding «Group3_2D» S bs room st = refl
+
+module _ (bytes xs : List ℕ) (settings : DecodeSettings) (st : State) {r : Row} {ys : List ℕ} where
+  rowed : (e : EncodingMode) → settings .encoding ≡ e → RowGives (st .base) xs (byEncoding e (settingsOf settings) (bitsOf bytes) (length xs - st .base) (stateOf xs st)) r ys → Rowed bytes xs settings st r ys
+  rowed e q g =
+      subst (λ (d : EncodingMode). RowGives (st .base) xs (rowOf (encodingOf d) (settingsOf settings) (bitsOf bytes) (length xs - st .base) (stateOf xs st)) r ys) (sym q)
+      (subst (λ (w : RowOut). RowGives (st .base) xs w r ys) (by-encoding e (settingsOf settings) (bitsOf bytes) (length xs - st .base) (stateOf xs st)) g)
+
+  pub rowed-4 : settings .encoding ≡ Group4 → RowGives (st .base) xs (row4 (settingsOf settings) (bitsOf bytes) (length xs - st .base) (stateOf xs st)) r ys → Rowed bytes xs settings st r ys
+  unfolding byEncoding
+  rowed-4 q g = rowed Group4 q g
+
+  pub rowed-1D : settings .encoding ≡ «Group3_1D» → RowGives (st .base) xs (row3 (settingsOf settings) (taggingOf (settings .encoding)) (bitsOf bytes) (length xs - st .base) (stateOf xs st)) r ys → Rowed bytes xs settings st r ys
+  unfolding byEncoding
+  rowed-1D q g = rowed «Group3_1D» q (subst (λ (d : EncodingMode). RowGives (st .base) xs (row3 (settingsOf settings) (taggingOf d) (bitsOf bytes) (length xs - st .base) (stateOf xs st)) r ys) q g)
+
+  pub rowed-2D : settings .encoding ≡ «Group3_2D» → RowGives (st .base) xs (row3 (settingsOf settings) (taggingOf (settings .encoding)) (bitsOf bytes) (length xs - st .base) (stateOf xs st)) r ys → Rowed bytes xs settings st r ys
+  unfolding byEncoding
+  rowed-2D q g = rowed «Group3_2D» q (subst (λ (d : EncodingMode). RowGives (st .base) xs (row3 (settingsOf settings) (taggingOf d) (bitsOf bytes) (length xs - st .base) (stateOf xs st)) r ys) q g)

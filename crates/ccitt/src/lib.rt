@@ -1,0 +1,110 @@
+// The page form (`decode` of lib.rs): all three encodings, one loop, rows kept in lent arrays.
+use error::Answer;
+use rows::DecodeSettings;
+use rows::EncodingMode;
+use rows::Row;
+use rows::State;
+ghost use mathlib.Core.Path.{_≡_};
+ghost use Rattle.rows.specs.Between.{RowFrom};
+ghost use Rattle.ccitt.specs.Decode.{Rowed, counted, Counts, behindRow, Behind, PageFrom, Reads, Decodes};
+
+// What one row does, by the encoding.
+fn row<'a>(
+    white: &'a [u16; 8192],
+    black: &'a [u16; 8192],
+    src: &[u8],
+    settings: DecodeSettings,
+    changes: &mut [u32],
+    state: State,
+) -> Row
+    requires { ⌜ RowFrom (now white) (now black) (now src) (now changes) settings state ⌝ }
+    ensures { λ r. ⌜ Rowed (now (src .entry)) (now (changes .entry)) settings state r (now (changes .exit)) ⌝ }
+{
+    let encoding = settings.encoding;
+    match encoding {
+        EncodingMode::Group4 => group4::row(white, black, src, settings, changes, state),
+        EncodingMode::Group3_1D => group3::row(white, black, src, settings, changes, state),
+        EncodingMode::Group3_2D => group3::row(white, black, src, settings, changes, state),
+    }
+}
+
+// The answer after so many rows.
+fn counts(number: u32, rows: usize, entries: usize, loose: usize, bytes: usize) -> Answer
+    requires { ⌜ Counts rows entries loose ⌝ }
+    ensures { λ r. ⌜ r ≡ counted number rows entries loose bytes ⌝ }
+{
+    Answer {
+        number: number,
+        rows: rows as u32,
+        entries: entries as u32,
+        loose: loose as u32,
+        bytes: bytes as u64,
+    }
+}
+
+// The state behind a row: the row is the next reference.
+fn behind(state: State, count: usize, at: usize, eols: bool) -> State
+    requires { ⌜ Behind state count ⌝ }
+    ensures { λ r. ⌜ r ≡ behindRow state count at eols ⌝ }
+{
+    State {
+        at: at,
+        rows: state.rows + 1,
+        start: state.base,
+        base: state.base + count,
+        eols: eols,
+    }
+}
+
+fn page<'a>(
+    white: &'a [u16; 8192],
+    black: &'a [u16; 8192],
+    src: &[u8],
+    settings: DecodeSettings,
+    changes: &mut [u32],
+    ends: &mut [u32],
+) -> Answer
+    requires { ⌜ PageFrom (now white) (now black) (now src) settings ⌝ }
+    ensures { λ r. ⌜ Reads (now (src .entry)) settings (now (changes .entry)) (now (ends .entry)) r (now (changes .exit)) (now (ends .exit)) ⌝ }
+{
+    let mut state = State {
+        at: 0,
+        rows: 0,
+        start: 0,
+        base: 0,
+        eols: false,
+    };
+    loop {
+        match row(white, black, src, settings, changes, state) {
+            Row::Stop(number, _, bytes, loose) => {
+                return counts(number, state.rows, state.base, loose, bytes);
+            }
+            Row::Kept(count, at, eols) => {
+                let rows = state.rows;
+                if ends.len() <= rows {
+                    return counts(5, rows, state.base, count, 0);
+                }
+                ends[rows] = (state.base + count) as u32;
+                state = behind(state, count, at, eols);
+            }
+        }
+    }
+}
+
+// A page into lent arrays. The lookup tables are made once, here: a constant is built anew wherever it is used.
+pub fn decode(src: &[u8], settings: DecodeSettings, changes: &mut [u32], ends: &mut [u32]) -> Answer
+    ensures { λ r. ⌜ Decodes (now (src .entry)) settings (now (changes .entry)) (now (ends .entry)) r (now (changes .exit)) (now (ends .exit)) ⌝ }
+{
+    if settings.columns == 4294967295 {
+        return error::refusal(6);
+    }
+    if 268435456 < src.len() {
+        return error::refusal(7);
+    }
+    if settings.columns == 0 {
+        return error::refusal(0);
+    }
+    let white = tables::white_lookup();
+    let black = tables::black_lookup();
+    page(&white, &black, src, settings, changes, ends)
+}
