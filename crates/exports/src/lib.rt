@@ -6,6 +6,8 @@ use rows::EncodingMode;
 ghost use Rattle.rows.specs.declared.EncodingMode.the-variants.{Group4, «Group3_1D», «Group3_2D»};
 ghost use Rattle.ccitt.specs.Decode.{Decodes};
 ghost use Rattle.context.specs.OneLine.{ReadOne};
+ghost use Rattle.rules.specs.Write.{mostMakeup, writeLine, writePage};
+ghost use Rattle.writer.specs.Outcome.{Answers};
 ghost use mathlib.Core.Bool.{false};
 ghost use Rattle.exports.specs.Exports.{settingsFor};
 
@@ -98,4 +100,29 @@ pub extern "C" fn ccitt_read_line(
     ensures { λ r. ⌜ ReadOne (now (src .entry)) at columns strict (now (reference .entry)) (now (changes .entry)) r (now (changes .exit)) ⌝ }
 {
     context::read::read_line(src, at, columns, strict, reference, changes)
+}
+
+#[no_mangle]
+pub extern "C" fn ccitt_write_line(
+    columns: u32,
+    reference: &[u32],
+    row: &[u32],
+    out: &mut [u8],
+    at: u64,
+) -> Answer
+    ensures { λ r. ⌜ Answers (writeLine mostMakeup columns (now (reference .entry)) (now (row .entry)) (now (out .entry)) at) (now (out .entry)) r (now (out .exit)) ⌝ }
+{
+    writer::write_line(columns, reference, row, out, at)
+}
+
+#[no_mangle]
+pub extern "C" fn ccitt_write_page(
+    columns: u32,
+    changes: &[u32],
+    ends: &[u32],
+    out: &mut [u8],
+) -> Answer
+    ensures { λ r. ⌜ Answers (writePage mostMakeup columns (now (changes .entry)) (now (ends .entry)) (now (out .entry))) (now (out .entry)) r (now (out .exit)) ⌝ }
+{
+    writer::write_page(columns, changes, ends, out)
 }

@@ -1,0 +1,154 @@
+-- The codes of a run, one after the other, as a writer puts them. Assumes nothing.
+use mathlib.Core.Path.{_≡_, refl, sym, ap, _∙_, subst}
+use mathlib.Core.Logic.{⊎-elim}
+use mathlib.Core.Bool.{Bool, true, false, cond, _&&_}
+use mathlib.Core.List.{List, [], _∷_, _++_, append-nil, List·Memᴰ, List·Memᴰ·not-nil, List·Memᴰ·cases-cons}
+use Prim.Native.Nat.{ℕ, suc, _+_, _-_, _*_, _/_, _%_, _^_, _≤_, _<_}
+use native.Mathlib.Omega.{arith}
+use lib.Dec.{T, leb, ltb, ltb→lt}
+use lib.ListN.{length, replicate, length-append}
+use borrow.Author.Tests.{leb-true, leb-false}
+use Rattle.rules.specs.Bits.{bitsFor}
+use Rattle.rules.specs.Codes as Rule
+use Rattle.rules.specs.Codes.{Colour, white, black, codeBits, codesOf}
+use Rattle.rules.specs.Write.{mostMakeup, terminating, makeup, wholes, runCodes, codesBits, runBits}
+use Rattle.rules.proofs.Codes.{both, shape, length-codeBits}
+use Rattle.rules.proofs.WriteRuns.{For, terminating-for, makeup-for, Made, last, next, made-run}
+use Rattle.tables.specs.Tables.{SameBits}
+use Rattle.tables.specs.declared.Code.{Code}
+use Rattle.writer.specs.Putting.{Sound, Spells, Room, Puts}
+use Rattle.writer.specs.Coding.{largest}
+use Rattle.writer.proofs.Owing.{Owes, first-code, owes-code, last-code, puts-all}
+
+-- ---- Codes of the tables
+
+-- no code has a bit above its size
+smallWords : List Rule.Code → Bool
+smallWords [] = true
+smallWords (c ∷ cs) = ltb (c .word) (2 ^ (c .size)) && smallWords cs
+
+small-at : (cs : List Rule.Code) → T (smallWords cs) → (c : Rule.Code) → List·Memᴰ c cs → c .word < 2 ^ (c .size)
+unfolding smallWords
+small-at [] t c m = absurd (List·Memᴰ·not-nil m)
+small-at (x ∷ cs) t c m =
+    let q = both (ltb (x .word) (2 ^ (x .size))) (smallWords cs) t in
+    ⊎-elim (λ e. subst (λ (y : Rule.Code). y .word < 2 ^ (y .size)) (sym e) (ltb→lt (x .word) (2 ^ (x .size)) (q .0))) (λ k. small-at cs (q .1) c k)
+    (List·Memᴰ·cases-cons m)
+
+small : (colour : Colour) (c : Rule.Code) → List·Memᴰ c (codesOf colour) → c .word < 2 ^ (c .size)
+unfolding smallWords codesOf
+small white c m = small-at (codesOf white) tt c m
+small black c m = small-at (codesOf black) tt c m
+
+-- a code of the source spells the code of the tables that it stands for
+pub code-spells : {colour : Colour} {run : ℕ} {c : Rule.Code} {code : Code} → For colour run c → SameBits code c → Spells code (codeBits c)
+unfolding codeBits
+code-spells {colour} {c = c} f s =
+    let h = shape colour c (f .member) in
+    record {
+      sound = record {
+        some-bits = omega (arith, h .some-bits, s .same-size);
+        few-bits = omega (arith, h .few-bits, s .same-size);
+        small = rw (s .same-size, s .same-word) (small colour c (f .member));
+      };
+      bits = rw (s .same-size, s .same-word);
+    }
+
+-- ---- A run's codes
+
+-- by the counts of its codes
+module _ (colour : Colour) (n : ℕ) where
+  run-is : (q m t : ℕ) → n / (64 * mostMakeup) ≡ q → n % (64 * mostMakeup) / 64 ≡ m → n % 64 ≡ t
+      → runBits mostMakeup colour n ≡ codesBits (replicate q (makeup colour mostMakeup) ++ (wholes colour m ++ terminating colour t ∷ []))
+  unfolding runBits runCodes
+  run-is q m t e f g = rw (e, f, g)
+
+-- a run below 64 is a terminating code
+pub run-last : (colour : Colour) (n : ℕ) → n < 64 → runBits mostMakeup colour n ≡ codeBits (terminating colour n)
+unfolding codesBits
+run-last colour n h = run-is colour n 0 0 n (omega arith) (omega arith) (omega arith) ∙ append-nil (codeBits (terminating colour n))
+
+-- any other begins with the largest make-up code that it holds
+pub run-more : (colour : Colour) (n : ℕ) → 64 ≤ n
+    → runBits mostMakeup colour n ≡ codeBits (makeup colour (largest n)) ++ runBits mostMakeup colour (n - 64 * largest n)
+unfolding codesBits
+run-more colour n h = by (leb mostMakeup (n / 64)) (leb-true mostMakeup (n / 64)) (leb-false mostMakeup (n / 64))
+  where
+    long : mostMakeup ≤ n / 64 → runBits mostMakeup colour n ≡ codeBits (makeup colour mostMakeup) ++ runBits mostMakeup colour (n - 64 * mostMakeup)
+    long k =
+        let r = n - 64 * mostMakeup in
+        run-is colour n (suc (r / (64 * mostMakeup))) (r % (64 * mostMakeup) / 64) (r % 64) (omega arith) (omega arith) (omega arith)
+        ∙ ap (λ (l : List Bool). codeBits (makeup colour mostMakeup) ++ l)
+        (sym (run-is colour r (r / (64 * mostMakeup)) (r % (64 * mostMakeup) / 64) (r % 64) refl refl refl))
+
+    short : n / 64 < mostMakeup → runBits mostMakeup colour n ≡ codeBits (makeup colour (n / 64)) ++ runBits mostMakeup colour (n - 64 * (n / 64))
+    short k =
+        let e : suc (n / 64 - 1) ≡ n / 64 = omega arith in
+        let r = n - 64 * (n / 64) in
+        run-is colour n 0 (suc (n / 64 - 1)) r (omega arith) (omega arith) (omega arith)
+        ∙ ap (λ (m : ℕ). codeBits (makeup colour m) ++ codesBits (terminating colour r ∷ [])) e
+        ∙ ap (λ (l : List Bool). codeBits (makeup colour (n / 64)) ++ l) (sym (run-is colour r 0 0 r (omega arith) (omega arith) (omega arith)))
+
+    by : (b : Bool) → (b ≡ true → mostMakeup ≤ n / 64) → (b ≡ false → n / 64 < mostMakeup)
+        → runBits mostMakeup colour n
+        ≡ codeBits (makeup colour (cond b mostMakeup (n / 64))) ++ runBits mostMakeup colour (n - 64 * cond b mostMakeup (n / 64))
+    by true p q = long (p refl)
+    by false p q = short (q refl)
+
+-- there is such a code, and the run holds it
+pub record Largest (n : ℕ) : Type 0 where
+  pub some-64s : 1 ≤ largest n
+  pub in-table : largest n ≤ 40
+  pub held : 64 * largest n ≤ n
+
+pub largest-held : (n : ℕ) → 64 ≤ n → Largest n
+largest-held n h = by (leb mostMakeup (n / 64)) refl
+  where
+    by : (b : Bool) → leb mostMakeup (n / 64) ≡ b → Largest n
+    by true e = record { some-64s = rw e (omega arith); in-table = rw e (omega arith); held = rw e (omega (arith, leb-true mostMakeup (n / 64) e)) }
+    by false e =
+        let k = leb-false mostMakeup (n / 64) e in
+        record { some-64s = rw e (omega arith); in-table = rw e (omega arith); held = rw e (omega arith) }
+
+-- ---- How many bits
+
+-- a code has few, and stands for more pixels unless it is the last
+codes-few : {colour : Colour} {n : ℕ} {cs : List Rule.Code} → Made colour n cs → length (codesBits cs) ≤ 13 + n
+unfolding codesBits
+codes-few {colour} (last {c = c} f h) =
+    omega (arith, length-append (codeBits c) [], length-codeBits c, shape colour c (f .member) .few-bits)
+codes-few {colour} (next {c = c} {cs = cs} f h m) =
+    omega (arith, length-append (codeBits c) (codesBits cs), length-codeBits c, shape colour c (f .member) .few-bits, codes-few m)
+
+-- a run has few more bits than pixels
+pub run-few : (colour : Colour) (n : ℕ) → length (runBits mostMakeup colour n) ≤ 13 + n
+unfolding runBits
+run-few colour n = codes-few (made-run mostMakeup (omega arith) (omega arith) colour n)
+
+-- ---- A run of which so much is left to put
+
+module _ {write : Bool} (colour : Colour) {at : ℕ} (run : ℕ) {start : List ℕ} (room : Room write at (length (runBits mostMakeup colour run)) (length start))
+    {p : ℕ} (left : ℕ) {out : List ℕ} (owes : Owes write p (runBits mostMakeup colour left) out at (runBits mostMakeup colour run) start) {code : Code} where
+  -- a make-up code
+  module _ (h : 64 ≤ left) (m : ℕ) (e : m ≡ largest left) (s : SameBits code (makeup colour m)) where
+    spells : Spells code (codeBits (makeup colour m))
+    spells = let l = largest-held left h in code-spells (makeup-for colour m (rw e (l .some-64s)) (rw e (l .in-table))) s
+
+    rest-is : runBits mostMakeup colour left ≡ codeBits (makeup colour m) ++ runBits mostMakeup colour (left - 64 * m)
+    rest-is = rw e (run-more colour left h)
+
+    pub makeup-room : Room write p (code .size) (length out) × Sound code
+    makeup-room = first-code owes spells _ rest-is room
+
+    pub makeup-put : {r : ℕ} {out′ : List ℕ} → Puts write p (bitsFor (code .size) (code .word)) out r out′
+        → Owes write r (runBits mostMakeup colour (left - 64 * m)) out′ at (runBits mostMakeup colour run) start
+    makeup-put = owes-code owes spells _ rest-is (room .inside)
+
+  -- the terminating code
+  module _ (h : left < 64) (s : SameBits code (terminating colour left)) where
+    pub terminating-room : Room write p (code .size) (length out) × Sound code
+    terminating-room = last-code owes (code-spells (terminating-for colour left h) s) (run-last colour left h) room
+
+    pub terminating-put : {r : ℕ} {out′ : List ℕ} → Puts write p (bitsFor (code .size) (code .word)) out r out′
+        → Puts write at (runBits mostMakeup colour run) start r out′
+    terminating-put = puts-all owes (code-spells (terminating-for colour left h) s) (run-last colour left h)

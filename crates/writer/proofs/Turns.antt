@@ -1,0 +1,217 @@
+-- One code of a 2D line, by its three cases: what it takes the place of, how far it goes, and how many bits it has. Assumes nothing.
+use mathlib.Core.Path.{_≡_, refl}
+use mathlib.Core.Bool.{Bool, true, false, _&&_}
+use mathlib.Core.List.{List, [], _∷_, _++_, append-assoc}
+use Prim.Native.Nat.{ℕ, zero, suc, _+_, _-_, _*_, _≤_, _<_}
+use native.Mathlib.Omega.{arith}
+use lib.Dec.{eqb, leb, ltb}
+use lib.ListN.{length, length-append}
+use borrow.Author.Tests.{lt-ltb, le-ltb, ne-eqb, eq-eqb, ltb-true, ltb-false, leb-true, leb-false}
+use Rattle.rules.specs.Codes.{Colour, white, black, opposite, differ}
+use Rattle.rules.specs.Modes.{Mode, pass, horizontal, VR, VL, modeBits}
+use Rattle.rules.specs.Lines.{rightOfA0, fromB1, headOr, tail, b1, b2}
+use Rattle.rules.specs.Write.{mostMakeup, runBits, verticalTo, near, bits2D, lineBits}
+use Rattle.rules.proofs.Ascending.{Rising, none, some, rises-lower, head-low, head-fits, tail-rises}
+use Rattle.writer.specs.Coding.{across, lineOf}
+use Rattle.writer.proofs.RunCodes.{run-few}
+
+-- ---- Places
+
+-- changes that rise and lie behind a position rise from behind it
+above : {width low q : ℕ} {xs : List ℕ} → q < headOr width xs → Rising width low xs → Rising width (suc q) xs
+above h none = none
+above h (some k l r) = some h l r
+
+-- the changes from b1 on rise from its least place
+found-rises : (colour : Colour) (least : ℕ) (turns : Colour) {width low : ℕ} {xs : List ℕ} → Rising width low xs
+    → Rising width least (fromB1 colour least turns xs)
+unfolding fromB1
+found-rises colour least turns none = none
+found-rises colour least turns {width} (some {x = x} {xs = xs} k l r) =
+    tests (leb least x) refl (differ turns colour) (found-rises colour least (opposite turns) r)
+  where
+    tests : (b : Bool) → leb least x ≡ b → (d : Bool) → Rising width least (fromB1 colour least (opposite turns) xs)
+        → Rising width least (elim (b && d) as (λ _. List ℕ) [ true ↦ x ∷ xs | false ↦ fromB1 colour least (opposite turns) xs ])
+    tests true e true ih = some (leb-true least x e) l r
+    tests true e false ih = ih
+    tests false e d ih = ih
+
+-- so b2, where there is one, lies behind a0
+b2-behind : {width : ℕ} {reference : List ℕ} → Rising width 0 reference → (p : ℕ) (c : Colour) → b2 width reference p c < width → p < b2 width reference p c
+unfolding rightOfA0
+b2-behind {width} r p c = second (found-rises c (rightOfA0 p) black r) (right p)
+  where
+    right : (p : ℕ) → p ≤ rightOfA0 p
+    right zero = omega arith
+    right (suc p) = omega arith
+
+    second : {least : ℕ} {xs : List ℕ} → Rising width least xs → p ≤ least → headOr width (tail xs) < width → p < headOr width (tail xs)
+    second none h k = absurd (omega arith)
+    second (some _ _ none) h k = absurd (omega arith)
+    second (some l _ (some k _ _)) h _ = omega arith
+
+-- what is left of a line: positions and changes
+abbrev pub leftOver : ℕ → ℕ → List ℕ → ℕ
+leftOver width p rest = (width - p) + length rest
+
+-- to the next change it is no more,
+no-longer : {width p : ℕ} {xs : List ℕ} → p ≤ width → Rising width p xs → leftOver width (headOr width xs) (tail xs) ≤ leftOver width p xs
+no-longer h none = omega arith
+no-longer h (some k l r) = omega arith
+
+-- and less before the width
+shorter : {width p : ℕ} {xs : List ℕ} → p < width → Rising width p xs → leftOver width (headOr width xs) (tail xs) < leftOver width p xs
+shorter h none = omega arith
+shorter h (some k l r) = omega arith
+
+-- ---- A mode's bits
+
+-- no mode has more
+mode-few : (m : Mode) → length (modeBits m) ≤ 7
+unfolding modeBits
+mode-few pass = omega arith
+mode-few horizontal = omega arith
+mode-few (VR zero) = omega arith
+mode-few (VR (suc zero)) = omega arith
+mode-few (VR (suc (suc zero))) = omega arith
+mode-few (VR (suc (suc (suc zero)))) = omega arith
+mode-few (VR (suc (suc (suc (suc k))))) = omega arith
+mode-few (VL zero) = omega arith
+mode-few (VL (suc zero)) = omega arith
+mode-few (VL (suc (suc zero))) = omega arith
+mode-few (VL (suc (suc (suc zero)))) = omega arith
+mode-few (VL (suc (suc (suc (suc k))))) = omega arith
+
+-- ---- A code
+
+module _ (width : ℕ) (reference : List ℕ) where
+  -- at position p in colour c, with the changes `rest` left, the bits xs come next, and then those at p′ in c′ with rest′
+  pub record Turn (c : Colour) (p : ℕ) (rest : List ℕ) (xs : List Bool) (c′ : Colour) (p′ : ℕ) (rest′ : List ℕ) : Type 0 where
+    pub bits : (n : ℕ) → bits2D mostMakeup width reference (suc n) c p rest ≡ xs ++ bits2D mostMakeup width reference n c′ p′ rest′
+    pub on : p ≤ p′
+    pub fits : p′ ≤ width
+    pub rises : Rising width p′ rest′
+    pub less : leftOver width p′ rest′ < leftOver width p rest
+    pub few : length xs ≤ 33 + (p′ - p)
+
+  -- at the width no bits come
+  pub bits-end : (n : ℕ) (c : Colour) (p : ℕ) (rest : List ℕ) → p ≡ width → bits2D mostMakeup width reference n c p rest ≡ []
+  unfolding bits2D
+  bits-end zero c p rest e = refl
+  bits-end (suc n) c p rest e = rw (eq-eqb p width e, bits2D)
+
+  module _ (c : Colour) (p : ℕ) (rest : List ℕ) (h : p < width) (r : Rising width p rest) where
+    abbrev B1 : ℕ
+    B1 = b1 width reference p c
+
+    abbrev B2 : ℕ
+    B2 = b2 width reference p c
+
+    abbrev A1 : ℕ
+    A1 = headOr width rest
+
+    abbrev A2 : ℕ
+    A2 = headOr width (tail rest)
+
+    -- a1 lies at the position or behind it, and the later changes behind a1
+    before : eqb p width ≡ false
+    before = ne-eqb p width (λ e. omega arith)
+
+    low : p ≤ A1
+    low = head-low (omega arith) r
+
+    after : Rising width A1 (tail rest)
+    after = rises-lower (omega arith) (tail-rises r)
+
+    -- pass, where b2 lies before a1
+    pub pass-turn : Rising width 0 reference → B2 < A1 → Turn c p rest (modeBits pass) c B2 rest
+    unfolding bits2D
+    pass-turn rises k =
+        let f = head-fits r in
+        let g = b2-behind rises p c (omega arith) in
+        record {
+          bits = λ n. rw (before, lt-ltb B2 A1 k, bits2D);
+          on = omega arith;
+          fits = omega arith;
+          rises = rises-lower (omega arith) (above k r);
+          less = omega arith;
+          few = omega (arith, mode-few pass);
+        }
+
+    module _ (k : A1 ≤ B2) where
+      -- vertical, where a1 is near b1
+      pub vertical-turn : near B1 A1 ≡ true → Turn c p rest (modeBits (verticalTo B1 A1)) (opposite c) A1 (tail rest)
+      unfolding bits2D
+      vertical-turn e = record {
+        bits = λ n. rw (before, le-ltb B2 A1 k, e, bits2D);
+        on = low;
+        fits = head-fits r;
+        rises = after;
+        less = shorter h r;
+        few = omega (arith, mode-few (verticalTo B1 A1));
+      }
+
+      -- horizontal, where it is not
+      pub horizontal-turn : near B1 A1 ≡ false → Turn c p rest (across c (A1 - p) (A2 - A1)) c A2 (tail (tail rest))
+      unfolding bits2D across
+      horizontal-turn e =
+          let l = low in
+          let m = head-low (head-fits r) after in
+          record {
+            bits = λ n. rw (before, le-ltb B2 A1 k, e, bits2D) (simp append-assoc);
+            on = omega arith;
+            fits = head-fits after;
+            rises = rises-lower (omega arith) (tail-rises after);
+            less = omega (arith, shorter h r, no-longer (head-fits r) after);
+            few =
+                omega (
+                  arith,
+                  length-append (modeBits horizontal) (runBits mostMakeup c (A1 - p) ++ runBits mostMakeup (opposite c) (A2 - A1)),
+                  length-append (runBits mostMakeup c (A1 - p)) (runBits mostMakeup (opposite c) (A2 - A1)),
+                  mode-few horizontal,
+                  run-few c (A1 - p),
+                  run-few (opposite c) (A2 - A1),
+                );
+          }
+
+  -- ---- How many bits
+
+  -- before the width there is always a code
+  data Next (c : Colour) (p : ℕ) (rest : List ℕ) : Type 0 where
+    by : {xs : List Bool} {c′ : Colour} {p′ : ℕ} {rest′ : List ℕ} → Turn c p rest xs c′ p′ rest′ → Next c p rest
+
+  next-turn : Rising width 0 reference → (c : Colour) (p : ℕ) (rest : List ℕ) → p < width → Rising width p rest → Next c p rest
+  next-turn rises c p rest h r =
+      tests (ltb (b2 width reference p c) (headOr width rest)) refl (near (b1 width reference p c) (headOr width rest)) refl
+    where
+      tests : (b : Bool) → ltb (b2 width reference p c) (headOr width rest) ≡ b → (d : Bool) → near (b1 width reference p c) (headOr width rest) ≡ d
+          → Next c p rest
+      tests true e d f = by (pass-turn c p rest h r rises (ltb-true (b2 width reference p c) (headOr width rest) e))
+      tests false e true f = by (vertical-turn c p rest h r (ltb-false (b2 width reference p c) (headOr width rest) e) f)
+      tests false e false f = by (horizontal-turn c p rest h r (ltb-false (b2 width reference p c) (headOr width rest) e) f)
+
+  -- few to each code, and one to each position
+  abbrev Few : ℕ → Type 0
+  Few n =
+      (c : Colour) (p : ℕ) (rest : List ℕ) → p ≤ width → Rising width p rest → length (bits2D mostMakeup width reference n c p rest) ≤ 33 * n + (width - p)
+
+  bits-few : Rising width 0 reference → (n : ℕ) → Few n
+  unfolding bits2D
+  bits-few rises zero c p rest k r = omega arith
+  bits-few rises (suc n) c p rest k r = tests (bits-few rises n) (leb width p) (leb-true width p) (leb-false width p)
+    where
+      later : Few n → Next c p rest → length (bits2D mostMakeup width reference (suc n) c p rest) ≤ 33 * suc n + (width - p)
+      later ih (by {xs} {c′} {p′} {rest′} t) =
+          rw (t .bits n)
+          (omega (arith, length-append xs (bits2D mostMakeup width reference n c′ p′ rest′), ih c′ p′ rest′ (t .fits) (t .rises), t .few, t .on, t .fits))
+
+      tests : Few n → (b : Bool) → (b ≡ true → width ≤ p) → (b ≡ false → p < width)
+          → length (bits2D mostMakeup width reference (suc n) c p rest) ≤ 33 * suc n + (width - p)
+      tests ih true f g = rw (bits-end (suc n) c p rest (omega (arith, f refl))) (omega arith)
+      tests ih false f g = later ih (next-turn rises c p rest (g refl) r)
+
+-- a line's bits can be counted
+pub line-few : (width : ℕ) (reference row : List ℕ) → Rising width 0 reference → Rising width 0 row
+    → length (lineOf width reference row) ≤ 34 * width + 33 * length row + 33
+unfolding lineBits
+line-few width reference row rises rises′ = omega (arith, bits-few width reference rises (suc (width + length row)) white 0 row (omega arith) rises′)

@@ -1,0 +1,49 @@
+-- What the writers of runs, modes and lines ask for and put.
+use mathlib.Core.Bool.{Bool, cond}
+use mathlib.Core.List.{List, _++_}
+use Prim.Native.Nat.{ℕ, zero, suc, _+_, _-_, _/_, _<_}
+use lib.Dec.{leb}
+use lib.ListN.{length}
+use Rattle.rules.specs.Codes.{Colour, opposite}
+use Rattle.rules.specs.Modes.{horizontal, modeBits}
+use Rattle.rules.specs.Lines.{two}
+use Rattle.rules.specs.Write.{mostMakeup, runBits, lineBits}
+use Rattle.rules.proofs.Ascending.{Rising}
+use Rattle.tables.specs.Tables.{Terminating, Makeup}
+use Rattle.writer.specs.Putting.{Room}
+
+-- the code tables, as a writer is lent them
+pub record Lent (wt bt wm bm common : List (List ℕ)) : Type 0 where
+  pub terminating : Terminating wt bt
+  pub makeup : Makeup wm bm common
+
+-- how many 64s the largest make-up code has that a run holds
+abbrev pub largest : ℕ → ℕ
+largest run = cond (leb mostMakeup (run / 64)) mostMakeup (run / 64)
+
+-- how far a1 lies from b1: one of the differences is 0
+abbrev pub apart : ℕ → ℕ → ℕ
+apart b1 a1 = (a1 - b1) + (b1 - a1)
+
+-- how many bits a vertical code has
+abbrev pub verticalSize : ℕ → ℕ
+verticalSize zero = 1
+verticalSize (suc zero) = 3
+verticalSize (suc (suc zero)) = 6
+verticalSize (suc (suc (suc k))) = 7
+
+-- the bits of a horizontal code with its two runs
+unfoldable pub across : Colour → ℕ → ℕ → List Bool
+across colour first second = modeBits horizontal ++ (runBits mostMakeup colour first ++ runBits mostMakeup (opposite colour) second)
+
+-- the bits of a line
+abbrev pub lineOf : ℕ → List ℕ → List ℕ → List Bool
+lineOf width reference row = lineBits mostMakeup width (two reference) row
+
+-- a line that can be put from bit `at` on
+pub record Lined (write : Bool) (width : ℕ) (reference row : List ℕ) (at bytes : ℕ) : Type 0 where
+  pub wide : 0 < width
+  pub narrow : width < 4294967295
+  pub rises : Rising width 0 reference
+  pub rises′ : Rising width 0 row
+  pub room : Room write at (length (lineOf width reference row)) bytes

@@ -1,0 +1,5 @@
+-- What the contracts cite.
+pub mod Putting
+pub mod Coding
+pub mod Paging
+pub mod Outcome

@@ -1,0 +1,163 @@
+// A 2D line: the code at each position, to the width.
+use crate::answer;
+use crate::ink;
+use crate::mode;
+use crate::run;
+use context::reference;
+use error::Answer;
+ghost use mathlib.Core.Bool.{false};
+ghost use mathlib.Core.Path.{_≡_};
+ghost use Prim.Native.Nat.{_≤_};
+ghost use lib.ListN.{length, drop};
+ghost use Rattle.rules.specs.Lines.{headOr};
+ghost use Rattle.rules.specs.Pages.{mostBytes};
+ghost use Rattle.rules.specs.Write.{mostMakeup, writeLine};
+ghost use Rattle.tables.specs.Tables.{colourOf};
+ghost use Rattle.writer.specs.Putting.{Room, Puts};
+ghost use Rattle.writer.specs.Coding.{Lent, across, lineOf, Lined};
+ghost use Rattle.writer.specs.Outcome.{Answers};
+
+// The change at a place, or the width where there is none.
+fn change_or(changes: &[u32], place: usize, width: u32) -> u32
+    ensures { λ r. ⌜ r ≡ headOr width (drop place (now (changes .entry))) ⌝ }
+{
+    if place < changes.len() {
+        return changes[place];
+    }
+    width
+}
+
+// The two runs of a horizontal code, in the line's colour and in the other.
+fn put_horizontal<'a>(
+    wt: &'a [[u16; 3]; 64],
+    bt: &'a [[u16; 3]; 64],
+    wm: &'a [[u16; 3]; 27],
+    bm: &'a [[u16; 3]; 27],
+    common: &'a [[u16; 3]; 13],
+    colour: u32,
+    first: u32,
+    second: u32,
+    out: &mut [u8],
+    at: usize,
+    write: bool,
+) -> usize
+    requires { ⌜ Lent (now wt) (now bt) (now wm) (now bm) (now common) × (colour ≤ 1) × Room write at (length (across (colourOf colour) first second)) (length (now out)) ⌝ }
+    ensures { λ r. ⌜ Puts write at (across (colourOf colour) first second) (now (out .entry)) r (now (out .exit)) ⌝ }
+{
+    let next = ink::put(out, at, mode::horizontal(), write);
+    let middle = run::put_run(wt, bt, wm, bm, common, colour, first, out, next, write);
+    run::put_run(
+        wt,
+        bt,
+        wm,
+        bm,
+        common,
+        1 - colour,
+        second,
+        out,
+        middle,
+        write,
+    )
+}
+
+// The bit after a row's codes, which begin at bit `at`; they are written only where `write` says so.
+pub fn put_line<'a>(
+    wt: &'a [[u16; 3]; 64],
+    bt: &'a [[u16; 3]; 64],
+    wm: &'a [[u16; 3]; 27],
+    bm: &'a [[u16; 3]; 27],
+    common: &'a [[u16; 3]; 13],
+    width: u32,
+    reference: &[u32],
+    row: &[u32],
+    out: &mut [u8],
+    at: usize,
+    write: bool,
+) -> usize
+    requires { ⌜ Lent (now wt) (now bt) (now wm) (now bm) (now common) × Lined write width (now reference) (now row) at (length (now out)) ⌝ }
+    ensures { λ r. ⌜ Puts write at (lineOf width (now (reference .entry)) (now (row .entry))) (now (out .entry)) r (now (out .exit)) ⌝ }
+{
+    let mut next = at;
+    let mut position: u32 = 0;
+    let mut colour: u32 = 0;
+    let mut place: usize = 0;
+    let mut seen: usize = 0;
+    while position < width {
+        let found = reference::find(reference, seen, width, position, colour);
+        let a1 = change_or(row, place, width);
+        seen = found.seen;
+        if found.b2 < a1 {
+            next = ink::put(out, next, mode::pass(), write);
+            position = found.b2;
+            continue;
+        }
+        if mode::distance(found.b1, a1) <= 3 {
+            next = ink::put(out, next, mode::vertical(found.b1, a1), write);
+            position = a1;
+            colour = 1 - colour;
+            place += 1;
+            continue;
+        }
+        let a2 = change_or(row, place + 1, width);
+        let first = a1 - position;
+        let second = a2 - a1;
+        next = put_horizontal(
+            wt,
+            bt,
+            wm,
+            bm,
+            common,
+            colour,
+            first,
+            second,
+            out,
+            next,
+            write,
+        );
+        position = a2;
+        place += 2;
+    }
+    next
+}
+
+// 9 or 0: the line is counted, and written only where it fits. The tables are made once, here.
+pub fn write(columns: u32, reference: &[u32], row: &[u32], out: &mut [u8], at: usize) -> Answer
+    requires { ⌜ Lined false columns (now reference) (now row) at (length (now out)) × (length (now out) ≤ mostBytes) ⌝ }
+    ensures { λ r. ⌜ Answers (writeLine mostMakeup columns (now (reference .entry)) (now (row .entry)) (now (out .entry)) at) (now (out .entry)) r (now (out .exit)) ⌝ }
+{
+    let wt = tables::white_terminating();
+    let bt = tables::black_terminating();
+    let wm = tables::white_makeup();
+    let bm = tables::black_makeup();
+    let common = tables::common_makeup();
+    let end = put_line(
+        &wt,
+        &bt,
+        &wm,
+        &bm,
+        &common,
+        columns,
+        reference,
+        row,
+        out,
+        at,
+        false,
+    );
+    if 8 * out.len() < end {
+        return error::refusal(9);
+    }
+    put_line(
+        &wt,
+        &bt,
+        &wm,
+        &bm,
+        &common,
+        columns,
+        reference,
+        row,
+        out,
+        at,
+        true,
+    );
+    answer::done(end)
+}
