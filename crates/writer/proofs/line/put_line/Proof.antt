@@ -63,8 +63,8 @@ loop-again c =
     let k2 = k1 .before .before .before .before in
     let k3 = k2 .before .before .before .before .before in
     turn-put (k2 .before .loop .inv) (k3 .pre .1) _ (passes (k2 .before .loop .inv) (k3 .pre .1) (k2 .loop-test .taken)
-    (k1 .before .before .before .find .ensures) (k1 .before .before .change-or .ensures) (k1 .if1 .taken)) refl (k2 .before .loop .inv .coloured) (omega
-    arith) (k1 .before .before .before .find .ensures .passed) (code-puts (c .before .before .before .pass .ensures) (c .before .before .put .ensures))
+    (k1 .before .before .before .find .ensures) (k1 .before .before .change-or .ensures) (k1 .if1 .taken)) refl (k2 .before .loop .inv .coloured)
+    (omega arith) (k1 .before .before .before .find .ensures .passed) (code-puts (c .before .before .before .pass .ensures) (c .before .before .put .ensures))
 
 distance-requires : tie.Need-distance-requires Inv-loop μ-loop
 distance-requires c κs = search needs

@@ -1,0 +1,227 @@
+-- Demand 1 is met. Assumes nothing.
+use mathlib.Core.Path.{_≡_, refl, sym, ap, ap₂, _∙_, subst, subst₂}
+use mathlib.Core.Logic.{_↔_}
+use mathlib.Core.Bool.{Bool, true, false}
+use mathlib.Core.List.{List, [], _++_, append-assoc, append-nil}
+use Prim.Native.Nat.{ℕ, zero, suc, _+_, _*_, _≤_, _<_}
+use native.Mathlib.Omega.{arith}
+use lib.Dec.{eqb, ltb}
+use lib.ListN.{length, take, drop, length-append}
+use lib.Seq.{take-at, drop-at}
+use borrow.Author.Tests.{eqb-true, eqb-false, ltb-true, ltb-false}
+use Rattle.rules.specs.Bits.{bitsOf}
+use Rattle.rules.specs.Pages as Page
+use Rattle.rules.specs.Pages.{mostBytes, tooWide, entries, joined, endsFrom, overlaid, decode, readPage, changesAfter, endsAfter}
+use Rattle.rules.specs.Write.{rowsIn}
+use Rattle.rules.proofs.Bits.{length-bitsOf}
+use Rattle.rules.proofs.Budget.{Bytes}
+use Rattle.rules.proofs.PageBack.{Rows, no-rows}
+use Rattle.rules.proofs.Pages.{Answered, read-answered}
+use Rattle.rules.proofs.MoreRoom.{decode-stays}
+use Rattle.rules.proofs.Store.{length-joined, length-ends, rows-back}
+use Rattle.error.specs.Error.{answerOf}
+use Rattle.error.specs.declared.Answer.{Answer}
+use Rattle.rows.specs.declared.DecodeSettings.{DecodeSettings}
+use Rattle.rows.specs.Settings.{settingsOf}
+use Rattle.ccitt.specs.Decode.{Gives, Decodes}
+use Rattle.promises.specs.Demand1.{Listed, Refused, Stored, DecodeAnswers, MoreRoom}
+
+-- ---- The rules' answer, by the tests
+
+-- a refusal; or the page's answer, once 6 and 7 are passed and the columns are not 0
+data Said (settings : DecodeSettings) (bytes changes ends : List ℕ) : Page.Answer → Type 0 where
+  is-six : settings .columns ≡ 4294967295 → Said settings bytes changes ends (Page.refusal 6)
+  is-seven : (settings .columns ≡ 4294967295 → ⊥) → mostBytes < length bytes → Said settings bytes changes ends (Page.refusal 7)
+  no-columns : (settings .columns ≡ 4294967295 → ⊥) → length bytes ≤ mostBytes → Said settings bytes changes ends (Page.refusal 0)
+  is-read : (settings .columns ≡ 4294967295 → ⊥) → length bytes ≤ mostBytes → (settings .columns ≡ 0 → ⊥)
+      → Said settings bytes changes ends (readPage (settingsOf settings) (bitsOf bytes) (length changes) (length ends))
+
+said : (settings : DecodeSettings) (bytes changes ends : List ℕ) → Said settings bytes changes ends (decode (settingsOf settings) bytes (length changes) (length ends))
+unfolding decode
+said settings bytes changes ends = tests (tooWide (settings .columns)) (eqb-true _ _) (eqb-false _ _) (ltb mostBytes (length bytes)) (ltb-true _ _) (ltb-false _ _) (eqb (settings .columns) 0) (eqb-false _ _)
+  where
+    tests : (a : Bool) → (a ≡ true → settings .columns ≡ 4294967295) → (a ≡ false → settings .columns ≡ 4294967295 → ⊥)
+        → (b : Bool) → (b ≡ true → mostBytes < length bytes) → (b ≡ false → length bytes ≤ mostBytes)
+        → (c : Bool) → (c ≡ false → settings .columns ≡ 0 → ⊥)
+        → Said settings bytes changes ends (elim a as (λ _. Page.Answer) [
+          | true ↦ Page.refusal 6
+          | false ↦ elim b as (λ _. Page.Answer) [
+            | true ↦ Page.refusal 7
+            | false ↦ elim c as (λ _. Page.Answer) [ true ↦ Page.refusal 0 | false ↦ readPage (settingsOf settings) (bitsOf bytes) (length changes) (length ends) ]
+          ]
+        ])
+    tests true p q b r s c t = is-six (p refl)
+    tests false p q true r s c t = is-seven (q refl) (r refl)
+    tests false p q false r s true t = no-columns (q refl) (s refl)
+    tests false p q false r s false t = is-read (q refl) (s refl) (t refl)
+
+-- ---- What holds of every answer of the rules
+
+pub record Fine (settings : DecodeSettings) (bytes changes ends : List ℕ) (a : Page.Answer) : Type 0 where
+  pub at-most-7 : a .number ≤ 7
+  pub six : (a .number ≡ 6) ↔ (settings .columns ≡ 4294967295)
+  pub seven : (a .number ≡ 7) ↔ ((settings .columns ≡ 4294967295 → ⊥) × (mostBytes < length bytes))
+  pub refused : 6 ≤ a .number → a ≡ Page.refusal (a .number)
+  pub rows-fit : length (a .rows) ≤ length ends
+  pub entries-fit : entries (a .rows) + length (a .loose) ≤ length changes
+  pub rising : Rows (settings .columns) (a .rows)
+  pub clean : a .number ≡ 0 → a .loose ≡ []
+  pub few-rows : length (a .rows) ≤ 8 * length bytes + 1
+
+fine : {settings : DecodeSettings} {bytes changes ends : List ℕ} {a : Page.Answer} → settings .columns ≤ 4294967295 → Said settings bytes changes ends a → Fine settings bytes changes ends a
+unfolding entries
+fine h (is-six e) = record {
+  at-most-7 = omega arith;
+  six = ((λ q. e), λ q. refl);
+  seven = ((λ q. absurd (omega arith)), λ q. absurd (q .0 e));
+  refused = λ q. refl;
+  rows-fit = omega arith;
+  entries-fit = omega arith;
+  rising = no-rows;
+  clean = λ q. refl;
+  few-rows = omega arith;
+}
+fine h (is-seven n l) = record {
+  at-most-7 = omega arith;
+  six = ((λ q. absurd (omega arith)), λ q. absurd (n q));
+  seven = ((λ q. (n, l)), λ q. refl);
+  refused = λ q. refl;
+  rows-fit = omega arith;
+  entries-fit = omega arith;
+  rising = no-rows;
+  clean = λ q. refl;
+  few-rows = omega arith;
+}
+fine h (no-columns n l) = record {
+  at-most-7 = omega arith;
+  six = ((λ q. absurd (omega arith)), λ q. absurd (n q));
+  seven = ((λ q. absurd (omega arith)), λ q. absurd (omega (arith, q .1)));
+  refused = λ q. refl;
+  rows-fit = omega arith;
+  entries-fit = omega arith;
+  rising = no-rows;
+  clean = λ q. refl;
+  few-rows = omega arith;
+}
+fine {settings} {bytes} {changes} {ends} h (is-read n l z) =
+    let w : 0 < settings .columns = positive (settings .columns) z in
+    let b : Bytes (bitsOf bytes) = record { count = length bytes; whole = length-bitsOf bytes } in
+    let a = read-answered (settingsOf settings .encoding) (settingsOf settings) w (bitsOf bytes) b (length changes) (length ends) refl in
+    record {
+      at-most-7 = omega (arith, a .numbered);
+      six = ((λ q. absurd (omega (arith, a .numbered))), λ q. absurd (n q));
+      seven = ((λ q. absurd (omega (arith, a .numbered))), λ q. absurd (omega (arith, q .1)));
+      refused = λ q. absurd (omega (arith, a .numbered));
+      rows-fit = a .placed;
+      entries-fit = a .roomy;
+      rising = a .rising;
+      clean = a .clean;
+      few-rows = omega (arith, a .few-rows, length-bitsOf bytes);
+    }
+  where
+    positive : (n : ℕ) → (n ≡ 0 → ⊥) → 0 < n
+    positive zero z = absurd (z refl)
+    positive (suc n) z = omega arith
+
+-- ---- The answer and the arrays that an answer of the rules permits
+
+module _ (a : Page.Answer) (changes ends : List ℕ) (r : Answer) (changes′ ends′ : List ℕ) (given : Gives a changes ends r changes′ ends′) where
+  number-is : r .number ≡ a .number
+  number-is = ap (λ (x : Answer). x .number) (given .answer)
+
+  rows-are : r .rows ≡ length (a .rows)
+  rows-are = ap (λ (x : Answer). x .rows) (given .answer)
+
+  entries-are : r .entries ≡ entries (a .rows)
+  entries-are = ap (λ (x : Answer). x .entries) (given .answer)
+
+  loose-is : r .loose ≡ length (a .loose)
+  loose-is = ap (λ (x : Answer). x .loose) (given .answer)
+
+  -- everything that was stored is as long as the counts say
+  front-length : length (joined (a .rows) ++ a .loose) ≡ r .entries + r .loose
+  front-length = length-append (joined (a .rows)) (a .loose) ∙ ap₂ (λ (x y : ℕ). x + y) (length-joined (a .rows) ∙ sym entries-are) (sym loose-is)
+
+  ends-length : length (endsFrom 0 (a .rows)) ≡ r .rows
+  ends-length = length-ends 0 (a .rows) ∙ sym rows-are
+
+  changes-are : changes′ ≡ (joined (a .rows) ++ a .loose) ++ drop (length (joined (a .rows) ++ a .loose)) changes
+  unfolding changesAfter overlaid
+  changes-are = given .changes
+
+  ends-are : ends′ ≡ endsFrom 0 (a .rows) ++ drop (length (endsFrom 0 (a .rows))) ends
+  unfolding endsAfter overlaid
+  ends-are = given .ends
+
+  pub changes-front : take (r .entries + r .loose) changes′ ≡ joined (a .rows) ++ a .loose
+  changes-front = ap (take (r .entries + r .loose)) changes-are ∙ take-at (joined (a .rows) ++ a .loose) _ (r .entries + r .loose) front-length
+
+  pub ends-front : take (r .rows) ends′ ≡ endsFrom 0 (a .rows)
+  ends-front = ap (take (r .rows)) ends-are ∙ take-at (endsFrom 0 (a .rows)) _ (r .rows) ends-length
+
+  later-changes : drop (r .entries + r .loose) changes′ ≡ drop (r .entries + r .loose) changes
+  later-changes = ap (drop (r .entries + r .loose)) changes-are ∙ drop-at (joined (a .rows) ++ a .loose) _ (r .entries + r .loose) front-length ∙ ap (λ (n : ℕ). drop n changes) front-length
+
+  later-ends : drop (r .rows) ends′ ≡ drop (r .rows) ends
+  later-ends = ap (drop (r .rows)) ends-are ∙ drop-at (endsFrom 0 (a .rows)) _ (r .rows) ends-length ∙ ap (λ (n : ℕ). drop n ends) ends-length
+
+  -- the rows that lie in the store are the answer's
+  pub in-store : rowsIn 0 changes′ (take (r .rows) ends′) ≡ a .rows
+  in-store =
+      ap₂ (λ (x y : List ℕ). rowsIn 0 x y) (changes-are ∙ append-assoc (joined (a .rows)) (a .loose) (drop (length (joined (a .rows) ++ a .loose)) changes)) ends-front
+      ∙ rows-back (a .rows) (a .loose ++ drop (length (joined (a .rows) ++ a .loose)) changes)
+
+  module _ (settings : DecodeSettings) (bytes : List ℕ) (f : Fine settings bytes changes ends a) where
+    listed : Listed bytes settings changes ends r changes′ ends′
+    listed = record {
+      at-most-7 = omega (arith, number-is, f .at-most-7);
+      six = ((λ q. f .six .0 (sym number-is ∙ q)), λ q. number-is ∙ f .six .1 q);
+      seven = ((λ q. f .seven .0 (sym number-is ∙ q)), λ q. number-is ∙ f .seven .1 q);
+    }
+
+    refused : 6 ≤ r .number → Refused bytes settings changes ends r changes′ ends′
+    unfolding changesAfter endsAfter overlaid joined endsFrom entries
+    refused h =
+        let e = f .refused (omega (arith, number-is)) in
+        record {
+          same-changes = given .changes ∙ ap (λ (x : Page.Answer). changesAfter x changes) e;
+          same-ends = given .ends ∙ ap (λ (x : Page.Answer). endsAfter x ends) e;
+          counts = (rows-are ∙ ap (λ (x : Page.Answer). length (x .rows)) e, entries-are ∙ ap (λ (x : Page.Answer). entries (x .rows)) e, loose-is ∙ ap (λ (x : Page.Answer). length (x .loose)) e, ap (λ (x : Answer). x .bytes) (given .answer) ∙ ap (λ (x : Page.Answer). x .bytes) e);
+        }
+
+    stored : Stored bytes settings changes ends r changes′ ends′
+    stored = record {
+      rows-fit = omega (arith, rows-are, f .rows-fit);
+      entries-fit = omega (arith, entries-are, loose-is, f .entries-fit);
+      rising = subst (Rows (settings .columns)) (sym in-store) (f .rising);
+      later-changes = later-changes;
+      later-ends = later-ends;
+      clean = λ q. loose-is ∙ ap length (f .clean (sym number-is ∙ q));
+      few-rows = omega (arith, rows-are, f .few-rows);
+    }
+
+-- Demand 1, for the page form.
+pub decode-answers : DecodeAnswers
+decode-answers bytes settings changes ends r changes′ ends′ h called =
+    let f = fine h (said settings bytes changes ends) in
+    (listed _ changes ends r changes′ ends′ called settings bytes f, refused _ changes ends r changes′ ends′ called settings bytes f, stored _ changes ends r changes′ ends′ called settings bytes f)
+
+-- More room never changes an answer from 0 to 3.
+pub more-room : MoreRoom
+more-room bytes settings changes ends larger-changes larger-ends r s changes′ ends′ larger-changes′ larger-ends′ hc he called later n =
+    (is, fronts, row-fronts)
+  where
+    same : decode (settingsOf settings) bytes (length larger-changes) (length larger-ends) ≡ decode (settingsOf settings) bytes (length changes) (length ends)
+    same = decode-stays (settingsOf settings) (length changes) (length larger-changes) (length ends) (length larger-ends) hc he bytes (omega (arith, number-is _ changes ends r changes′ ends′ called))
+
+    is : s ≡ r
+    is = later .answer ∙ ap answerOf same ∙ sym (called .answer)
+
+    large : Gives (decode (settingsOf settings) bytes (length changes) (length ends)) larger-changes larger-ends r larger-changes′ larger-ends′
+    large = subst₂ (λ (x : Page.Answer) (y : Answer). Gives x larger-changes larger-ends y larger-changes′ larger-ends′) same is later
+
+    fronts : take (r .entries + r .loose) larger-changes′ ≡ take (r .entries + r .loose) changes′
+    fronts = changes-front _ larger-changes larger-ends r larger-changes′ larger-ends′ large ∙ sym (changes-front _ changes ends r changes′ ends′ called)
+
+    row-fronts : take (r .rows) larger-ends′ ≡ take (r .rows) ends′
+    row-fronts = ends-front _ larger-changes larger-ends r larger-changes′ larger-ends′ large ∙ sym (ends-front _ changes ends r changes′ ends′ called)

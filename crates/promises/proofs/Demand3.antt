@@ -1,0 +1,206 @@
+-- Demand 3 is met: by the rules' laws on reading back, over the contracts of the four functions. Assumes nothing.
+use mathlib.Core.Path.{_≡_, refl, sym, ap, ap₂, _∙_, subst}
+use mathlib.Core.Logic.{_⊎_, inl, inr, ⊎-elim}
+use mathlib.Core.Bool.{Bool, true, false, _&&_}
+use mathlib.Core.List.{List, [], _∷_, _++_, append-assoc, append-nil}
+use Prim.Native.Nat.{ℕ, zero, suc, _+_, _-_, _*_, _/_, _≤_, _<_}
+use native.Mathlib.Omega.{arith}
+use lib.Dec.{leb, ltb}
+use lib.ListN.{length, take, drop, length-append, take-append-drop}
+use lib.Seq.{take-at, take-append-le, length-take-le}
+use borrow.Author.Tests.{ltb-false}
+use Rattle.rules.specs.Bits.{bitsOf}
+use Rattle.rules.specs.Rows.{bytesTo}
+use Rattle.rules.specs.Lines.{two}
+use Rattle.rules.specs.Pages as Page
+use Rattle.rules.specs.Pages.{mostBytes, noLine, ascends, entries, joined, overlaid, decode, readOneLine, changesAfter}
+use Rattle.rules.specs.Write.{mostMakeup, lineBits, pageBits, rowsIn, endsRise, allAscend, writeLine, writePage, Written, unwritten, writtenAt}
+use Rattle.rules.proofs.Bits.{length-bitsOf}
+use Rattle.rules.proofs.Ascending.{Rising}
+use Rattle.rules.proofs.PageBack.{Rows, Plain, whole}
+use Rattle.rules.proofs.ReadBack.{rows-same}
+use Rattle.rules.proofs.RoundTrip.{line-returns, bits-split, page-returns, page-cut, LineWritten, line-written, PageWritten, page-written}
+use Rattle.error.specs.Error.{answerOf}
+use Rattle.error.specs.declared.Answer.{Answer}
+use Rattle.rows.specs.declared.DecodeSettings.{DecodeSettings}
+use Rattle.rows.specs.Settings.{encodingOf, settingsOf}
+use Rattle.context.specs.OneLine.{ReadOne}
+use Rattle.writer.specs.Outcome.{Answers}
+use Rattle.ccitt.specs.Decode.{Gives, Decodes}
+use Rattle.promises.specs.Demand3.{Back, LineReadsBack, WrittenLineReadsBack, LinesApart, Plainly, WrittenPageReadsBack, CutPageGivesFirstRows}
+use Rattle.promises.proofs.Demand1.{in-store}
+
+-- ---- Lines
+
+-- an answer of one whole row
+back : (bytes : List ℕ) (at columns : ℕ) (strict : Bool) (reference row changes : List ℕ) (after : ℕ) (r : Answer) (changes′ : List ℕ)
+    → readOneLine bytes at columns strict reference (length changes) ≡ record { number = 0; place = 0; bytes = after; rows = row ∷ []; loose = [] }
+    → ReadOne bytes at columns strict reference changes r changes′ → Back row after r changes′
+unfolding entries joined changesAfter overlaid
+back bytes at columns strict reference row changes after r changes′ e c =
+    let a = c .answer ∙ ap answerOf e in
+    record {
+      done = ap (λ (x : Answer). x .number) a;
+      one-row = ap (λ (x : Answer). x .rows) a;
+      as-many = ap (λ (x : Answer). x .entries) a ∙ (let q : length row + 0 ≡ length row = omega arith in q);
+      same =
+          ap (take (length row)) (c .store ∙ ap (λ (x : Page.Answer). changesAfter x changes) e ∙ ap (λ (l : List ℕ). (l ++ []) ++ drop (length (l ++ [])) changes) (append-nil row) ∙ ap (λ (l : List ℕ). l ++ drop (length l) changes) (append-nil row))
+          ∙ take-at row (drop (length row) changes) (length row) refl;
+      after-it = ap (λ (x : Answer). x .bytes) a;
+    }
+
+pub line-reads-back : LineReadsBack
+line-reads-back columns reference row wide narrow up up′ bytes at rest small e strict changes r changes′ roomy c =
+    back bytes at columns strict reference row changes _ r changes′
+    (line-returns mostMakeup (omega arith) (omega arith) columns wide narrow strict reference row up up′ (length changes) roomy bytes small at rest e) c
+
+-- a line that was written lies in an output that is not too long
+line-small : (columns : ℕ) (reference row out : List ℕ) (at : ℕ) → writeLine mostMakeup columns reference row out at .number ≡ 0 → length out ≤ mostBytes
+unfolding writeLine
+line-small columns reference row out at = tests (noLine columns) (ltb mostBytes (length out)) (ltb-false _ _) (ascends columns reference && ascends columns row) (leb (at + length xs) (length (bitsOf out)))
+  where
+    xs : List Bool
+    xs = lineBits mostMakeup columns (two reference) row
+
+    tests : (a b : Bool) → (b ≡ false → length out ≤ mostBytes) → (c d : Bool)
+        → (elim a as (λ _. Written) [ true ↦ unwritten 6 out | false ↦ elim b as (λ _. Written) [ true ↦ unwritten 7 out | false ↦ elim c as (λ _. Written) [ false ↦ unwritten 8 out | true ↦ elim d as (λ _. Written) [ false ↦ unwritten 9 out | true ↦ record { number = 0; end = at + length xs; bits = writtenAt at xs (bitsOf out) } ] ] ] ]) .number ≡ 0
+        → length out ≤ mostBytes
+    tests true b h c d e = absurd (omega arith)
+    tests false true h c d e = absurd (omega arith)
+    tests false false h c d e = h refl
+
+pub written-line-reads-back : WrittenLineReadsBack
+written-line-reads-back columns reference row out at w out′ narrow written z strict changes r changes′ roomy c =
+    let n : writeLine mostMakeup columns reference row out at .number ≡ 0 = sym (ap (λ (x : Answer). x .number) (written .answer)) ∙ z in
+    let l = line-written mostMakeup columns narrow reference row out at n in
+    let end = ap (λ (x : Answer). x .bytes) (written .answer) ∙ l .end-is in
+    subst (λ (after : ℕ). Back row after r changes′) (sym end)
+    (line-reads-back columns reference row (l .wide) (l .narrow) (l .rises) (l .rises′) out′ at (l .rest) (omega (arith, written .size, line-small columns reference row out at n))
+    (ap (drop at) (written .bits) ∙ l .there) strict changes r changes′ roomy c)
+
+pub lines-apart : LinesApart
+lines-apart columns reference row other wide narrow up up′ up″ rest e =
+    rows-same mostMakeup (omega arith) (omega arith) columns wide (omega arith) (two reference) up row other up′ up″ rest [] (e ∙ sym (append-nil _))
+
+-- ---- Pages
+
+-- a prefix that is no longer than another is its front
+prefix : (xs ys zs ws : List Bool) → xs ++ ys ≡ zs ++ ws → length zs ≤ length xs → xs ≡ zs ++ drop (length zs) xs
+prefix xs ys zs ws e h =
+    sym (take-append-drop (length zs) xs)
+    ∙ ap (λ (l : List Bool). l ++ drop (length zs) xs) (sym (take-append-le (length zs) xs ys h) ∙ ap (take (length zs)) e ∙ take-at zs ws (length zs) refl)
+
+module _ (columns : ℕ) (changes ends out : List ℕ) (w : Answer) (out′ : List ℕ) (narrow : columns ≤ 4294967295)
+    (written : Answers (writePage mostMakeup columns changes ends out) out w out′) (z : w .number ≡ 0) where
+  number : writePage mostMakeup columns changes ends out .number ≡ 0
+  number = sym (ap (λ (x : Answer). x .number) (written .answer)) ∙ z
+
+  p : PageWritten mostMakeup columns changes ends (writePage mostMakeup columns changes ends out)
+  p = page-written mostMakeup columns narrow changes ends out number
+
+  P : List Bool
+  P = pageBits mostMakeup columns (rowsIn 0 changes ends)
+
+  page-bytes : w .bytes ≡ bytesTo (length P)
+  unfolding P
+  page-bytes = ap (λ (x : Answer). x .bytes) (written .answer) ∙ p .end-is
+
+  out-bits : bitsOf out′ ≡ P ++ p .rest
+  unfolding P
+  out-bits = written .bits ∙ p .there
+
+  plain : (settings : DecodeSettings) → Plainly columns settings → Plain (settingsOf settings)
+  plain settings s = record {
+    encoded = ap encodingOf (s .group-4);
+    blocked = s .blocked;
+    unaligned = s .unaligned;
+    wide = omega (arith, p .wide, s .same-columns);
+    narrow = omega (arith, p .narrow, s .same-columns);
+  }
+
+  rises : (settings : DecodeSettings) → Plainly columns settings → Rows (settings .columns) (rowsIn 0 changes ends)
+  rises settings s = subst (λ (n : ℕ). Rows n (rowsIn 0 changes ends)) (sym (s .same-columns)) (p .rises)
+
+  -- the page's bits stand at the front of any data that begins with its bytes
+  fronted : (bytes : List ℕ) → take (w .bytes) bytes ≡ take (w .bytes) out′ → (rest : List Bool) × (bitsOf bytes ≡ P ++ rest)
+  fronted bytes e =
+      (_, sym (bits-split (w .bytes) bytes) ∙ ap (λ (l : List Bool). l ++ bitsOf (drop (w .bytes) bytes)) (ap bitsOf e ∙ front) ∙ append-assoc P _ _)
+    where
+      reach : w .bytes ≤ length out′
+      reach = omega (arith, page-bytes, length-bitsOf out′, ap length out-bits, length-append P (p .rest))
+
+      front : bitsOf (take (w .bytes) out′) ≡ P ++ drop (length P) (bitsOf (take (w .bytes) out′))
+      front =
+          prefix (bitsOf (take (w .bytes) out′)) (bitsOf (drop (w .bytes) out′)) P (p .rest) (bits-split (w .bytes) out′ ∙ out-bits)
+          (omega (arith, page-bytes, length-bitsOf (take (w .bytes) out′), length-take-le (w .bytes) out′ reach))
+
+  -- the same bits for settings of these columns
+  for-settings : (settings : DecodeSettings) → Plainly columns settings → (bytes : List ℕ) (rest : List Bool) → bitsOf bytes ≡ P ++ rest
+      → bitsOf bytes ≡ pageBits mostMakeup (settings .columns) (rowsIn 0 changes ends) ++ rest
+  unfolding P
+  for-settings settings s bytes rest e = e ∙ ap (λ (n : ℕ). pageBits mostMakeup n (rowsIn 0 changes ends) ++ rest) (sym (s .same-columns))
+
+  same-size : (settings : DecodeSettings) → Plainly columns settings → length (pageBits mostMakeup (settings .columns) (rowsIn 0 changes ends)) ≡ length P
+  unfolding P
+  same-size settings s = ap (λ (n : ℕ). length (pageBits mostMakeup n (rowsIn 0 changes ends))) (s .same-columns)
+
+  read-whole : (bytes : List ℕ) → length bytes ≤ 268435456 → take (w .bytes) bytes ≡ take (w .bytes) out′ → (settings : DecodeSettings) → Plainly columns settings
+      → (settings .rows ≡ 0) ⊎ (settings .rows ≡ length (rowsIn 0 changes ends)) → (store places : ℕ)
+      → entries (rowsIn 0 changes ends) ≤ store → length (rowsIn 0 changes ends) ≤ places
+      → decode (settingsOf settings) bytes store places ≡ whole (length P) (rowsIn 0 changes ends)
+  read-whole bytes small e settings s counted store places roomy placed =
+      let f = fronted bytes e in
+      page-returns mostMakeup (omega arith) (omega arith) (settingsOf settings) (plain settings s) (omega (arith, p .narrow, s .same-columns)) (rowsIn 0 changes ends)
+      (rises settings s) bytes small (f .0) (for-settings settings s bytes (f .0) (f .1)) counted store places roomy placed
+      ∙ ap (λ (n : ℕ). whole n (rowsIn 0 changes ends)) (same-size settings s)
+
+  read-cut : length out′ ≤ 268435456 → (cut : ℕ) (settings : DecodeSettings) → Plainly columns settings → (store places : ℕ)
+      → (n : ℕ) × (decode (settingsOf settings) (take cut out′) store places .rows ≡ take n (rowsIn 0 changes ends))
+  read-cut small cut settings s store places =
+      page-cut mostMakeup (omega arith) (omega arith) (settingsOf settings) (plain settings s) (omega (arith, p .narrow, s .same-columns)) (rowsIn 0 changes ends)
+      (rises settings s) out′ small (p .rest) (for-settings settings s out′ (p .rest) out-bits) cut store places
+
+-- as many rows as row ends
+count-rows : (base : ℕ) (changes ends : List ℕ) → length (rowsIn base changes ends) ≡ length ends
+unfolding rowsIn
+count-rows base changes [] = refl
+count-rows base changes (e ∷ es) = ap suc (count-rows e changes es)
+
+pub written-page-reads-back : WrittenPageReadsBack
+written-page-reads-back columns changes ends out w out′ narrow written z bytes small e settings s counted store places r store′ places′ roomy placed called = (
+  ap (λ (x : Answer). x .number) a,
+  ap (λ (x : Answer). x .bytes) a ∙ sym (page-bytes columns changes ends out w out′ narrow written z),
+  in-store _ store places r store′ places′ called ∙ ap (λ (x : Page.Answer). x .rows) is,
+)
+  where
+    is : decode (settingsOf settings) bytes (length store) (length places) ≡ whole (length (P columns changes ends out w out′ narrow written z)) (rowsIn 0 changes ends)
+    is =
+        read-whole columns changes ends out w out′ narrow written z bytes small e settings s
+        (subst (λ (n : ℕ). (settings .rows ≡ 0) ⊎ (settings .rows ≡ n)) (sym (count-rows 0 changes ends)) counted) (length store) (length places) roomy
+        (omega (arith, count-rows 0 changes ends))
+
+    a : r ≡ answerOf (whole (length (P columns changes ends out w out′ narrow written z)) (rowsIn 0 changes ends))
+    a = called .answer ∙ ap answerOf is
+
+-- a page that was written lies in an output that is not too long
+page-small : (columns : ℕ) (changes ends out : List ℕ) → writePage mostMakeup columns changes ends out .number ≡ 0 → length out ≤ mostBytes
+unfolding writePage
+page-small columns changes ends out =
+    tests (noLine columns) (ltb mostBytes (length out)) (ltb-false _ _) (endsRise (length changes) 0 ends && allAscend columns (rowsIn 0 changes ends)) (leb (length xs) (length (bitsOf out)))
+  where
+    xs : List Bool
+    xs = pageBits mostMakeup columns (rowsIn 0 changes ends)
+
+    tests : (a b : Bool) → (b ≡ false → length out ≤ mostBytes) → (c d : Bool)
+        → (elim a as (λ _. Written) [ true ↦ unwritten 6 out | false ↦ elim b as (λ _. Written) [ true ↦ unwritten 7 out | false ↦ elim c as (λ _. Written) [ false ↦ unwritten 8 out | true ↦ elim d as (λ _. Written) [ false ↦ unwritten 9 out | true ↦ record { number = 0; end = bytesTo (length xs); bits = writtenAt 0 xs (bitsOf out) } ] ] ] ]) .number ≡ 0
+        → length out ≤ mostBytes
+    tests true b h c d e = absurd (omega arith)
+    tests false true h c d e = absurd (omega arith)
+    tests false false h c d e = h refl
+
+pub cut-page-gives-first-rows : CutPageGivesFirstRows
+cut-page-gives-first-rows columns changes ends out w out′ narrow written z cut settings s store places r store′ places′ called =
+    let c =
+    read-cut columns changes ends out w out′ narrow written z
+    (omega (arith, written .size, page-small columns changes ends out (number columns changes ends out w out′ narrow written z))) cut settings s (length store) (length places) in
+    (c .0, in-store _ store places r store′ places′ called ∙ c .1)

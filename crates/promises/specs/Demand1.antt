@@ -1,0 +1,60 @@
+-- Demand 1: any bytes, any settings and any lent arrays get an answer of the list; each refusal is given exactly when 01 says so; the counts are what the store
+-- holds; entries behind keep their value; and every row handed over ascends strictly below the width.
+-- A statement is about whatever answer and arrays a function's contract permits.
+use mathlib.Core.Path.{_≡_}
+use mathlib.Core.Logic.{_↔_}
+use mathlib.Core.Bool.{Bool}
+use mathlib.Core.List.{List}
+use Prim.Native.Nat.{ℕ, _+_, _*_, _≤_, _<_}
+use lib.ListN.{length, take, drop}
+use Rattle.rules.specs.Write.{rowsIn}
+use Rattle.rules.proofs.PageBack.{Rows}
+use Rattle.error.specs.declared.Answer.{Answer}
+use Rattle.rows.specs.declared.DecodeSettings.{DecodeSettings}
+use Rattle.ccitt.specs.Decode.{Decodes}
+
+-- ---- The page form
+
+-- a call of `decode` on bytes, with settings and two arrays of changes and row ends: its answer, and the arrays after it
+module _ (bytes : List ℕ) (settings : DecodeSettings) (changes ends : List ℕ) (r : Answer) (changes′ ends′ : List ℕ) where
+  -- a number of the list: 0 to 5, or a refusal with 6 or 7, each exactly when 01 says so
+  pub record Listed : Type 0 where
+    pub at-most-7 : r .number ≤ 7
+    pub six : (r .number ≡ 6) ↔ (settings .columns ≡ 4294967295)
+    pub seven : (r .number ≡ 7) ↔ ((settings .columns ≡ 4294967295 → ⊥) × (268435456 < length bytes))
+
+  -- a refusal leaves everything as found and gives zero counts
+  pub record Refused : Type 0 where
+    pub same-changes : changes′ ≡ changes
+    pub same-ends : ends′ ≡ ends
+    pub counts : (r .rows ≡ 0) × (r .entries ≡ 0) × (r .loose ≡ 0) × (r .bytes ≡ 0)
+
+  -- The counts fit the arrays; the rows that lie in the store ascend strictly below the width, and their entries are as many as the answer says;
+  -- every later entry keeps its value; after 0 there are no loose entries; and rows never exceed 8 × bytes + 1.
+  pub record Stored : Type 0 where
+    pub rows-fit : r .rows ≤ length ends
+    pub entries-fit : r .entries + r .loose ≤ length changes
+    pub rising : Rows (settings .columns) (rowsIn 0 changes′ (take (r .rows) ends′))
+    pub later-changes : drop (r .entries + r .loose) changes′ ≡ drop (r .entries + r .loose) changes
+    pub later-ends : drop (r .rows) ends′ ≡ drop (r .rows) ends
+    pub clean : r .number ≡ 0 → r .loose ≡ 0
+    pub few-rows : r .rows ≤ 8 * length bytes + 1
+
+-- whatever `decode` is called on
+abbrev pub DecodeAnswers : Type 0
+DecodeAnswers =
+    (bytes : List ℕ) (settings : DecodeSettings) (changes ends : List ℕ) (r : Answer) (changes′ ends′ : List ℕ)
+    → settings .columns ≤ 4294967295
+    → Decodes bytes settings changes ends r changes′ ends′
+    → Listed bytes settings changes ends r changes′ ends′ × (6 ≤ r .number → Refused bytes settings changes ends r changes′ ends′) × Stored bytes settings changes ends r changes′ ends′
+
+-- more room never changes an answer from 0 to 3: same number, counts, and the same front of the arrays
+abbrev pub MoreRoom : Type 0
+MoreRoom =
+    (bytes : List ℕ) (settings : DecodeSettings) (changes ends larger-changes larger-ends : List ℕ) (r s : Answer) (changes′ ends′ larger-changes′ larger-ends′ : List ℕ)
+    → length changes ≤ length larger-changes
+    → length ends ≤ length larger-ends
+    → Decodes bytes settings changes ends r changes′ ends′
+    → Decodes bytes settings larger-changes larger-ends s larger-changes′ larger-ends′
+    → r .number ≤ 3
+    → (s ≡ r) × (take (r .entries + r .loose) larger-changes′ ≡ take (r .entries + r .loose) changes′) × (take (r .rows) larger-ends′ ≡ take (r .rows) ends′)

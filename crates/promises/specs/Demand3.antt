@@ -1,0 +1,85 @@
+-- Demand 3: what is written reads back. For a width from 1 to 4,294,967,294, a reference and a row that ascend strictly below it, strict reading (and lenient) of the
+-- written line, given room and whatever bits follow, gives back the row and takes exactly its bits; so does a written page, whatever bytes follow, and cut after any
+-- byte it gives only its own first rows.
+use mathlib.Core.Path.{_≡_}
+use mathlib.Core.Logic.{_⊎_}
+use mathlib.Core.Bool.{Bool, true, false}
+use mathlib.Core.List.{List, _++_}
+use Prim.Native.Nat.{ℕ, _+_, _≤_, _<_}
+use lib.ListN.{length, take, drop}
+use Rattle.rules.specs.Bits.{bitsOf}
+use Rattle.rules.specs.Lines.{two}
+use Rattle.rules.specs.Pages.{entries}
+use Rattle.rules.specs.Write.{mostMakeup, lineBits, rowsIn, writeLine, writePage}
+use Rattle.rules.proofs.Ascending.{Rising}
+use Rattle.error.specs.declared.Answer.{Answer}
+use Rattle.rows.specs.declared.DecodeSettings.{DecodeSettings}
+use Rattle.rows.specs.declared.EncodingMode.the-variants.{Group4}
+use Rattle.context.specs.OneLine.{ReadOne}
+use Rattle.writer.specs.Outcome.{Answers}
+use Rattle.ccitt.specs.Decode.{Decodes}
+
+-- a row in front of an array, read whole, and the bit after it
+pub record Back (row : List ℕ) (after : ℕ) (r : Answer) (changes′ : List ℕ) : Type 0 where
+  pub done : r .number ≡ 0
+  pub one-row : r .rows ≡ 1
+  pub as-many : r .entries ≡ length row
+  pub same : take (length row) changes′ ≡ row
+  pub after-it : r .bytes ≡ after
+
+-- ---- Lines
+
+-- a line's bits in any data, whatever stands before and behind them
+abbrev pub LineReadsBack : Type 0
+LineReadsBack =
+    (columns : ℕ) (reference row : List ℕ) → 0 < columns → columns < 4294967295 → Rising columns 0 reference → Rising columns 0 row
+    → (bytes : List ℕ) (at : ℕ) (rest : List Bool) → length bytes ≤ 268435456 → drop at (bitsOf bytes) ≡ lineBits mostMakeup columns (two reference) row ++ rest
+    → (strict : Bool) (changes : List ℕ) (r : Answer) (changes′ : List ℕ) → length row ≤ length changes
+    → ReadOne bytes at columns strict reference changes r changes′
+    → Back row (at + length (lineBits mostMakeup columns (two reference) row)) r changes′
+
+-- the two functions, one after the other: what `write_line` wrote, `read_line` reads
+abbrev pub WrittenLineReadsBack : Type 0
+WrittenLineReadsBack =
+    (columns : ℕ) (reference row out : List ℕ) (at : ℕ) (w : Answer) (out′ : List ℕ) → columns ≤ 4294967295
+    → Answers (writeLine mostMakeup columns reference row out at) out w out′ → w .number ≡ 0
+    → (strict : Bool) (changes : List ℕ) (r : Answer) (changes′ : List ℕ) → length row ≤ length changes
+    → ReadOne out′ at columns strict reference changes r changes′
+    → Back row (w .bytes) r changes′
+
+-- under one width and reference no two rows share a line, and no row's line begins another's
+abbrev pub LinesApart : Type 0
+LinesApart =
+    (columns : ℕ) (reference row other : List ℕ) → 0 < columns → columns < 4294967295 → Rising columns 0 reference → Rising columns 0 row → Rising columns 0 other
+    → (rest : List Bool) → lineBits mostMakeup columns (two reference) row ++ rest ≡ lineBits mostMakeup columns (two reference) other
+    → row ≡ other
+
+-- ---- Pages
+
+-- the settings of demand 3: Group 4 with end_of_block, unaligned
+pub record Plainly (columns : ℕ) (settings : DecodeSettings) : Type 0 where
+  pub same-columns : settings .columns ≡ columns
+  pub group-4 : settings .encoding ≡ Group4
+  pub blocked : settings .«end_of_block» ≡ true
+  pub unaligned : settings .«rows_are_byte_aligned» ≡ false
+
+-- what `write_page` wrote, `decode` reads, whatever bytes follow the page: its rows, and its length
+abbrev pub WrittenPageReadsBack : Type 0
+WrittenPageReadsBack =
+    (columns : ℕ) (changes ends out : List ℕ) (w : Answer) (out′ : List ℕ) → columns ≤ 4294967295
+    → Answers (writePage mostMakeup columns changes ends out) out w out′ → w .number ≡ 0
+    → (bytes : List ℕ) → length bytes ≤ 268435456 → take (w .bytes) bytes ≡ take (w .bytes) out′
+    → (settings : DecodeSettings) → Plainly columns settings → (settings .rows ≡ 0) ⊎ (settings .rows ≡ length ends)
+    → (store places : List ℕ) (r : Answer) (store′ places′ : List ℕ) → entries (rowsIn 0 changes ends) ≤ length store → length ends ≤ length places
+    → Decodes bytes settings store places r store′ places′
+    → (r .number ≡ 0) × (r .bytes ≡ w .bytes) × (rowsIn 0 store′ (take (r .rows) places′) ≡ rowsIn 0 changes ends)
+
+-- cut after any byte, it gives only its own first rows, each whole
+abbrev pub CutPageGivesFirstRows : Type 0
+CutPageGivesFirstRows =
+    (columns : ℕ) (changes ends out : List ℕ) (w : Answer) (out′ : List ℕ) → columns ≤ 4294967295
+    → Answers (writePage mostMakeup columns changes ends out) out w out′ → w .number ≡ 0
+    → (cut : ℕ) (settings : DecodeSettings) → Plainly columns settings
+    → (store places : List ℕ) (r : Answer) (store′ places′ : List ℕ)
+    → Decodes (take cut out′) settings store places r store′ places′
+    → (n : ℕ) × (rowsIn 0 store′ (take (r .rows) places′) ≡ take n (rowsIn 0 changes ends))

@@ -1,0 +1,35 @@
+-- Pinning the answers down: any two answers, with the arrays after them, that a contract permits are equal. So no impostor fits: not one that refuses everything,
+-- nor one with a fixed answer, nor one that writes nothing, nor one that invents counts.
+use mathlib.Core.Path.{_≡_}
+use mathlib.Core.Bool.{Bool}
+use mathlib.Core.List.{List}
+use Prim.Native.Nat.{ℕ, _<_}
+use lib.ListN.{getD}
+use Rattle.rules.specs.Write.{Written}
+use Rattle.error.specs.declared.Answer.{Answer}
+use Rattle.rows.specs.declared.DecodeSettings.{DecodeSettings}
+use Rattle.ccitt.specs.Decode.{Decodes}
+use Rattle.context.specs.OneLine.{ReadOne}
+use Rattle.writer.specs.Outcome.{Answers}
+
+abbrev pub DecodePinned : Type 0
+DecodePinned =
+    (bytes : List ℕ) (settings : DecodeSettings) (changes ends : List ℕ) (r s : Answer) (xs ys es fs : List ℕ)
+    → Decodes bytes settings changes ends r xs es
+    → Decodes bytes settings changes ends s ys fs
+    → (r ≡ s) × (xs ≡ ys) × (es ≡ fs)
+
+abbrev pub ReadLinePinned : Type 0
+ReadLinePinned =
+    (bytes : List ℕ) (at columns : ℕ) (strict : Bool) (reference changes : List ℕ) (r s : Answer) (xs ys : List ℕ)
+    → ReadOne bytes at columns strict reference changes r xs
+    → ReadOne bytes at columns strict reference changes s ys
+    → (r ≡ s) × (xs ≡ ys)
+
+-- for write_line and write_page alike; the entries of an output are bytes
+abbrev pub WritersPinned : Type 0
+WritersPinned =
+    (w : Written) (out : List ℕ) (r s : Answer) (xs ys : List ℕ) → ((i : ℕ) → getD xs i 0 < 256) → ((i : ℕ) → getD ys i 0 < 256)
+    → Answers w out r xs
+    → Answers w out s ys
+    → (r ≡ s) × (xs ≡ ys)
