@@ -1,0 +1,173 @@
+// The library behind pipes, for a machine that cannot link it: reads batches of calls from standard
+// input, makes them, and writes the replies to standard output. src/piped.rs is the other end and
+// says how they are laid out. It is compiled without headers, so what it uses is declared here.
+
+typedef unsigned char u8;
+typedef unsigned int u32;
+typedef unsigned long u64;
+
+long read(int file, void *to, u64 size);
+long write(int file, const void *from, u64 size);
+void *malloc(u64 size);
+void *calloc(u64 count, u64 size);
+void free(void *memory);
+void exit(int status);
+
+struct Answer {
+    u32 number, rows, entries, loose;
+    u64 bytes;
+};
+
+struct Answer ccitt_decode_group4(const u8 *src, u64 src_len, u32 columns, u32 rows, _Bool end_of_block, _Bool rows_are_byte_aligned, _Bool strict,
+    u32 *changes, u64 changes_len, u32 *ends, u64 ends_len);
+struct Answer ccitt_decode_group3_1d(const u8 *src, u64 src_len, u32 columns, u32 rows, _Bool end_of_block, _Bool end_of_line, _Bool rows_are_byte_aligned, _Bool strict,
+    u32 *changes, u64 changes_len, u32 *ends, u64 ends_len);
+struct Answer ccitt_decode_group3_2d(const u8 *src, u64 src_len, u32 columns, u32 rows, _Bool end_of_block, _Bool end_of_line, _Bool rows_are_byte_aligned, _Bool strict,
+    u32 *changes, u64 changes_len, u32 *ends, u64 ends_len);
+struct Answer ccitt_read_line(const u8 *src, u64 src_len, u64 at, u32 columns, _Bool strict,
+    const u32 *reference, u64 reference_len, u32 *changes, u64 changes_len);
+#ifdef WRITERS
+struct Answer ccitt_write_line(u32 columns, const u32 *reference, u64 reference_len, const u32 *row, u64 row_len, u8 *out, u64 out_len, u64 at);
+struct Answer ccitt_write_page(u32 columns, const u32 *changes, u64 changes_len, const u32 *ends, u64 ends_len, u8 *out, u64 out_len);
+#define HAS_WRITERS 1
+#else
+#define HAS_WRITERS 0
+#endif
+
+enum { MARGIN = 2, BYTE_MARGIN = 8 };
+
+// One call as it stands in a batch; the data and the two lists follow it.
+struct Call {
+    u32 form, flags, columns, rows;
+    u64 at, tail;
+    u32 src_len, first_len, second_len, changes, ends, out, fill, unused;
+};
+
+struct Batch {
+    u64 size, reply, calls;
+};
+
+static u64 padded(u64 size) { return (size + 7) / 8 * 8; }
+
+static void copy(u8 *to, const u8 *from, u64 size) {
+    for (u64 i = 0; i < size; i++) to[i] = from[i];
+}
+
+// Reads so many bytes; the end of the input before the first of them is the end of the run.
+static void read_all(void *to, u64 size) {
+    u64 have = 0;
+    while (have < size) {
+        long got = read(0, (u8 *)to + have, size - have);
+        if (got <= 0) exit(got == 0 && have == 0 ? 0 : 1);
+        have += (u64)got;
+    }
+}
+
+static void write_all(const void *from, u64 size) {
+    u64 done = 0;
+    while (done < size) {
+        long got = write(1, (const u8 *)from + done, size - done);
+        if (got <= 0) exit(1);
+        done += (u64)got;
+    }
+}
+
+static void *memory(u64 size) {
+    void *got = malloc(size ? size : 1);
+    if (!got) exit(1);
+    return got;
+}
+
+static void *zeroed(u64 size) {
+    void *got = calloc(size, 1);
+    if (!got) exit(1);
+    return got;
+}
+
+static u32 pattern(u32 fill, u64 index) { return ((u32)index + 1) * 0x9E3779B1u ^ fill; }
+
+static struct Answer read_from(const struct Call *c, const u8 *src, u64 src_len, const u32 *first, u32 *changes, u32 *ends) {
+    _Bool eob = c->flags & 1, eol = c->flags >> 1 & 1, aligned = c->flags >> 2 & 1, strict = c->flags >> 3 & 1;
+    switch (c->form) {
+    case 0: return ccitt_decode_group4(src, src_len, c->columns, c->rows, eob, aligned, strict, changes, c->changes, ends, c->ends);
+    case 1: return ccitt_decode_group3_1d(src, src_len, c->columns, c->rows, eob, eol, aligned, strict, changes, c->changes, ends, c->ends);
+    case 2: return ccitt_decode_group3_2d(src, src_len, c->columns, c->rows, eob, eol, aligned, strict, changes, c->changes, ends, c->ends);
+    default: return ccitt_read_line(src, src_len, c->at, c->columns, strict, first, c->first_len, changes, c->changes);
+    }
+}
+
+// A reader's call. The tail is zeroed memory, which costs nothing until it is looked at.
+static struct Answer do_read(const struct Call *c, const u8 *src, const u32 *first, u32 *words) {
+    u32 *changes = words + MARGIN, *ends = changes + c->changes + MARGIN;
+    if (!c->tail) return read_from(c, src, c->src_len, first, changes, ends);
+    u8 *all = zeroed(c->src_len + c->tail);
+    copy(all, src, c->src_len);
+    struct Answer answer = read_from(c, all, c->src_len + c->tail, first, changes, ends);
+    free(all);
+    return answer;
+}
+
+static struct Answer write_to(const struct Call *c, const u32 *first, const u32 *second, u8 *out, u64 out_len) {
+#ifdef WRITERS
+    if (c->form == 4) return ccitt_write_line(c->columns, first, c->first_len, second, c->second_len, out, out_len, c->at);
+    return ccitt_write_page(c->columns, first, c->first_len, second, c->second_len, out, out_len);
+#else
+    (void)c, (void)first, (void)second, (void)out, (void)out_len;
+    return (struct Answer){ ~0u, 0, 0, 0, 0 };
+#endif
+}
+
+// A writer's call. A write into the tail shows as one into the margin.
+static struct Answer do_write(const struct Call *c, const u32 *first, const u32 *second, u8 *bytes) {
+    u8 *out = bytes + BYTE_MARGIN;
+    if (!c->tail) return write_to(c, first, second, out, c->out);
+    u8 *all = zeroed(c->out + c->tail), dirty = 0;
+    copy(all, out, c->out);
+    struct Answer answer = write_to(c, first, second, all, c->out + c->tail);
+    copy(out, all, c->out);
+    for (u64 i = 0; i < c->tail; i++) dirty |= all[c->out + i];
+    if (dirty) bytes[0] ^= 255;
+    free(all);
+    return answer;
+}
+
+// Makes one call and moves both places on.
+static void one(const u8 **from, u8 **to) {
+    const struct Call *c = (const struct Call *)*from;
+    const u8 *src = *from + sizeof *c;
+    const u32 *first = (const u32 *)(src + padded(c->src_len));
+    const u32 *second = (const u32 *)((const u8 *)first + padded(4ul * c->first_len));
+    *from = (const u8 *)second + padded(4ul * c->second_len);
+
+    struct Answer *answer = (struct Answer *)*to;
+    u32 *words = (u32 *)(*to + sizeof *answer);
+    if (c->form < 4) {
+        u64 count = (u64)c->changes + c->ends + 3 * MARGIN;
+        for (u64 i = 0; i < count; i++) words[i] = pattern(c->fill, i);
+        *answer = do_read(c, src, first, words);
+        *to = (u8 *)words + padded(4 * count);
+    } else {
+        u8 *bytes = (u8 *)words;
+        u64 count = (u64)c->out + 2 * BYTE_MARGIN;
+        for (u64 i = 0; i < count; i++) bytes[i] = (u8)(pattern(c->fill, i) >> 24);
+        *answer = do_write(c, first, second, bytes);
+        *to = bytes + padded(count);
+    }
+}
+
+int main(void) {
+    u32 hello[2] = { 0x34544343, HAS_WRITERS };
+    write_all(hello, sizeof hello);
+    for (;;) {
+        struct Batch batch;
+        read_all(&batch, sizeof batch);
+        u8 *request = memory(batch.size), *reply = zeroed(batch.reply ? batch.reply : 1);
+        read_all(request, batch.size);
+        const u8 *from = request;
+        u8 *to = reply;
+        for (u64 i = 0; i < batch.calls; i++) one(&from, &to);
+        write_all(reply, batch.reply);
+        free(request);
+        free(reply);
+    }
+}

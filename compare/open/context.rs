@@ -1,0 +1,20 @@
+
+// Added for the comparison: what the crate keeps to itself. Nothing above is changed.
+impl DecoderContext {
+    /// The changes of the row that was not finished.
+    pub fn unfinished(&self) -> &[u32] {
+        &self.coding_changes
+    }
+
+    /// Read one 2D line from the given bit on, and return the bit after it. Its changes are then
+    /// those of `unfinished`.
+    pub fn read_line(&mut self, data: &[u8], at: usize, reference: &[u32]) -> Result<usize> {
+        self.reset();
+        self.ref_changes.extend_from_slice(reference);
+        self.update_b();
+        let mut reader = BitReader::new(data);
+        reader.consume(at)?;
+        decode_2d_line(self, &mut reader)?;
+        Ok(reader.bit_offset())
+    }
+}

@@ -1,0 +1,2 @@
+# a third EOL is read after EOFB
+s/reader.read_eols(2)/reader.read_eol_if_available()/

@@ -1,0 +1,43 @@
+//! The words that the program is given.
+
+use std::time::{SystemTime, UNIX_EPOCH};
+
+#[derive(Debug, PartialEq, Eq)]
+pub enum Mode {
+    Compare,
+    Bench,
+    /// Writes a sample of the crate's answers to a file.
+    Sample(String),
+}
+
+#[derive(Debug, PartialEq, Eq)]
+pub struct Arguments {
+    pub seed: u64,
+    /// How many times as many random inputs.
+    pub more: u64,
+    /// Only the checks whose name has this in it.
+    pub only: String,
+    pub mode: Mode,
+}
+
+pub const USAGE: &str = "usage: compare/run [--seed N] [--more N] [--only TEXT] [bench | sample FILE | test]";
+
+/// Reads the words; without a seed, the clock gives one.
+pub fn parse(mut words: impl Iterator<Item = String>) -> Option<Arguments> {
+    let mut arguments = Arguments { seed: clock(), more: 1, only: String::new(), mode: Mode::Compare };
+    while let Some(word) = words.next() {
+        match word.as_str() {
+            "--seed" => arguments.seed = words.next()?.parse().ok()?,
+            "--more" => arguments.more = words.next()?.parse().ok().filter(|&more| more > 0)?,
+            "--only" => arguments.only = words.next()?,
+            "bench" if arguments.mode == Mode::Compare => arguments.mode = Mode::Bench,
+            "sample" if arguments.mode == Mode::Compare => arguments.mode = Mode::Sample(words.next()?),
+            _ => return None,
+        }
+    }
+    Some(arguments)
+}
+
+fn clock() -> u64 {
+    SystemTime::now().duration_since(UNIX_EPOCH).map_or(1, |time| time.as_nanos() as u64 % 1_000_000_007)
+}

@@ -1,0 +1,230 @@
+//! Runs one check: makes its inputs, asks the library, and compares everything that comes back.
+
+use crate::call::{Answer, Ask, BYTE_MARGIN, Call, Form, Replies, Reply, Room, fill_bytes, fill_words};
+use crate::ours::Ours;
+use crate::random::Random;
+use crate::truth::Wanted;
+use std::fmt::Write as _;
+use std::sync::Mutex;
+use std::sync::atomic::{AtomicU64, Ordering};
+
+/// One input: what is asked, and for each room that is lent what must come back.
+pub struct Case {
+    pub ask: Ask,
+    pub plans: Vec<Plan>,
+    /// What is wrong before the library is asked: the crate itself is not what a check says it is.
+    pub complaint: Option<String>,
+}
+
+impl Case {
+    /// Complains unless something holds.
+    pub fn require(mut self, holds: bool, complaint: impl FnOnce() -> String) -> Self {
+        if !holds && self.complaint.is_none() {
+            self.complaint = Some(complaint());
+        }
+        self
+    }
+}
+
+pub struct Plan {
+    pub room: Room,
+    pub fill: u32,
+    pub wanted: Wanted,
+}
+
+/// Where the inputs of a check come from. An input is settled by its number and the run's seed.
+pub trait Source: Sync {
+    /// What the check is called; part of every input's seed.
+    fn name(&self) -> String;
+
+    fn count(&self) -> u64;
+
+    fn case(&self, index: u64, random: &mut Random) -> Case;
+
+    /// How many inputs are asked at a time.
+    fn batch(&self) -> u64 {
+        256
+    }
+}
+
+/// What a check found.
+#[derive(Default)]
+pub struct Tally {
+    pub inputs: u64,
+    pub calls: u64,
+    pub differing: u64,
+    /// The smallest input that differs: its size and its description.
+    pub smallest: Option<(usize, String)>,
+}
+
+impl Tally {
+    pub fn passed(&self) -> bool {
+        self.differing == 0 && self.inputs > 0
+    }
+
+    pub fn differs(&mut self, size: usize, text: impl FnOnce() -> String) {
+        self.differing += 1;
+        if self.smallest.as_ref().is_none_or(|&(smallest, _)| size < smallest) {
+            self.smallest = Some((size, text()));
+        }
+    }
+
+    fn add(&mut self, other: Tally) {
+        self.inputs += other.inputs;
+        self.calls += other.calls;
+        self.differing += other.differing;
+        if let Some((size, text)) = other.smallest
+            && self.smallest.as_ref().is_none_or(|&(smallest, _)| size < smallest)
+        {
+            self.smallest = Some((size, text));
+        }
+    }
+}
+
+/// Runs a check, each worker taking the next batch of inputs until there are none left.
+pub fn run(source: &dyn Source, seed: u64, workers: &mut [Box<dyn Ours>]) -> Tally {
+    let next = AtomicU64::new(0);
+    let total = Mutex::new(Tally::default());
+    std::thread::scope(|scope| {
+        for ours in workers.iter_mut() {
+            scope.spawn(|| {
+                let tally = work(source, seed, ours.as_mut(), &next);
+                total.lock().expect("no worker panics while it adds").add(tally);
+            });
+        }
+    });
+    total.into_inner().expect("no worker panics while it adds")
+}
+
+fn work(source: &dyn Source, seed: u64, ours: &mut dyn Ours, next: &AtomicU64) -> Tally {
+    let mut tally = Tally::default();
+    let name = source.name();
+    loop {
+        let start = next.fetch_add(source.batch(), Ordering::Relaxed);
+        let end = (start + source.batch()).min(source.count());
+        if start >= end {
+            return tally;
+        }
+        let cases: Vec<Case> = (start..end).map(|index| source.case(index, &mut Random::of(seed, &name, index))).collect();
+        compare(ours, start, &cases, &mut tally);
+    }
+}
+
+/// Asks the library about a batch and compares. A batch without an answer is asked again input by input,
+/// so that the one that has none is found.
+fn compare(ours: &mut dyn Ours, start: u64, cases: &[Case], tally: &mut Tally) {
+    let calls: Vec<Call> =
+        cases.iter().flat_map(|case| case.plans.iter().map(|plan| Call { ask: &case.ask, room: plan.room, fill: plan.fill })).collect();
+    match ours.answer(&calls) {
+        Ok(replies) => {
+            assert_eq!(replies.len(), calls.len(), "every call is answered");
+            compare_replies(start, cases, &replies, tally);
+        }
+        Err(error) => match cases {
+            [case] => tally.differs(size_of_ask(&case.ask), || describe(start, &case.ask, &case.plans[0], &format!("no answer: {error}"))),
+            _ => {
+                for (index, case) in cases.iter().enumerate() {
+                    compare(ours, start + index as u64, std::slice::from_ref(case), tally);
+                }
+                return;
+            }
+        },
+    }
+    tally.inputs += cases.len() as u64;
+    tally.calls += calls.len() as u64;
+}
+
+fn compare_replies(start: u64, cases: &[Case], replies: &Replies, tally: &mut Tally) {
+    let mut call = 0;
+    for (index, case) in cases.iter().enumerate() {
+        let mut difference = case.complaint.clone().map(|text| (&case.plans[0], text));
+        for plan in &case.plans {
+            if difference.is_none() {
+                difference = difference_of(plan, &replies.get(call)).map(|text| (plan, text));
+            }
+            call += 1;
+        }
+        if let Some((plan, text)) = difference {
+            tally.differs(size_of_ask(&case.ask), || describe(start + index as u64, &case.ask, plan, &text));
+        }
+    }
+}
+
+/// Compares the answer, and every lent entry with what it must be: what is written, and the pattern
+/// everywhere else.
+fn difference_of(plan: &Plan, reply: &Reply) -> Option<String> {
+    if reply.answer != plan.wanted.answer {
+        return Some(format!("it answers {}", show(&reply.answer)));
+    }
+    let words = wanted_words(plan);
+    if let Some(at) = first_difference(&words, reply.words) {
+        return Some(format!("{} is {}, not {}", name_word(plan.room, at), reply.words[at], words[at]));
+    }
+    let bytes = wanted_bytes(plan);
+    let at = first_difference(&bytes, reply.bytes)?;
+    Some(format!("output byte {} is {:02x}, not {:02x}", at as i64 - BYTE_MARGIN as i64, reply.bytes[at], bytes[at]))
+}
+
+fn wanted_words(plan: &Plan) -> Vec<u32> {
+    let mut words = vec![0; plan.room.words()];
+    fill_words(&mut words, plan.fill);
+    let (changes, ends) = plan.room.places();
+    words[changes][..plan.wanted.changes.len()].copy_from_slice(&plan.wanted.changes);
+    words[ends][..plan.wanted.ends.len()].copy_from_slice(&plan.wanted.ends);
+    words
+}
+
+fn wanted_bytes(plan: &Plan) -> Vec<u8> {
+    let mut bytes = vec![0; plan.room.bytes()];
+    fill_bytes(&mut bytes, plan.fill);
+    if let Some(out) = &plan.wanted.out {
+        bytes[BYTE_MARGIN..BYTE_MARGIN + out.len()].copy_from_slice(out);
+    }
+    bytes
+}
+
+fn first_difference<T: PartialEq>(wanted: &[T], got: &[T]) -> Option<usize> {
+    if wanted == got {
+        return None;
+    }
+    assert_eq!(wanted.len(), got.len(), "as much comes back as was lent");
+    wanted.iter().zip(got).position(|(a, b)| a != b)
+}
+
+fn name_word(room: Room, at: usize) -> String {
+    let (changes, ends) = room.places();
+    if changes.contains(&at) {
+        format!("change {}", at - changes.start)
+    } else if ends.contains(&at) {
+        format!("row end {}", at - ends.start)
+    } else {
+        format!("word {at}, beside the lent arrays,")
+    }
+}
+
+fn size_of_ask(ask: &Ask) -> usize {
+    ask.src.len() + 4 * (ask.first.len() + ask.second.len())
+}
+
+fn describe(index: u64, ask: &Ask, plan: &Plan, text: &str) -> String {
+    let mut out = format!("  input {index}: {:?}, {}\n", ask.form, ask.settings);
+    let _ = writeln!(out, "  data ({} bytes, {} zero bytes behind them): {}", ask.src.len(), ask.tail, hex(&ask.src));
+    if !matches!(ask.form, Form::Page(_)) {
+        let _ = writeln!(out, "  at bit {}, lists {:?} and {:?}", ask.at, ask.first, ask.second);
+    }
+    let _ = writeln!(out, "  lent: {:?}, filled by {:08x}", plan.room, plan.fill);
+    let _ = writeln!(out, "  it must answer {}, changes {:?}, ends {:?}", show(&plan.wanted.answer), plan.wanted.changes, plan.wanted.ends);
+    if let Some(written) = &plan.wanted.out {
+        let _ = writeln!(out, "  and write {}", hex(written));
+    }
+    let _ = write!(out, "  {text}");
+    out
+}
+
+fn show(a: &Answer) -> String {
+    format!("{}, rows {}, entries {}, loose {}, bytes {}", a.number, a.rows, a.entries, a.loose, a.bytes)
+}
+
+pub fn hex(bytes: &[u8]) -> String {
+    bytes.iter().map(|byte| format!("{byte:02x}")).collect()
+}

@@ -1,0 +1,11 @@
+//! The checks, one file each.
+
+pub mod codes;
+pub mod exhaustive;
+pub mod limits;
+pub mod lines;
+pub mod long_runs;
+pub mod other_decoder;
+pub mod random_pages;
+pub mod sheets;
+pub mod writers;

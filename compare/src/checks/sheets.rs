@@ -1,0 +1,134 @@
+//! The sheets of document 01 that can be read: their answers stand here as the document has them, so
+//! the crate is held to them too.
+
+use crate::call::{Answer, Ask, Room};
+use crate::check::{Case, Plan, Source};
+use crate::random::Random;
+use crate::settings::{Encoding, Settings};
+use crate::truth::{Outcome, Wanted};
+
+/// Reference, row, bits, with the width first. Reading the bits strictly gives the row; writing the row
+/// gives the bits.
+pub const LINES: [(u32, &[u32], &[u32], &str); 6] = [
+    (8, &[], &[3, 5], "0011000111"),
+    (8, &[3, 5], &[3, 5], "111"),
+    (8, &[3, 5], &[], "00011"),
+    (8, &[0], &[], "001100110000110111"),
+    (1, &[], &[0], "0101"),
+    (1, &[0], &[], "011"),
+];
+
+/// A page and its answer.
+struct Sheet {
+    settings: Settings,
+    src: &'static [u8],
+    room: Room,
+    answer: Answer,
+    changes: &'static [u32],
+    ends: &'static [u32],
+}
+
+const PLENTY: Room = Room::Rows { changes: 9, ends: 9 };
+
+const fn settings(encoding: Encoding, columns: u32, rows: u32, strict: bool) -> Settings {
+    Settings { encoding, columns, rows, end_of_block: false, end_of_line: false, aligned: false, strict }
+}
+
+const fn group4(columns: u32, rows: u32, strict: bool) -> Settings {
+    settings(Encoding::Group4, columns, rows, strict)
+}
+
+const fn one_d(rows: u32, strict: bool) -> Settings {
+    settings(Encoding::Group3OneD, 8, rows, strict)
+}
+
+const fn answer(number: u32, rows: u32, entries: u32, loose: u32, bytes: u64) -> Answer {
+    Answer { number, rows, entries, loose, bytes }
+}
+
+/// A sheet with room to spare and no black pixel.
+const fn white(settings: Settings, src: &'static [u8], answer: Answer, ends: &'static [u32]) -> Sheet {
+    Sheet { settings, src, room: PLENTY, answer, changes: &[], ends }
+}
+
+const fn black(room: Room, answer: Answer, ends: &'static [u32], changes: &'static [u32]) -> Sheet {
+    Sheet { settings: group4(8, 1, true), src: &[0x31, 0xC0], room, answer, changes, ends }
+}
+
+const fn with_eols(settings: Settings) -> Settings {
+    Settings { end_of_line: true, ..settings }
+}
+
+const fn with_end(settings: Settings) -> Settings {
+    Settings { end_of_block: true, ..settings }
+}
+
+#[rustfmt::skip]
+const SHEETS: [Sheet; 20] = [
+    white(with_end(group4(8, 0, true)), &[0x80, 0x08, 0x00, 0x80], answer(0, 1, 0, 0, 4), &[0]),
+    white(with_end(group4(8, 0, true)), &[0x00, 0x10, 0x01], answer(0, 0, 0, 0, 3), &[]),
+    white(group4(8, 0, true), &[0x80], answer(1, 1, 0, 0, 0), &[0]),
+    white(group4(8, 1, true), &[0x80], answer(0, 1, 0, 0, 1), &[0]),
+    white(group4(2, 0, true), &[0x04], answer(3, 0, 0, 0, 0), &[]),
+    white(group4(2, 0, false), &[0x04], answer(3, 0, 0, 0, 0), &[]),
+    white(group4(3, 0, true), &[0x04], answer(2, 0, 0, 0, 0), &[]),
+    white(group4(3, 0, false), &[0x04], answer(2, 0, 0, 0, 0), &[]),
+    white(group4(8, 1, true), &[0x60], answer(1, 0, 0, 0, 0), &[]),
+    white(group4(8, 1, false), &[0x60], answer(0, 1, 0, 0, 1), &[0]),
+    black(Room::Rows { changes: 2, ends: 1 }, answer(0, 1, 2, 0, 2), &[2], &[3, 5]),
+    black(Room::Rows { changes: 1, ends: 1 }, answer(4, 0, 0, 1, 0), &[], &[3]),
+    black(Room::Rows { changes: 2, ends: 0 }, answer(5, 0, 0, 2, 0), &[], &[3, 5]),
+    white(one_d(1, true), &[0x98], answer(0, 1, 0, 0, 1), &[0]),
+    white(one_d(0, true), &[0x98], answer(2, 1, 0, 0, 0), &[0]),
+    white(with_eols(one_d(0, false)), &[], answer(0, 1, 0, 0, 0), &[0]),
+    white(one_d(0, false), &[], answer(2, 0, 0, 0, 0), &[]),
+    white(one_d(0, false), &[0x00, 0x01], answer(0, 1, 0, 0, 2), &[0]),
+    white(one_d(0, true), &[0x00, 0x01], answer(2, 0, 0, 0, 0), &[]),
+    Sheet {
+        settings: one_d(2, false), src: &[0x00, 0x17, 0x80, 0x06, 0x60], room: PLENTY,
+        answer: answer(0, 2, 2, 0, 5), changes: &[2, 5], ends: &[2, 2],
+    },
+];
+
+pub struct Sheets;
+
+impl Source for Sheets {
+    fn name(&self) -> String {
+        "sheets on the wall".to_string()
+    }
+
+    fn count(&self) -> u64 {
+        (SHEETS.len() + LINES.len()) as u64
+    }
+
+    fn case(&self, index: u64, random: &mut Random) -> Case {
+        let fill = random.next() as u32;
+        match SHEETS.get(index as usize) {
+            Some(sheet) => page_sheet(sheet, fill),
+            None => line_sheet(index as usize - SHEETS.len(), fill),
+        }
+    }
+}
+
+fn page_sheet(sheet: &Sheet, fill: u32) -> Case {
+    let wanted = Wanted { answer: sheet.answer, changes: sheet.changes.to_vec(), ends: sheet.ends.to_vec(), out: None };
+    let of_crate = Outcome::of_page(&sheet.settings, sheet.src, 0).page_within(sheet.room);
+    let agrees = of_crate == wanted;
+    let plans = vec![Plan { room: sheet.room, fill, wanted }];
+    Case { ask: Ask::page(sheet.settings, sheet.src.to_vec()), plans, complaint: None }
+        .require(agrees, || "the crate does not give what the sheet says".to_string())
+}
+
+fn line_sheet(index: usize, fill: u32) -> Case {
+    let (columns, reference, row, code) = LINES[index];
+    let mut bits = crate::bits::Bits::default();
+    bits.code(code);
+    let wanted =
+        Wanted { answer: answer(0, 1, row.len() as u32, 0, code.len() as u64), changes: row.to_vec(), ends: Vec::new(), out: None };
+    let src = bits.into_bytes();
+    let of_crate = Outcome::of_line(columns, true, &src, 0, 0, reference).line_within(PLENTY);
+    let agrees = of_crate == wanted;
+    let plans = vec![Plan { room: Room::Rows { changes: row.len() + 1, ends: 0 }, fill, wanted }];
+    Case { ask: Ask::read_line(columns, true, src, 0, reference.to_vec()), plans, complaint: None }
+        .require(agrees, || "the crate does not give what the sheet says".to_string())
+}

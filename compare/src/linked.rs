@@ -1,0 +1,132 @@
+//! The library, linked into this program.
+#![allow(unsafe_code)]
+
+use crate::call::{Answer, BYTE_MARGIN, Call, Form, Replies, Room};
+use crate::ours::Ours;
+use crate::settings::{Encoding, Settings};
+use std::io;
+
+#[rustfmt::skip]
+unsafe extern "C" {
+    fn ccitt_decode_group4(src: *const u8, src_len: usize, columns: u32, rows: u32, end_of_block: bool, rows_are_byte_aligned: bool, strict: bool,
+        changes: *mut u32, changes_len: usize, ends: *mut u32, ends_len: usize) -> Answer;
+    fn ccitt_decode_group3_1d(src: *const u8, src_len: usize, columns: u32, rows: u32, end_of_block: bool, end_of_line: bool, rows_are_byte_aligned: bool, strict: bool,
+        changes: *mut u32, changes_len: usize, ends: *mut u32, ends_len: usize) -> Answer;
+    fn ccitt_decode_group3_2d(src: *const u8, src_len: usize, columns: u32, rows: u32, end_of_block: bool, end_of_line: bool, rows_are_byte_aligned: bool, strict: bool,
+        changes: *mut u32, changes_len: usize, ends: *mut u32, ends_len: usize) -> Answer;
+    fn ccitt_read_line(src: *const u8, src_len: usize, at: u64, columns: u32, strict: bool,
+        reference: *const u32, reference_len: usize, changes: *mut u32, changes_len: usize) -> Answer;
+    #[cfg(feature = "writers")]
+    fn ccitt_write_line(columns: u32, reference: *const u32, reference_len: usize, row: *const u32, row_len: usize,
+        out: *mut u8, out_len: usize, at: u64) -> Answer;
+    #[cfg(feature = "writers")]
+    fn ccitt_write_page(columns: u32, changes: *const u32, changes_len: usize, ends: *const u32, ends_len: usize,
+        out: *mut u8, out_len: usize) -> Answer;
+}
+
+pub struct Linked;
+
+impl Ours for Linked {
+    fn answer(&mut self, calls: &[Call]) -> io::Result<Replies> {
+        let mut replies = Replies::default();
+        for call in calls {
+            replies.lend(call, |words, bytes| one(call, words, bytes));
+        }
+        Ok(replies)
+    }
+
+    fn writes(&self) -> bool {
+        cfg!(feature = "writers")
+    }
+}
+
+fn one(call: &Call, words: &mut [u32], bytes: &mut [u8]) -> Answer {
+    match call.room {
+        Room::Rows { .. } => {
+            let (changes, ends) = call.room.places();
+            let (front, back) = words.split_at_mut(ends.start);
+            read(call, &mut front[changes], &mut back[..ends.len()])
+        }
+        Room::Bytes(_) => write(call, bytes),
+    }
+}
+
+fn read(call: &Call, changes: &mut [u32], ends: &mut [u32]) -> Answer {
+    let ask = call.ask;
+    if ask.tail == 0 {
+        return read_from(call, &ask.src, changes, ends);
+    }
+    // zeroed memory is not touched before it is written, so the tail costs nothing
+    let mut long = vec![0; ask.src.len() + ask.tail];
+    long[..ask.src.len()].copy_from_slice(&ask.src);
+    read_from(call, &long, changes, ends)
+}
+
+fn read_from(call: &Call, src: &[u8], changes: &mut [u32], ends: &mut [u32]) -> Answer {
+    match call.ask.form {
+        Form::ReadLine => read_line(call, src, changes),
+        _ => page(&call.ask.settings, src, changes, ends),
+    }
+}
+
+/// The page form.
+#[rustfmt::skip]
+pub fn page(s: &Settings, src: &[u8], changes: &mut [u32], ends: &mut [u32]) -> Answer {
+    // SAFETY: each pointer stands with the length of its slice, and the two lent arrays are apart.
+    unsafe {
+        match s.encoding {
+            Encoding::Group4 => ccitt_decode_group4(src.as_ptr(), src.len(), s.columns, s.rows, s.end_of_block, s.aligned, s.strict,
+                changes.as_mut_ptr(), changes.len(), ends.as_mut_ptr(), ends.len()),
+            Encoding::Group3OneD => ccitt_decode_group3_1d(src.as_ptr(), src.len(), s.columns, s.rows, s.end_of_block, s.end_of_line, s.aligned, s.strict,
+                changes.as_mut_ptr(), changes.len(), ends.as_mut_ptr(), ends.len()),
+            Encoding::Group3TwoD => ccitt_decode_group3_2d(src.as_ptr(), src.len(), s.columns, s.rows, s.end_of_block, s.end_of_line, s.aligned, s.strict,
+                changes.as_mut_ptr(), changes.len(), ends.as_mut_ptr(), ends.len()),
+        }
+    }
+}
+
+#[rustfmt::skip]
+fn read_line(call: &Call, src: &[u8], changes: &mut [u32]) -> Answer {
+    let ask = call.ask;
+    // SAFETY: each pointer stands with the length of its slice.
+    unsafe {
+        ccitt_read_line(src.as_ptr(), src.len(), ask.at, ask.settings.columns, ask.settings.strict,
+            ask.first.as_ptr(), ask.first.len(), changes.as_mut_ptr(), changes.len())
+    }
+}
+
+fn write(call: &Call, bytes: &mut [u8]) -> Answer {
+    let lent = BYTE_MARGIN..bytes.len() - BYTE_MARGIN;
+    if call.ask.tail == 0 {
+        return write_to(call, &mut bytes[lent]);
+    }
+    let mut long = vec![0; lent.len() + call.ask.tail];
+    long[..lent.len()].copy_from_slice(&bytes[lent.clone()]);
+    let answer = write_to(call, &mut long);
+    bytes[lent.clone()].copy_from_slice(&long[..lent.len()]);
+    if long[lent.len()..].iter().any(|&byte| byte != 0) {
+        // a write into the tail shows as one into the margin
+        bytes[0] ^= 255;
+    }
+    answer
+}
+
+#[cfg(feature = "writers")]
+#[rustfmt::skip]
+fn write_to(call: &Call, out: &mut [u8]) -> Answer {
+    let ask = call.ask;
+    // SAFETY: each pointer stands with the length of its slice.
+    unsafe {
+        match ask.form {
+            Form::WriteLine => ccitt_write_line(ask.settings.columns, ask.first.as_ptr(), ask.first.len(),
+                ask.second.as_ptr(), ask.second.len(), out.as_mut_ptr(), out.len(), ask.at),
+            _ => ccitt_write_page(ask.settings.columns, ask.first.as_ptr(), ask.first.len(),
+                ask.second.as_ptr(), ask.second.len(), out.as_mut_ptr(), out.len()),
+        }
+    }
+}
+
+#[cfg(not(feature = "writers"))]
+fn write_to(_: &Call, _: &mut [u8]) -> Answer {
+    Answer::bare(u32::MAX)
+}

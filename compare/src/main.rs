@@ -1,0 +1,138 @@
+//! Compares our fax decoder with the crate that it was made from, by running both. `compare/run` builds
+//! and starts it; README.md says what is compared.
+#![deny(unsafe_code)]
+
+mod arguments;
+mod bench;
+mod bits;
+mod call;
+mod check;
+mod checks;
+mod codes;
+mod damage;
+mod encoder;
+#[cfg(feature = "linked")]
+mod linked;
+mod ours;
+mod pages;
+#[cfg(not(feature = "linked"))]
+mod piped;
+mod random;
+mod rooms;
+mod rows;
+mod sample;
+mod settings;
+mod sha256;
+#[cfg(test)]
+mod standin;
+mod truth;
+mod words;
+
+use arguments::{Arguments, Mode};
+use check::{Source, Tally};
+use checks::other_decoder::{self, OtherDecoder};
+use checks::random_pages::{Kind, RandomPages};
+use checks::{codes::Codes, exhaustive::Exhaustive, limits, lines::Lines, long_runs::LongRuns, sheets::Sheets, writers};
+use ours::Ours;
+use settings::{ENCODINGS, Encoding};
+use std::process::ExitCode;
+use std::time::Instant;
+
+fn main() -> ExitCode {
+    let Some(arguments) = arguments::parse(std::env::args().skip(1)) else {
+        eprintln!("{}", arguments::USAGE);
+        return ExitCode::from(2);
+    };
+    let done = match &arguments.mode {
+        Mode::Compare => compare(&arguments),
+        Mode::Bench => bench::run(),
+        Mode::Sample(file) => sample::write(file, arguments.seed).map(|()| true),
+    };
+    match done {
+        Ok(true) => ExitCode::SUCCESS,
+        Ok(false) => ExitCode::FAILURE,
+        Err(error) => {
+            eprintln!("compare: {error}");
+            ExitCode::from(2)
+        }
+    }
+}
+
+/// Runs every check. True if all passed.
+fn compare(arguments: &Arguments) -> std::io::Result<bool> {
+    println!("seed {}", arguments.seed);
+    let workers = std::thread::available_parallelism().map_or(1, usize::from);
+    let mut ours = ours::open(workers)?;
+    let (mut passed, mut failed, mut inputs, mut calls) = (0, 0, 0, 0);
+    let mut sources = sources(arguments.more, ours[0].writes());
+    sources.retain(|source| source.name().contains(&arguments.only));
+    for source in sources {
+        let tally = run_one(source.as_ref(), arguments.seed, &mut ours);
+        inputs += tally.inputs;
+        calls += tally.calls;
+        if tally.passed() { passed += 1 } else { failed += 1 }
+    }
+    println!("{inputs} inputs, {calls} calls; the line below counts checks");
+    println!("{passed} passed, {failed} failed");
+    Ok(failed == 0)
+}
+
+fn run_one(source: &dyn Source, seed: u64, ours: &mut [Box<dyn Ours>]) -> Tally {
+    let began = Instant::now();
+    let tally = check::run(source, seed, ours);
+    println!(
+        "{}: {} inputs, {} calls, {} differ ({:.1} s)",
+        source.name(),
+        tally.inputs,
+        tally.calls,
+        tally.differing,
+        began.elapsed().as_secs_f64()
+    );
+    if let Some((_, text)) = &tally.smallest {
+        println!("{text}");
+    }
+    tally
+}
+
+/// The checks, in the order in which they are run.
+fn sources(more: u64, writes: bool) -> Vec<Box<dyn Source>> {
+    let random = |kind, count| RandomPages { kind, count: count * more };
+    let mut list: Vec<Box<dyn Source>> = vec![
+        Box::new(Sheets),
+        Box::new(limits::PageLimits),
+        Box::new(limits::LineLimits),
+        Box::new(Codes),
+        Box::new(LongRuns),
+        Box::new(random(Kind::Short, 164_000)),
+        Box::new(random(Kind::Words, 150_000)),
+        Box::new(random(Kind::Encoded, 100_000)),
+        Box::new(random(Kind::Damaged, 200_000)),
+        Box::new(Lines { count: 150_000 * more }),
+    ];
+    // under the emulator a call takes microseconds, so the third row number is left to --more there
+    let rows: &[u32] = if cfg!(feature = "linked") || more > 1 { &[0, 1, 2] } else { &[0, 1] };
+    list.extend(ENCODINGS.map(|encoding| Box::new(Exhaustive { encoding, rows }) as Box<dyn Source>));
+    match other_decoder::texts() {
+        Some(texts) => list.push(Box::new(OtherDecoder(texts))),
+        None => println!("pages of text by other decoders: skipped, the pages are not at hand"),
+    }
+    if writes {
+        list.extend(writer_sources(more));
+    } else {
+        println!("the writers: skipped, the library has none");
+    }
+    list
+}
+
+fn writer_sources(more: u64) -> Vec<Box<dyn Source>> {
+    let mut list: Vec<Box<dyn Source>> = vec![
+        Box::new(writers::WriterLimits),
+        Box::new(writers::WrittenLines { count: 100_000 * more }),
+        Box::new(writers::WrittenPages { count: 50_000 * more }),
+    ];
+    if let Some(mut texts) = other_decoder::texts() {
+        texts.retain(|text| text.settings.encoding == Encoding::Group4);
+        list.push(Box::new(writers::WrittenTexts(texts)));
+    }
+    list
+}

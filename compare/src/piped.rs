@@ -1,0 +1,171 @@
+//! The library in a process of its own, behind pipes: where it can't be linked, since it is compiled
+//! for another processor. `driver.c` is the other end, and has the same layout.
+
+use crate::call::{Answer, Call, Form, Replies, Room};
+use crate::ours::Ours;
+use crate::settings::Encoding;
+use std::io::{self, Read, Write};
+use std::process::{Child, ChildStdin, ChildStdout, Command, Stdio};
+
+/// The first word that the driver writes; the second is 1 where it has the writers.
+const HELLO: u32 = 0x3454_4343;
+
+pub struct Piped {
+    child: Child,
+    to: ChildStdin,
+    from: ChildStdout,
+    writes: bool,
+}
+
+impl Piped {
+    /// Starts the command that `COMPARE_DRIVER` names.
+    pub fn start() -> io::Result<Self> {
+        let command =
+            std::env::var_os("COMPARE_DRIVER").ok_or_else(|| io::Error::other("COMPARE_DRIVER names no driver: use compare/run"))?;
+        let mut child = Command::new(command).stdin(Stdio::piped()).stdout(Stdio::piped()).spawn()?;
+        let to = child.stdin.take().expect("it is piped");
+        let mut from = child.stdout.take().expect("it is piped");
+        let mut hello = [0; 8];
+        from.read_exact(&mut hello)?;
+        if word(&hello, 0) != HELLO {
+            return Err(io::Error::other("the driver does not greet as it should"));
+        }
+        Ok(Piped { child, to, from, writes: word(&hello, 4) == 1 })
+    }
+}
+
+impl Ours for Piped {
+    /// After a batch without an answer there is a new process, so that the run can go on.
+    fn answer(&mut self, calls: &[Call]) -> io::Result<Replies> {
+        let replies = self.ask(calls);
+        if replies.is_err() {
+            *self = Piped::start()?;
+        }
+        replies
+    }
+
+    fn writes(&self) -> bool {
+        self.writes
+    }
+}
+
+impl Piped {
+    /// The driver reads a batch to its end before it writes, so neither side waits for the other.
+    fn ask(&mut self, calls: &[Call]) -> io::Result<Replies> {
+        let request = request_of(calls);
+        self.to.write_all(&request)?;
+        self.to.flush()?;
+        let mut reply = vec![0; calls.iter().map(reply_size).sum()];
+        self.from.read_exact(&mut reply)?;
+        Ok(replies_of(calls, &reply))
+    }
+}
+
+impl Drop for Piped {
+    fn drop(&mut self) {
+        // killed rather than asked: it may be in a call that does not end
+        let _ = self.child.kill();
+        let _ = self.child.wait();
+    }
+}
+
+fn padded(size: usize) -> usize {
+    size.div_ceil(8) * 8
+}
+
+fn reply_size(call: &Call) -> usize {
+    size_of::<Answer>() + padded(4 * call.room.words()) + padded(call.room.bytes())
+}
+
+/// A batch: its length in bytes, that of its replies, the number of calls; then the calls.
+fn request_of(calls: &[Call]) -> Vec<u8> {
+    let mut out = vec![0; 24];
+    for call in calls {
+        put_call(&mut out, call);
+    }
+    let size = out.len() as u64 - 24;
+    let reply: usize = calls.iter().map(reply_size).sum();
+    out[0..8].copy_from_slice(&size.to_le_bytes());
+    out[8..16].copy_from_slice(&(reply as u64).to_le_bytes());
+    out[16..24].copy_from_slice(&(calls.len() as u64).to_le_bytes());
+    out
+}
+
+/// Sixteen words, then the data and the two lists, each padded to eight bytes.
+fn put_call(out: &mut Vec<u8>, call: &Call) {
+    let ask = call.ask;
+    let (changes, ends, bytes) = match call.room {
+        Room::Rows { changes, ends } => (changes, ends, 0),
+        Room::Bytes(bytes) => (0, 0, bytes),
+    };
+    let words = [
+        form_number(ask.form),
+        flags(call),
+        ask.settings.columns,
+        ask.settings.rows,
+        ask.at as u32,
+        (ask.at >> 32) as u32,
+        ask.tail as u32,
+        (ask.tail as u64 >> 32) as u32,
+        ask.src.len() as u32,
+        ask.first.len() as u32,
+        ask.second.len() as u32,
+        changes as u32,
+        ends as u32,
+        bytes as u32,
+        call.fill,
+        0,
+    ];
+    put_words(out, &words);
+    out.extend_from_slice(&ask.src);
+    out.resize(padded(out.len()), 0);
+    put_words(out, &ask.first);
+    put_words(out, &ask.second);
+}
+
+fn put_words(out: &mut Vec<u8>, words: &[u32]) {
+    for word in words {
+        out.extend_from_slice(&word.to_le_bytes());
+    }
+    out.resize(padded(out.len()), 0);
+}
+
+fn form_number(form: Form) -> u32 {
+    match form {
+        Form::Page(Encoding::Group4) => 0,
+        Form::Page(Encoding::Group3OneD) => 1,
+        Form::Page(Encoding::Group3TwoD) => 2,
+        Form::ReadLine => 3,
+        Form::WriteLine => 4,
+        Form::WritePage => 5,
+    }
+}
+
+fn flags(call: &Call) -> u32 {
+    let s = &call.ask.settings;
+    u32::from(s.end_of_block) | u32::from(s.end_of_line) << 1 | u32::from(s.aligned) << 2 | u32::from(s.strict) << 3
+}
+
+fn replies_of(calls: &[Call], reply: &[u8]) -> Replies {
+    let mut replies = Replies::default();
+    let mut at = 0;
+    for call in calls {
+        let answer = Answer {
+            number: word(reply, at),
+            rows: word(reply, at + 4),
+            entries: word(reply, at + 8),
+            loose: word(reply, at + 12),
+            bytes: u64::from(word(reply, at + 16)) | u64::from(word(reply, at + 20)) << 32,
+        };
+        let words_at = at + size_of::<Answer>();
+        let bytes_at = words_at + padded(4 * call.room.words());
+        let words = reply[words_at..words_at + 4 * call.room.words()].chunks_exact(4).map(|four| word(four, 0));
+        replies.keep(answer, words, &reply[bytes_at..bytes_at + call.room.bytes()]);
+        at += reply_size(call);
+    }
+    replies
+}
+
+fn word(bytes: &[u8], at: usize) -> u32 {
+    u32::from_le_bytes([bytes[at], bytes[at + 1], bytes[at + 2], bytes[at + 3]])
+}

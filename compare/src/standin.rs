@@ -1,0 +1,368 @@
+//! A stand-in for the library, for testing this package: it reads with a copy of the crate and writes
+//! with the encoder. A fault can be put into what it hands back; each must be caught.
+
+use crate::bits::Bits;
+use crate::call::{Answer, Ask, BYTE_MARGIN, Call, Form, Replies, Room};
+use crate::checks::writers::encoded;
+use crate::codes::LONGEST_WRITTEN;
+use crate::encoder::put_line_2d;
+use crate::ours::Ours;
+use crate::settings::Encoding;
+use crate::truth::{LIMIT, Outcome, Wanted, ascends_below};
+use hayro_ccitt_slipped as slipped;
+use std::io;
+
+/// What goes wrong.
+#[derive(Clone, Copy, Debug, PartialEq, Eq)]
+pub enum Fault {
+    None,
+    Number,
+    Rows,
+    Entries,
+    Loose,
+    Bytes,
+    Change,
+    LooseChange,
+    RowEnd,
+    BehindChanges,
+    BehindEnds,
+    BesideArrays,
+    BytesOfAFailure,
+    FourEarly,
+    FiveEarly,
+    FiveForFour,
+    NoSix,
+    NoSeven,
+    ZeroColumnsRefused,
+    LineEndsOnAByte,
+    NoEightForALine,
+    WrittenBit,
+    WrittenBehind,
+    UnusedBitsStay,
+    NineEarly,
+    NineWrites,
+    NineBeforeEight,
+    FallingEnds,
+}
+
+pub const FAULTS: [Fault; 27] = [
+    Fault::Number,
+    Fault::Rows,
+    Fault::Entries,
+    Fault::Loose,
+    Fault::Bytes,
+    Fault::Change,
+    Fault::LooseChange,
+    Fault::RowEnd,
+    Fault::BehindChanges,
+    Fault::BehindEnds,
+    Fault::BesideArrays,
+    Fault::BytesOfAFailure,
+    Fault::FourEarly,
+    Fault::FiveEarly,
+    Fault::FiveForFour,
+    Fault::NoSix,
+    Fault::NoSeven,
+    Fault::ZeroColumnsRefused,
+    Fault::LineEndsOnAByte,
+    Fault::NoEightForALine,
+    Fault::WrittenBit,
+    Fault::WrittenBehind,
+    Fault::UnusedBitsStay,
+    Fault::NineEarly,
+    Fault::NineWrites,
+    Fault::NineBeforeEight,
+    Fault::FallingEnds,
+];
+
+pub struct Standin(pub Fault);
+
+impl Ours for Standin {
+    fn answer(&mut self, calls: &[Call]) -> io::Result<Replies> {
+        let mut replies = Replies::default();
+        for call in calls {
+            replies.lend(call, |words, bytes| match call.room {
+                Room::Rows { .. } => self.read(call, words),
+                Room::Bytes(_) => self.write(call, bytes),
+            });
+        }
+        Ok(replies)
+    }
+
+    fn writes(&self) -> bool {
+        true
+    }
+}
+
+impl Standin {
+    fn read(&self, call: &Call, words: &mut [u32]) -> Answer {
+        let wanted = match call.ask.form {
+            Form::ReadLine => self.line(call.ask).line_within(self.room(call.room)),
+            _ => self.page(call.ask).page_within(self.room(call.room)),
+        };
+        let (changes, ends) = call.room.places();
+        words[changes.clone()][..wanted.changes.len()].copy_from_slice(&wanted.changes);
+        words[ends.clone()][..wanted.ends.len()].copy_from_slice(&wanted.ends);
+        self.spoil_words(&wanted, words, changes, ends);
+        self.spoil_answer(call.ask, wanted.answer)
+    }
+
+    /// The room that it takes itself to have.
+    fn room(&self, room: Room) -> Room {
+        match (self.0, room) {
+            (Fault::FourEarly, Room::Rows { changes, ends }) => Room::Rows { changes: changes.saturating_sub(1), ends },
+            (Fault::FiveEarly, Room::Rows { changes, ends }) => Room::Rows { changes, ends: ends.saturating_sub(1) },
+            _ => room,
+        }
+    }
+
+    fn page(&self, ask: &Ask) -> Outcome {
+        let bare = |number| Outcome { number, bytes: 0, changes: Vec::new(), ends: Vec::new() };
+        if ask.settings.columns == u32::MAX {
+            return bare(if self.0 == Fault::NoSix { 0 } else { 6 });
+        }
+        if ask.src.len() + ask.tail > LIMIT + usize::from(self.0 == Fault::NoSeven) {
+            return bare(7);
+        }
+        if ask.settings.columns == 0 {
+            return bare(if self.0 == Fault::ZeroColumnsRefused { 6 } else { 0 });
+        }
+        if ask.tail == 0 {
+            return slipped_page(ask, &ask.src);
+        }
+        let mut long = vec![0; ask.src.len() + ask.tail];
+        long[..ask.src.len()].copy_from_slice(&ask.src);
+        slipped_page(ask, &long)
+    }
+
+    fn line(&self, ask: &Ask) -> Outcome {
+        let s = ask.settings;
+        if self.0 == Fault::NoEightForALine && s.columns == 8 && ask.tail == 0 && !ascends_below(&ask.first, 8) {
+            return Outcome { number: 2, bytes: 0, changes: Vec::new(), ends: Vec::new() };
+        }
+        // the refusals are those of the truth; only the reading is the copy's own
+        let truth = Outcome::of_line(s.columns, s.strict, &ask.src, ask.tail, ask.at, &ask.first);
+        if truth.number > 5 || ask.at > 8 * ask.src.len() as u64 { truth } else { slipped_line(ask) }
+    }
+
+    fn spoil_words(&self, wanted: &Wanted, words: &mut [u32], changes: std::ops::Range<usize>, ends: std::ops::Range<usize>) {
+        let (entries, loose, rows) = (wanted.answer.entries as usize, wanted.answer.loose as usize, wanted.answer.rows as usize);
+        match self.0 {
+            Fault::Change if entries > 3 => words[changes.start + 2] ^= 1,
+            Fault::LooseChange if loose > 1 => words[changes.start + entries + 1] ^= 1,
+            Fault::RowEnd if rows > 1 && !ends.is_empty() => words[ends.start + rows - 1] ^= 1,
+            Fault::BehindChanges if wanted.changes.len() < changes.len() => words[changes.end - 1] = 0,
+            Fault::BehindEnds if wanted.ends.len() < ends.len() => words[ends.end - 1] = 0,
+            Fault::BesideArrays if wanted.answer.number == 5 => words[ends.end] = 0,
+            _ => {}
+        }
+    }
+
+    fn spoil_answer(&self, ask: &Ask, mut answer: Answer) -> Answer {
+        match self.0 {
+            Fault::Number if answer.number == 3 => answer.number = 1,
+            Fault::Rows if answer.rows > 5 => answer.rows -= 1,
+            Fault::Entries if answer.loose > 2 => answer.entries += 1,
+            Fault::Loose if answer.loose > 2 => answer.loose -= 1,
+            Fault::Bytes if answer.bytes > 9 => answer.bytes -= 1,
+            Fault::BytesOfAFailure if answer.number == 4 => answer.bytes = 1,
+            Fault::FiveForFour if answer.number == 4 => answer.number = 5,
+            Fault::LineEndsOnAByte if ask.form == Form::ReadLine => answer.bytes = answer.bytes.div_ceil(8) * 8,
+            _ => {}
+        }
+        answer
+    }
+
+    fn write(&self, call: &Call, bytes: &mut [u8]) -> Answer {
+        let ask = call.ask;
+        let out = &mut bytes[BYTE_MARGIN..];
+        let Room::Bytes(length) = call.room else { unreachable!("a writer is lent bytes") };
+        let refusal = self.refusal(ask, length);
+        let fits = |at: u64, bits: &Bits| at <= 8 * length as u64 && at as usize + bits.len() <= 8 * length;
+        let bits = if refusal == 0 { self.bits(ask) } else { Bits::default() };
+        if refusal != 0 || !fits(ask.at, &bits) || self.0 == Fault::NineEarly && ask.at as usize + bits.len() == 8 * length {
+            if self.0 == Fault::NineWrites && refusal == 0 && length > 0 {
+                out[0] = 0;
+            }
+            return Answer::bare(if refusal == 0 { 9 } else { refusal });
+        }
+        let end = ask.at as usize + bits.len();
+        let padded = if self.0 == Fault::UnusedBitsStay { end } else { end.div_ceil(8) * 8 };
+        for index in ask.at as usize..padded {
+            let mask = 128 >> (index % 8);
+            let set = index < end && bits.at(index - ask.at as usize);
+            out[index / 8] = if set { out[index / 8] | mask } else { out[index / 8] & !mask };
+        }
+        match self.0 {
+            Fault::WrittenBit if end > 40 => out[4] ^= 1,
+            Fault::WrittenBehind if end.div_ceil(8) < length => out[length - 1] ^= 1,
+            _ => {}
+        }
+        let place = if ask.form == Form::WritePage { end / 8 } else { end };
+        Answer { bytes: place as u64, ..Answer::default() }
+    }
+
+    fn refusal(&self, ask: &Ask, length: usize) -> u32 {
+        let columns = ask.settings.columns;
+        let past = ask.at > 8 * (length + ask.tail) as u64;
+        if columns == 0 || columns == u32::MAX {
+            6
+        } else if length + ask.tail > LIMIT {
+            7
+        } else if self.0 == Fault::NineBeforeEight && past {
+            9
+        } else if ask.form == Form::WriteLine {
+            if ascends_below(&ask.first, columns) && ascends_below(&ask.second, columns) { 0 } else { 8 }
+        } else if self.rows(ask).is_some_and(|rows| rows.iter().all(|row| ascends_below(row, columns))) {
+            0
+        } else {
+            8
+        }
+    }
+
+    /// The rows of a page to be written, unless its row ends fall or pass the array.
+    fn rows(&self, ask: &Ask) -> Option<Vec<Vec<u32>>> {
+        let mut start = 0;
+        let mut rows = Vec::new();
+        for &end in &ask.second {
+            let end = end as usize;
+            if self.0 == Fault::FallingEnds && end < start {
+                continue;
+            }
+            rows.push(ask.first.get(start..end)?.to_vec());
+            start = end;
+        }
+        Some(rows)
+    }
+
+    fn bits(&self, ask: &Ask) -> Bits {
+        let columns = ask.settings.columns;
+        if ask.form == Form::WritePage {
+            return encoded(columns, &self.rows(ask).expect("it was not refused"));
+        }
+        let mut bits = Bits::default();
+        put_line_2d(&mut bits, columns, &ask.first, &ask.second, LONGEST_WRITTEN);
+        bits
+    }
+}
+
+fn slipped_settings(ask: &Ask) -> slipped::DecodeSettings {
+    let s = &ask.settings;
+    slipped::DecodeSettings {
+        columns: s.columns,
+        rows: s.rows,
+        end_of_block: s.end_of_block,
+        end_of_line: s.end_of_line,
+        rows_are_byte_aligned: s.aligned,
+        encoding: match s.encoding {
+            Encoding::Group4 => slipped::EncodingMode::Group4,
+            Encoding::Group3OneD => slipped::EncodingMode::Group3_1D,
+            Encoding::Group3TwoD => slipped::EncodingMode::Group3_2D,
+        },
+        strict: s.strict,
+    }
+}
+
+#[derive(Default)]
+struct Sink {
+    changes: Vec<u32>,
+    ends: Vec<u32>,
+}
+
+impl slipped::Decoder for Sink {
+    fn push_row(&mut self, changes: &[u32]) {
+        self.changes.extend_from_slice(changes);
+        self.ends.push(self.changes.len() as u32);
+    }
+}
+
+fn slipped_number(error: slipped::DecodeError) -> u32 {
+    match error {
+        slipped::DecodeError::InvalidCode => 1,
+        slipped::DecodeError::UnexpectedEof => 2,
+        slipped::DecodeError::Overflow => 3,
+    }
+}
+
+fn slipped_page(ask: &Ask, src: &[u8]) -> Outcome {
+    let mut sink = Sink::default();
+    let mut context = slipped::DecoderContext::new(slipped_settings(ask));
+    let result = slipped::decode(src, &mut sink, &mut context);
+    let (number, bytes) = result.map_or_else(|error| (slipped_number(error), 0), |bytes| (0, bytes as u64));
+    if number != 0 {
+        sink.changes.extend_from_slice(context.unfinished());
+    }
+    Outcome { number, bytes, changes: sink.changes, ends: sink.ends }
+}
+
+fn slipped_line(ask: &Ask) -> Outcome {
+    let mut context = slipped::DecoderContext::new(slipped_settings(ask));
+    let result = context.read_line(&ask.src, ask.at as usize, &ask.first);
+    let changes = context.unfinished().to_vec();
+    match result {
+        Ok(bit) => Outcome { number: 0, bytes: bit as u64, ends: vec![changes.len() as u32], changes },
+        Err(error) => Outcome { number: slipped_number(error), bytes: 0, ends: Vec::new(), changes },
+    }
+}
+
+#[cfg(test)]
+mod tests {
+    use super::{FAULTS, Fault, Standin};
+    use crate::check::{self, Source};
+    use crate::checks::random_pages::{Kind, RandomPages};
+    use crate::checks::{codes::Codes, limits, lines::Lines, long_runs::LongRuns, sheets::Sheets, writers};
+    use crate::ours::Ours;
+
+    /// Every check but the exhaustive one, with fewer inputs.
+    fn sources(count: u64) -> Vec<Box<dyn Source>> {
+        let random = |kind| Box::new(RandomPages { kind, count }) as Box<dyn Source>;
+        vec![
+            Box::new(Sheets),
+            Box::new(limits::PageLimits),
+            Box::new(limits::LineLimits),
+            Box::new(Codes),
+            random(Kind::Short),
+            random(Kind::Words),
+            random(Kind::Encoded),
+            random(Kind::Damaged),
+            Box::new(Lines { count }),
+            Box::new(writers::WriterLimits),
+            Box::new(writers::WrittenLines { count }),
+            Box::new(writers::WrittenPages { count }),
+        ]
+    }
+
+    /// The checks that a fault fails.
+    fn failing(fault: Fault, sources: &[Box<dyn Source>]) -> Vec<String> {
+        let mut ours: Vec<Box<dyn Ours>> = vec![Box::new(Standin(fault))];
+        sources.iter().filter(|source| !check::run(source.as_ref(), 7, &mut ours).passed()).map(|source| source.name()).collect()
+    }
+
+    #[test]
+    fn the_crate_passes() {
+        assert_eq!(failing(Fault::None, &sources(10_000)), Vec::<String>::new());
+    }
+
+    #[test]
+    fn every_fault_is_caught() {
+        for fault in FAULTS {
+            assert!(!failing(fault, &sources(500)).is_empty(), "{fault:?} is not caught");
+        }
+    }
+
+    #[test]
+    fn a_check_without_inputs_does_not_pass() {
+        assert_eq!(failing(Fault::None, &[Box::new(Lines { count: 0 })]).len(), 1);
+    }
+
+    /// Run by `compare/run test`, once for each slip in the copy.
+    #[test]
+    #[ignore = "there is no slip unless compare/run test puts one in"]
+    fn slip_is_caught() {
+        let mut sources = sources(20_000);
+        sources.push(Box::new(LongRuns));
+        let caught = failing(Fault::None, &sources);
+        println!("caught by: {caught:?}");
+        assert!(!caught.is_empty());
+    }
+}

@@ -1,0 +1,203 @@
+//! What the answer must be: what the crate gives, under document 01's rules of the row store.
+
+use crate::call::{Answer, Room};
+use crate::settings::Settings;
+use std::iter::once;
+
+/// Limit 7, in bytes.
+pub const LIMIT: usize = 268_435_456;
+
+/// What a reader does with room enough.
+#[derive(Clone, Debug, PartialEq, Eq)]
+pub struct Outcome {
+    pub number: u32,
+    pub bytes: u64,
+    /// The changes of every row, those of the unfinished row behind them.
+    pub changes: Vec<u32>,
+    /// Where each whole row ends among them.
+    pub ends: Vec<u32>,
+}
+
+/// What must come back from one call: the answer, and what the lent arrays begin with. Everything
+/// behind that keeps its value.
+#[derive(Clone, Debug, PartialEq, Eq)]
+pub struct Wanted {
+    pub answer: Answer,
+    pub changes: Vec<u32>,
+    pub ends: Vec<u32>,
+    /// A writer's whole output, if it is not to stay as it was.
+    pub out: Option<Vec<u8>>,
+}
+
+impl Wanted {
+    /// An answer that leaves everything as it was.
+    pub fn untouched(answer: Answer) -> Self {
+        Wanted { answer, changes: Vec::new(), ends: Vec::new(), out: None }
+    }
+}
+
+impl Outcome {
+    fn refused(number: u32) -> Self {
+        Outcome { number, bytes: 0, changes: Vec::new(), ends: Vec::new() }
+    }
+
+    /// A page: tests 6 and 7, then what the crate gives.
+    pub fn of_page(settings: &Settings, src: &[u8], tail: usize) -> Self {
+        if settings.columns == u32::MAX {
+            return Self::refused(6);
+        }
+        if src.len() + tail > LIMIT {
+            return Self::refused(7);
+        }
+        if tail == 0 {
+            return Self::of_crate(settings, src);
+        }
+        let mut long = vec![0; src.len() + tail];
+        long[..src.len()].copy_from_slice(src);
+        Self::of_crate(settings, &long)
+    }
+
+    fn of_crate(settings: &Settings, src: &[u8]) -> Self {
+        let mut sink = Sink::default();
+        let mut context = hayro_ccitt::DecoderContext::new(settings.for_crate());
+        match hayro_ccitt::decode(src, &mut sink, &mut context) {
+            Ok(bytes) => Outcome { number: 0, bytes: bytes as u64, changes: sink.changes, ends: sink.ends },
+            Err(error) => Self::of_failing_page(settings, src, crate_number(error), sink),
+        }
+    }
+
+    /// The crate does not hand out an unfinished row, so the copy that does is asked again. It must
+    /// agree with the crate in everything else.
+    fn of_failing_page(settings: &Settings, src: &[u8], number: u32, sink: Sink) -> Self {
+        let mut again = Sink::default();
+        let mut context = hayro_ccitt_open::DecoderContext::new(settings.for_open_crate());
+        let error = hayro_ccitt_open::decode(src, &mut again, &mut context).expect_err("the crate fails here");
+        assert!(open_crate_number(error) == number && again == sink, "the opened copy is not the crate");
+        let mut changes = sink.changes;
+        changes.extend_from_slice(context.unfinished());
+        Outcome { number, bytes: 0, changes, ends: sink.ends }
+    }
+
+    /// One line: tests 6, 7 and 8, a start past the data, then what the crate's reading of a line gives.
+    /// A line read whole is one row, and the bit after it stands for the bytes.
+    pub fn of_line(columns: u32, strict: bool, src: &[u8], tail: usize, at: u64, reference: &[u32]) -> Self {
+        if columns == 0 || columns == u32::MAX {
+            return Self::refused(6);
+        }
+        if src.len() + tail > LIMIT {
+            return Self::refused(7);
+        }
+        if !ascends_below(reference, columns) {
+            return Self::refused(8);
+        }
+        if at > 8 * (src.len() + tail) as u64 {
+            return Self::refused(2);
+        }
+        assert_eq!(tail, 0, "a line is only refused for its length");
+        let mut context = hayro_ccitt_open::DecoderContext::new(Settings::of_line(columns, strict).for_open_crate());
+        match context.read_line(src, at as usize, reference) {
+            Ok(bit) => {
+                let changes = context.unfinished().to_vec();
+                Outcome { number: 0, bytes: bit as u64, ends: vec![changes.len() as u32], changes }
+            }
+            Err(error) => Outcome { number: open_crate_number(error), bytes: 0, changes: context.unfinished().to_vec(), ends: Vec::new() },
+        }
+    }
+
+    /// What a page gives within the room that is lent. Changes are recorded one after the other and
+    /// never taken back, so the first one without an entry, or the first row without an end, decides.
+    pub fn page_within(&self, room: Room) -> Wanted {
+        let Room::Rows { changes, ends } = room else { unreachable!("a reader is lent rows") };
+        let mut base = 0;
+        for (row, end) in self.ends.iter().map(|&end| end as usize).enumerate() {
+            if end > changes {
+                return self.stopped(4, row, base, changes);
+            }
+            if row == ends {
+                return self.stopped(5, row, base, end);
+            }
+            base = end;
+        }
+        if self.changes.len() > changes {
+            return self.stopped(4, self.ends.len(), base, changes);
+        }
+        self.stopped(self.number, self.ends.len(), base, self.changes.len())
+    }
+
+    /// A line has no row ends, so it can't run out of them.
+    pub fn line_within(&self, room: Room) -> Wanted {
+        let Room::Rows { changes, .. } = room else { unreachable!("a reader is lent rows") };
+        let mut wanted = self.page_within(Room::Rows { changes, ends: 1 });
+        wanted.ends.clear();
+        wanted
+    }
+
+    /// The answer after so many rows, with the entries up to `written` in the array.
+    fn stopped(&self, number: u32, rows: usize, entries: usize, written: usize) -> Wanted {
+        Wanted {
+            answer: Answer {
+                number,
+                rows: rows as u32,
+                entries: entries as u32,
+                loose: (written - entries) as u32,
+                bytes: if number == 0 { self.bytes } else { 0 },
+            },
+            changes: self.changes[..written].to_vec(),
+            ends: self.ends[..rows].to_vec(),
+            out: None,
+        }
+    }
+
+    /// The whole rows, one by one.
+    pub fn rows(&self) -> impl Iterator<Item = &[u32]> {
+        let starts = once(0).chain(self.ends.iter().map(|&end| end as usize));
+        starts.zip(&self.ends).map(|(start, &end)| &self.changes[start..end as usize])
+    }
+}
+
+/// Whether a list ascends strictly and stays below the width.
+pub fn ascends_below(list: &[u32], width: u32) -> bool {
+    list.windows(2).all(|two| two[0] < two[1]) && list.last().is_none_or(|&last| last < width)
+}
+
+/// The crate's rows, one after the other.
+#[derive(Default, PartialEq, Eq)]
+struct Sink {
+    changes: Vec<u32>,
+    ends: Vec<u32>,
+}
+
+impl Sink {
+    fn push(&mut self, row: &[u32]) {
+        self.changes.extend_from_slice(row);
+        self.ends.push(self.changes.len() as u32);
+    }
+}
+
+impl hayro_ccitt::Decoder for Sink {
+    fn push_row(&mut self, changes: &[u32]) {
+        self.push(changes);
+    }
+}
+
+impl hayro_ccitt_open::Decoder for Sink {
+    fn push_row(&mut self, changes: &[u32]) {
+        self.push(changes);
+    }
+}
+
+fn crate_number(error: hayro_ccitt::DecodeError) -> u32 {
+    match error {
+        hayro_ccitt::DecodeError::InvalidCode => 1,
+        hayro_ccitt::DecodeError::UnexpectedEof => 2,
+        hayro_ccitt::DecodeError::Overflow => 3,
+    }
+}
+
+fn open_crate_number(error: hayro_ccitt_open::DecodeError) -> u32 {
+    match error {
+        hayro_ccitt_open::DecodeError::InvalidCode => 1,
+        hayro_ccitt_open::DecodeError::UnexpectedEof => 2,
+        hayro_ccitt_open::DecodeError::Overflow => 3,
+    }
+}
