@@ -1,0 +1,78 @@
+-- Laws of the lent arrays after a page: its rows can be listed from them, and are its rows. Assumes nothing.
+use mathlib.Core.Path.{_≡_, refl, ap₂, _∙_}
+use mathlib.Core.Bool.{Bool, true, false}
+use mathlib.Core.List.{List, [], _∷_, _++_, append-assoc}
+use Prim.Native.Nat.{ℕ, _+_, _*_, _≤_}
+use native.Mathlib.Omega.{arith}
+use lib.Dec.{eqb, ltb}
+use lib.ListN.{length, take, drop, length-append}
+use lib.Seq.{take-at}
+use borrow.Author.Tests.{eqb-false, le-leb}
+use Rattle.rules.specs.Bits.{bitsOf}
+use Rattle.rules.specs.Rows.{Settings}
+use Rattle.rules.specs.Pages as Page
+use Rattle.rules.specs.Pages.{entries, mostBytes, tooWide, refusal, readPage, decode, overlaid, joined, endsFrom, changesAfter, endsAfter}
+use Rattle.rules.specs.Write.{rowsIn, endsRise}
+use Rattle.rules.proofs.Bits.{length-bitsOf}
+use Rattle.rules.proofs.Pages.{read-answered}
+use Rattle.rules.proofs.Store.{length-overlaid, length-joined, length-ends, rows-back}
+use Rattle.error.specs.Error.{answerOf}
+use Rattle.desk.specs.Listed.{Listing, rowsKept}
+
+-- an answer whose rows and loose entries the arrays hold
+pub record Holds (store places : ℕ) (a : Page.Answer) : Type 0 where
+  pub placed : length (a .rows) ≤ places
+  pub roomy : entries (a .rows) + length (a .loose) ≤ store
+
+refusal-held : (store places n : ℕ) → Holds store places (refusal n)
+unfolding entries
+refusal-held store places n = record { placed = omega arith; roomy = omega arith }
+
+pub decode-held : (S : Settings) (bytes : List ℕ) (store places : ℕ) → Holds store places (decode S bytes store places)
+unfolding decode
+decode-held S bytes store places = tests (tooWide (S .columns)) (ltb mostBytes (length bytes)) (eqb (S .columns) 0) refl
+  where
+    page : eqb (S .columns) 0 ≡ false → Holds store places (readPage S (bitsOf bytes) store places)
+    page e =
+        let n = eqb-false (S .columns) 0 e in
+        let a = read-answered (S .encoding) S (omega (arith, n)) (bitsOf bytes) (record { count = length bytes; whole = length-bitsOf bytes }) store places refl in
+        record { placed = a .placed; roomy = a .roomy }
+
+    tests : (wide large none : Bool) → eqb (S .columns) 0 ≡ none
+        → Holds store places (elim wide [ true ↦ refusal 6 | false ↦ elim large [ true ↦ refusal 7 | false ↦ elim none [ true ↦ refusal 0 | false ↦ readPage S (bitsOf bytes) store places ] ] ])
+    tests true large none e = refusal-held store places 6
+    tests false true none e = refusal-held store places 7
+    tests false false true e = refusal-held store places 0
+    tests false false false e = page e
+
+-- ends of rows that the store holds do not fall or pass it
+ends-rise : (store base : ℕ) (rows : List (List ℕ)) → base + entries rows ≤ store → endsRise store base (endsFrom base rows) ≡ true
+unfolding entries endsRise endsFrom
+ends-rise store base [] h = refl
+ends-rise store base (r ∷ rows) h =
+    rw (le-leb base (base + length r) (omega arith), le-leb (base + length r) store (omega arith)) (ends-rise store (base + length r) rows (omega arith))
+
+module _ (a : Page.Answer) (xs es : List ℕ) (h : Holds (length xs) (length es) a) where
+  ends-kept : take (length (a .rows)) (endsAfter a es) ≡ endsFrom 0 (a .rows)
+  unfolding endsAfter overlaid
+  ends-kept = take-at (endsFrom 0 (a .rows)) (drop (length (endsFrom 0 (a .rows))) es) (length (a .rows)) (length-ends 0 (a .rows))
+
+  changes-long : length (changesAfter a xs) ≡ length xs
+  unfolding changesAfter
+  changes-long =
+      length-overlaid (joined (a .rows) ++ a .loose) xs (omega (arith, h .roomy, length-append (joined (a .rows)) (a .loose), length-joined (a .rows)))
+
+  pub rows-stored : rowsKept (answerOf a) (changesAfter a xs) (endsAfter a es) ≡ a .rows
+  unfolding changesAfter overlaid
+  rows-stored =
+      let front = joined (a .rows) in
+      let rest = drop (length (front ++ a .loose)) xs in
+      ap₂ (λ (ys fs : List ℕ). rowsIn 0 ys fs) (append-assoc front (a .loose) rest) ends-kept ∙ rows-back (a .rows) (a .loose ++ rest)
+
+  pub can-list : (out : List ℕ) → 67 + 26 * length es + 11 * length xs ≤ length out → Listing out (answerOf a) (changesAfter a xs) (endsAfter a es)
+  unfolding endsAfter
+  can-list out room = record {
+    placed = omega (arith, h .placed, length-overlaid (endsFrom 0 (a .rows)) es (omega (arith, h .placed, length-ends 0 (a .rows))));
+    rising = rw (changes-long, ends-kept) (ends-rise (length xs) 0 (a .rows) (omega (arith, h .roomy)));
+    room = omega (arith, room, h .placed, changes-long);
+  }

@@ -1,0 +1,23 @@
+-- The sheet of the listing (01 "Sheets on the wall"), by computation: its line of settings, and its text. Assumes nothing.
+use mathlib.Core.Path.{_≡_, refl}
+use mathlib.Core.Bool.{false}
+use mathlib.Core.List.{[], _∷_}
+use Rattle.rules.specs.Rows.{group3-1D}
+use Rattle.desk.specs.Text.{ascii, digits, decimal}
+use Rattle.desk.specs.Line.{parted, settingsNumbers, settingsLine}
+use Rattle.desk.specs.Sheet.{tabbed, textLine, rowLines, listingText}
+
+-- Group 3 1D, columns 8, rows 2, lenient
+line : settingsLine (record { columns = 8; rows = 2; endOfBlock = false; endOfLine = false; aligned = false; encoding = group3-1D; strict = false })
+    ≡ ascii "8\t2\t0\t0\t0\t1\t0\n"
+unfolding settingsLine settingsNumbers parted decimal digits ascii
+line = refl
+
+listing : listingText 8 0 ((2 ∷ 5 ∷ []) ∷ [] ∷ []) 5 ≡ ascii "columns\t8\nrow\t1\t2\t2\t5\nrow\t2\t0\nstop\t0\t2\t5\n"
+unfolding listingText rowLines textLine tabbed decimal digits ascii
+listing = refl
+
+-- more digits than one, and 0 itself
+numbers : tabbed (0 ∷ 1728 ∷ 4294967295 ∷ []) ≡ ascii "\t0\t1728\t4294967295"
+unfolding tabbed decimal digits ascii
+numbers = refl

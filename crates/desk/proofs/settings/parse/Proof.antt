@@ -1,0 +1,138 @@
+-- `desk::settings::parse` meets its contract. The invariant: whatever the bytes from `at` on say, the whole says. Assumes nothing.
+use mathlib.Core.List.{List}
+use mathlib.Core.Path.{refl, sym, _∙_, subst}
+use Prim.Native.Nat.{ℕ, _-_}
+use native.Mathlib.Omega.{arith}
+use denote.Ref.{now}
+use Rattle.desk.proofs.Standing.{says-bad, says-stands, spread}
+use Rattle.desk.proofs.Parting.{Reading, none-read, number-missing, mark-missing, mark-inside, one-more, all-read}
+use Rattle.desk.specs.Reading.{NumberAt, Stands}
+use Rattle.desk.specs.declared.settings.Number.the-variants.{Is}
+use borrow.Author.Needs.{needs}
+use Rattle.desk.proofs.settings.parse.Statement.{statement}
+use Rattle.desk.proofs.settings.parse.Tie as tie
+
+abbrev Inv-loop : tie.InvT-loop
+Inv-loop bytes n₀ at₀ k₀ n at k = Reading bytes at k n
+
+abbrev μ-loop : tie.MeasureT-loop
+μ-loop bytes n₀ at₀ k₀ n at k = 7 - k
+
+-- the number that was read at the loop's head
+read-here : (c : tie.After-value Inv-loop μ-loop)
+    → let l = c .before .before .before .before in NumberAt (now (l .before .before .args .bytes)) (l .loop .at) (Is (c .value .given .0 .0) (c .value .given .0 .1 .0))
+read-here c =
+    let l = c .before .before .before .before in
+    subst (NumberAt (now (l .before .before .args .bytes)) (l .loop .at)) (c .value .given .1) (c .before .before .read-number .ensures)
+
+loop-holds : tie.Need-loop-holds Inv-loop μ-loop
+loop-holds c = none-read _ _ refl
+
+read-number-requires : tie.Need-read-number-requires Inv-loop μ-loop
+read-number-requires c κs = c .before .loop .inv .inside
+
+enum-known-value : tie.Need-enum-known-value Inv-loop μ-loop
+enum-known-value c = search needs
+
+enum-told : tie.Need-enum-told Inv-loop μ-loop
+enum-told c = search needs
+
+returns : tie.Need-returns Inv-loop μ-loop
+returns c =
+    let l = c .before .before .before .before in
+    says-bad _
+    (number-missing _ _ _ _ (l .loop .inv) (c .before .before .before .loop-test .taken) (subst (NumberAt (now (l .before .before .args .bytes)) (l .loop .at)) (c .enum-told .given .1) (c .before .before .read-number .ensures)))
+
+byte-requires : tie.Need-byte-requires Inv-loop μ-loop
+byte-requires c κs = search needs
+
+mark-requires : tie.Need-mark-requires Inv-loop μ-loop
+mark-requires c κs = search needs
+
+returns-2 : tie.Need-returns-2 Inv-loop μ-loop
+returns-2 c =
+    let v = c .before .before .before .before in
+    says-bad _
+    (mark-missing _ _ _ _ (v .before .before .before .before .loop .inv) (v .before .before .before .loop-test .taken) _ (v .value .given .0 .1 .0) (read-here v) (λ e. c .if1 .taken (c .before .before .byte .ensures ∙ e ∙ sym (c .before .mark .ensures))))
+
+mul-n : tie.Need-mul-n Inv-loop μ-loop
+mul-n c = omega arith
+
+array-write-n : tie.Need-array-write-n Inv-loop μ-loop
+array-write-n c = omega arith
+
+add-at : tie.Need-add-at Inv-loop μ-loop
+add-at c =
+    let v = c .before .before .before .before in
+    omega (arith, mark-inside _ _ _ _ (v .before .before .before .before .loop .inv) (v .before .before .before .loop-test .taken) _ _ (read-here v) (sym (c .before .before .byte .ensures) ∙ c .if1 .left ∙ c .before .mark .ensures))
+
+add-k : tie.Need-add-k Inv-loop μ-loop
+add-k c = omega arith
+
+loop-less : tie.Need-loop-less Inv-loop μ-loop
+loop-less c = omega arith
+
+loop-again : tie.Need-loop-again Inv-loop μ-loop
+loop-again c =
+    let v = c .before .before .before .before in
+    one-more _ _ _ _ (v .before .before .before .before .loop .inv) (v .before .before .before .loop-test .taken) _ _ (read-here v) (sym (c .before .before .byte .ensures) ∙ c .if1 .left ∙ c .before .mark .ensures)
+
+array-read-stand : tie.Need-array-read-stand Inv-loop μ-loop
+array-read-stand c = omega arith
+
+array-read-stand-2 : tie.Need-array-read-stand-2 Inv-loop μ-loop
+array-read-stand-2 c = omega arith
+
+array-read-stand-3 : tie.Need-array-read-stand-3 Inv-loop μ-loop
+array-read-stand-3 c = omega arith
+
+array-read-stand-4 : tie.Need-array-read-stand-4 Inv-loop μ-loop
+array-read-stand-4 c = omega arith
+
+array-read-stand-5 : tie.Need-array-read-stand-5 Inv-loop μ-loop
+array-read-stand-5 c = omega arith
+
+array-read-stand-6 : tie.Need-array-read-stand-6 Inv-loop μ-loop
+array-read-stand-6 c = omega arith
+
+array-read-stand-7 : tie.Need-array-read-stand-7 Inv-loop μ-loop
+array-read-stand-7 c = omega arith
+
+stand-requires : tie.Need-stand-requires Inv-loop μ-loop
+stand-requires c κs = search needs
+
+returns-3 : tie.Need-returns-3 Inv-loop μ-loop
+returns-3 c =
+    let i = c .before .before .loop .inv in
+    says-stands _ (c .before .before .loop .n) (c .before .before .loop .at) (c .stand .result) (all-read _ _ _ _ i (c .before .loop-test .left)) (i .inside) (i .seven)
+    (subst (λ (ns : List ℕ). Stands ns (c .before .before .loop .at) (c .stand .result)) (sym (spread 7 0 (c .before .before .loop .n) (sym (i .seven)))) (c .stand .ensures))
+
+pub parse-spec : {M : Type 1} → statement M
+parse-spec =
+    tie.close
+    (tie.spec
+    Inv-loop
+    μ-loop
+    loop-holds
+    read-number-requires
+    enum-known-value
+    enum-told
+    returns
+    byte-requires
+    mark-requires
+    returns-2
+    mul-n
+    array-write-n
+    add-at
+    add-k
+    loop-less
+    loop-again
+    array-read-stand
+    array-read-stand-2
+    array-read-stand-3
+    array-read-stand-4
+    array-read-stand-5
+    array-read-stand-6
+    array-read-stand-7
+    stand-requires
+    returns-3)

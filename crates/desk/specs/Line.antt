@@ -1,0 +1,60 @@
+-- The line of settings, and when bytes begin with one (01 "Sheets on the wall").
+use mathlib.Core.Path.{_≡_}
+use mathlib.Core.Bool.{Bool, true, false}
+use mathlib.Core.List.{List, [], _∷_, _++_}
+use Prim.Native.Nat.{ℕ, _≤_}
+use lib.ListN.{length, drop}
+use Rattle.rules.specs.Rows.{Encoding, group4, group3-1D, group3-2D, Settings}
+use Rattle.rows.specs.Settings.{settingsOf}
+use Rattle.desk.specs.Text.{tab, newline, decimal}
+use Rattle.desk.specs.declared.settings.Parsed.{Parsed}
+use Rattle.desk.specs.declared.settings.Parsed.the-variants.{Settings as found, Bad}
+
+-- the byte behind a number: "parted by tabs and ended by a line feed"
+abbrev pub mark : List ℕ → ℕ
+mark [] = newline
+mark (n ∷ ns) = tab
+
+unfoldable pub parted : List ℕ → List ℕ
+parted [] = []
+parted (n ∷ ns) = decimal n ++ mark ns ∷ parted ns
+
+-- "flags 0 or 1; encoding 0 Group 4, 1 Group 3 1D, 2 Group 3 2D"
+abbrev pub flag : Bool → ℕ
+flag false = 0
+flag true = 1
+
+abbrev pub encodingNumber : Encoding → ℕ
+encodingNumber group4 = 0
+encodingNumber group3-1D = 1
+encodingNumber group3-2D = 2
+
+-- "in `DecodeSettings` order"
+unfoldable pub settingsNumbers : Settings → List ℕ
+settingsNumbers S =
+    S .columns
+    ∷ S .rows
+    ∷ flag (S .endOfBlock)
+    ∷ flag (S .endOfLine)
+    ∷ flag (S .aligned)
+    ∷ encodingNumber (S .encoding)
+    ∷ flag (S .strict)
+    ∷ []
+
+unfoldable pub settingsLine : Settings → List ℕ
+settingsLine S = parted (settingsNumbers S)
+
+-- a number that `DecodeSettings` can hold
+abbrev pub Held : ℕ → Type 0
+Held n = n ≤ 4294967295
+
+-- bytes that begin with the line of settings whose numbers can be held
+pub record Begins (bytes : List ℕ) (S : Settings) (rest : List ℕ) : Type 0 where
+  pub columns : Held (S .columns)
+  pub rows : Held (S .rows)
+  pub text : bytes ≡ settingsLine S ++ rest
+
+-- the settings that bytes begin with, and where the rest starts; or there are none
+abbrev pub Says : List ℕ → Parsed → Type 0
+Says bytes (found s at) = Begins bytes (settingsOf s) (drop at bytes) × (at ≤ length bytes)
+Says bytes Bad = (S : Settings) (rest : List ℕ) → Begins bytes S rest → ⊥

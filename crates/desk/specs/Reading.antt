@@ -1,0 +1,42 @@
+-- What the steps of reading the line of settings find.
+use mathlib.Core.Path.{_≡_}
+use mathlib.Core.Bool.{cond, _&&_}
+use mathlib.Core.List.{List, _++_}
+use Prim.Native.Nat.{ℕ, _-_, _≤_, _<_}
+use lib.Dec.{leb, ltb}
+use lib.ListN.{length, getD, drop}
+use Rattle.rules.specs.Rows.{Settings}
+use Rattle.rows.specs.Settings.{settingsOf}
+use Rattle.desk.specs.Text.{tab, newline, decimal}
+use Rattle.desk.specs.Line.{Held, settingsNumbers}
+use Rattle.desk.specs.declared.settings.Number.{Number}
+use Rattle.desk.specs.declared.settings.Number.the-variants.{Is, Missing}
+use Rattle.desk.specs.declared.settings.Parsed.{Parsed}
+use Rattle.desk.specs.declared.settings.Parsed.the-variants.{Settings as found, Bad}
+
+-- the digit that a byte is; 10 for any other byte
+abbrev pub digitOf : ℕ → ℕ
+digitOf b = cond (leb 48 b && leb b 57) (b - 48) 10
+
+-- no digit comes next
+abbrev pub Stops : List ℕ → Type 0
+Stops xs = 9 < digitOf (getD xs 0 0)
+
+-- a number from a place on, all its digits, and the place behind them
+pub record Spelt (bytes : List ℕ) (at n next : ℕ) : Type 0 where
+  pub text : drop at bytes ≡ decimal n ++ drop next bytes
+  pub inside : next ≤ length bytes
+  pub held : Held n
+
+abbrev pub NumberAt : List ℕ → ℕ → Number → Type 0
+NumberAt bytes at (Is n next) = Spelt bytes at n next × (9 < digitOf (getD bytes next 0))
+NumberAt bytes at Missing = (n : ℕ) (rest : List ℕ) → Held n → Stops rest → drop at bytes ≡ decimal n ++ rest → ⊥
+
+-- the byte behind the number of place k
+abbrev pub markAt : ℕ → ℕ
+markAt k = cond (ltb k 6) tab newline
+
+-- the settings that numbers stand for, or none
+abbrev pub Stands : List ℕ → ℕ → Parsed → Type 0
+Stands ns at (found s next) = (settingsNumbers (settingsOf s) ≡ ns) × (next ≡ at) × Held (s .columns) × Held (s .rows)
+Stands ns at Bad = (S : Settings) → settingsNumbers S ≡ ns → ⊥

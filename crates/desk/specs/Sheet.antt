@@ -1,0 +1,33 @@
+-- The listing of a page (01 "Sheets on the wall"): its columns, its rows, and how the reading stopped.
+use mathlib.Core.List.{List, [], _∷_, _++_}
+use Prim.Native.Nat.{ℕ, suc}
+use Prim.Native.String.{String}
+use lib.ListN.{length}
+use Rattle.desk.specs.Text.{ascii, tab, newline, decimal}
+
+-- each number behind a tab
+unfoldable pub tabbed : List ℕ → List ℕ
+tabbed [] = []
+tabbed (n ∷ ns) = (tab ∷ decimal n) ++ tabbed ns
+
+-- a word, and numbers
+unfoldable pub textLine : String → List ℕ → List ℕ
+textLine word ns = ascii word ++ (tabbed ns ++ newline ∷ [])
+
+-- "A row line has number, count, changes"
+abbrev pub rowLine : ℕ → List ℕ → List ℕ
+rowLine number row = textLine "row" (number ∷ length row ∷ row)
+
+-- the rows from a number on
+unfoldable pub rowLines : ℕ → List (List ℕ) → List ℕ
+rowLines number [] = []
+rowLines number (r ∷ rs) = rowLine number r ++ rowLines (suc number) rs
+
+-- "the last has answer, rows, bytes"
+unfoldable pub listingText : ℕ → ℕ → List (List ℕ) → ℕ → List ℕ
+listingText columns answer rows bytes =
+    textLine "columns" (columns ∷ []) ++ (rowLines 1 rows ++ textLine "stop" (answer ∷ length rows ∷ bytes ∷ []))
+
+-- "Longer data or another settings line prints `bad input` alone."
+unfoldable pub badInput : List ℕ
+badInput = ascii "bad input" ++ newline ∷ []

@@ -1,0 +1,97 @@
+-- Laws of the program's answer: a page is listed from its store, and one text fits an input. Assumes nothing.
+use mathlib.Core.Path.{_≡_, sym, ap, ap₂, _∙_, subst}
+use mathlib.Core.List.{List}
+use Prim.Native.Nat.{ℕ, _-_, _≤_, _<_}
+use native.Mathlib.Omega.{arith}
+use lib.ListN.{length, take, drop, length-append, length-drop, length-take}
+use lib.Seq.{take-at, take-all, length-take-le}
+use Rattle.rules.specs.Rows.{Settings}
+use Rattle.rules.specs.Pages as Page
+use Rattle.rules.specs.Pages.{decode, overlaid}
+use Rattle.rows.specs.declared.DecodeSettings.{DecodeSettings}
+use Rattle.rows.specs.Settings.{settingsOf}
+use Rattle.error.specs.declared.Answer.{Answer}
+use Rattle.ccitt.specs.Decode.{Gives}
+use Rattle.desk.specs.Line.{settingsLine, Says}
+use Rattle.desk.specs.Sheet.{badInput, listingText}
+use Rattle.desk.specs.Listed.{Listing, listingOf, Prints}
+use Rattle.desk.specs.declared.settings.Parsed.the-variants.{Settings as found, Bad}
+use Rattle.desk.proofs.Standing.{begins-once, line-short}
+use Rattle.desk.proofs.Stored.{decode-held, rows-stored, can-list}
+use Rattle.io.specs.Counts.{Counts}
+use Rattle.listing.specs.Program.{mostData, listed, pageText, room, Asks, Answers}
+
+-- ---- A page from its store
+
+module _ (S : Settings) (src xs es : List ℕ) (e : length xs ≡ 8192) (f : length es ≡ 2048) {r : Answer} {ys fs : List ℕ} (g : Gives (decode S src (length xs) (length es)) xs es r ys fs) where
+  abbrev page : Page.Answer
+  page = decode S src (length xs) (length es)
+
+  pub page-can : (out : List ℕ) → room ≤ length out → Listing out r ys fs
+  page-can out h = rw (g .answer, g .changes, g .ends) (can-list page xs es (decode-held S src (length xs) (length es)) out (omega arith))
+
+  pub page-is : listingOf (S .columns) r ys fs ≡ pageText S src
+  unfolding pageText
+  page-is =
+      rw (g .answer, g .changes, g .ends)
+      (ap (λ (rows : List (List ℕ)). listingText (S .columns) (page .number) rows (page .bytes)) (rows-stored page xs es (decode-held S src (length xs) (length es)))
+      ∙ ap₂ (λ (store places : ℕ). listed S (decode S src store places)) e f)
+
+-- ---- What is printed
+
+pub prints-as : {before xs ys : List ℕ} {r : ℕ} {after : List ℕ} → xs ≡ ys → Prints before xs r after → Prints before ys r after
+prints-as {before} {r = r} {after = after} e p = subst (λ (text : List ℕ). Prints before text r after) e p
+
+pub printed : {before text : List ℕ} {r : ℕ} {after : List ℕ} → Prints before text r after → Counts r after × (take r after ≡ text)
+unfolding overlaid
+printed {before} {text} {r} {after} p = ((inside, sym (length-take-le r after inside)), front)
+  where
+    inside : r ≤ length after
+    inside = omega (arith, p .count, ap length (p .array), length-append text (drop (length text) before))
+
+    front : take r after ≡ text
+    front = ap (take r) (p .array) ∙ take-at text (drop (length text) before) r (sym (p .count))
+
+-- the rest of an input, as it is lent
+pub lent-rest : (input : List ℕ) (at : ℕ) → take (length input - at) (drop at input) ≡ drop at input
+lent-rest input at = take-all (length input - at) (drop at input) (omega (arith, length-drop at input))
+
+module _ {input text : List ℕ} where
+  pub bad-line : Says input Bad → text ≡ badInput → Answers input text
+  bad-line f e = record { page = λ S src a. absurd (f S src (a .begins)); bad = λ n. e }
+
+  module _ (s : DecodeSettings) (at : ℕ) (h : Says input (found s at)) where
+    pub too-long : mostData < length (drop at input) → text ≡ badInput → Answers input text
+    too-long l e = record {
+      page = λ S src a. absurd (omega (arith, a .few, ap length (begins-once input S (settingsOf s) src (drop at input) (a .begins) (h .0) .1)));
+      bad = λ n. e;
+    }
+
+    pub a-page : length (drop at input) ≤ mostData → text ≡ pageText (settingsOf s) (drop at input) → Answers input text
+    a-page l e = record {
+      page = λ S src a. let o = begins-once input S (settingsOf s) src (drop at input) (a .begins) (h .0) in e ∙ sym (ap₂ pageText (o .0) (o .1));
+      bad = λ n. absurd (n (settingsOf s) (drop at input) (record { begins = h .0; few = l }));
+    }
+
+-- ---- The program reads no more of its input than it needs
+
+-- a line has at most 32 bytes, and one byte more than the data may have shows that there is too much
+abbrev pub mostInput : ℕ
+mostInput = 16417
+
+cut-asks : (input : List ℕ) (S : Settings) (src : List ℕ) → Asks input S src → take mostInput input ≡ input
+cut-asks input S src a =
+    take-all mostInput input
+    (omega (arith, a .few, line-short S (a .begins .columns) (a .begins .rows), ap length (a .begins .text), length-append (settingsLine S) src))
+
+asks-cut : (input : List ℕ) (S : Settings) (src : List ℕ) → Asks (take mostInput input) S src → take mostInput input ≡ input
+asks-cut input S src a =
+    take-all mostInput input
+    (omega (arith, a .few, line-short S (a .begins .columns) (a .begins .rows), ap length (a .begins .text), length-append (settingsLine S) src, length-take mostInput input))
+
+-- what it prints for the bytes that it reads is right for all of them
+pub answers-cut : (input text : List ℕ) → Answers (take mostInput input) text → Answers input text
+answers-cut input text p = record {
+  page = λ S src a. p .page S src (subst (λ (l : List ℕ). Asks l S src) (sym (cut-asks input S src a)) a);
+  bad = λ n. p .bad (λ S src a. n S src (subst (λ (l : List ℕ). Asks l S src) (asks-cut input S src a) a));
+}

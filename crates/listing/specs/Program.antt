@@ -1,0 +1,34 @@
+-- What the program prints for its input (01 "Sheets on the wall").
+use mathlib.Core.Path.{_≡_}
+use mathlib.Core.List.{List}
+use Prim.Native.Nat.{ℕ, _+_, _*_, _≤_}
+use lib.ListN.{length}
+use Rattle.rules.specs.Rows.{Settings}
+use Rattle.rules.specs.Pages as Page
+use Rattle.rules.specs.Pages.{decode}
+use Rattle.desk.specs.Line.{Begins}
+use Rattle.desk.specs.Sheet.{listingText, badInput}
+
+-- "then up to 16,384 data bytes; its store has 8,192 changes and 2,048 rows"
+abbrev pub mostData : ℕ
+mostData = 16384
+
+abbrev pub listed : Settings → Page.Answer → List ℕ
+listed S a = listingText (S .columns) (a .number) (a .rows) (a .bytes)
+
+unfoldable pub pageText : Settings → List ℕ → List ℕ
+pageText S src = listed S (decode S src 8192 2048)
+
+-- room for the longest listing of such a store (the crate desk, `Listing`)
+abbrev pub room : ℕ
+room = 67 + 26 * 2048 + 11 * 8192
+
+-- an input with a line of settings, and then no more data than that
+pub record Asks (input : List ℕ) (S : Settings) (src : List ℕ) : Type 0 where
+  pub begins : Begins input S src
+  pub few : length src ≤ mostData
+
+-- "Longer data or another settings line prints `bad input` alone."
+pub record Answers (input text : List ℕ) : Type 0 where
+  pub page : (S : Settings) (src : List ℕ) → Asks input S src → text ≡ pageText S src
+  pub bad : ((S : Settings) (src : List ℕ) → Asks input S src → ⊥) → text ≡ badInput

@@ -1,0 +1,45 @@
+// Lists a page of standard input: a line of settings, and then the data.
+use desk::settings::Parsed;
+use rows::DecodeSettings;
+ghost use Prim.Native.Nat.{_≤_};
+ghost use lib.ListN.{length, take};
+ghost use Rattle.io.specs.Counts.{Counts};
+ghost use Rattle.rows.specs.Settings.{settingsOf};
+ghost use Rattle.desk.specs.Listed.{Prints};
+ghost use Rattle.listing.specs.Program.{room, pageText, Answers};
+
+fn page(src: &[u8], settings: DecodeSettings, out: &mut [u8]) -> usize
+    requires { ⌜ room ≤ length (now out) ⌝ }
+    ensures { λ r. ⌜ Prints (now (out .entry)) (pageText (settingsOf settings) (now (src .entry))) r (now (out .exit)) ⌝ }
+{
+    let mut changes = [0u32; 8192];
+    let mut ends = [0u32; 2048];
+    let answer = ccitt::decode(src, settings, &mut changes, &mut ends);
+    desk::list(out, settings.columns, answer, &changes, &ends)
+}
+
+// What the program prints for its input.
+fn text(input: &[u8], out: &mut [u8]) -> usize
+    requires { ⌜ room ≤ length (now out) ⌝ }
+    ensures { λ r. ⌜ Counts r (now (out .exit)) ⌝ }
+    ensures { λ r. ⌜ Answers (now (input .entry)) (take r (now (out .exit))) ⌝ }
+{
+    let Parsed::Settings(settings, at) = desk::settings::parse(input) else {
+        return desk::bad_input(out);
+    };
+    let src = &input[at..];
+    if src.len() > 16384 {
+        return desk::bad_input(out);
+    }
+    page(src, settings, out)
+}
+
+// The longest line has 32 bytes, and one byte more than the data may have shows that there is too much: what is read here decides
+// (proofs/Answering.antt, `answers-cut`).
+fn main() {
+    let mut input = [0u8; 16417];
+    let got = io::read_full(libc::STDIN_FILENO, &mut input);
+    let mut out = [0u8; 147456];
+    let n = text(&input[..got], &mut out);
+    io::write_all(libc::STDOUT_FILENO, &out[..n]);
+}
