@@ -1,5 +1,6 @@
-// The sheets on the wall that are run (the others are proved): what reading each of them answers. A line has the sheet's name; number, rows,
-// entries, loose entries and bytes; and the changes, those of kept rows first.
+// The sheets on the wall that are run (the others are proved), and the inputs where the crate parts from the standard: what reading
+// each of them answers. A line has the sheet's name; number, rows, entries, loose entries and bytes; and the changes, those of kept
+// rows first.
 use error::Answer;
 use libc::STDOUT_FILENO;
 use rows::DecodeSettings;
@@ -132,7 +133,47 @@ fn group3_sheets() {
     );
 }
 
+fn group3_block() -> DecodeSettings {
+    DecodeSettings {
+        columns: 8,
+        rows: 0,
+        end_of_block: true,
+        end_of_line: false,
+        rows_are_byte_aligned: false,
+        encoding: EncodingMode::Group3_1D,
+        strict: true,
+    }
+}
+
+// Where the crate, and so this work, parts from the standard (docs/DIFFERENCES.md).
+fn partings() {
+    let mut two = [0u32; 2];
+    let mut end = [0u32; 1];
+    sheet(
+        b"an EOL in Group 4",
+        b"\x00\x18",
+        group4(true),
+        &mut two,
+        &mut end,
+    );
+    sheet(
+        b"two runs of nothing, strict",
+        b"\x26\xA1\xBC",
+        group4(true),
+        &mut two,
+        &mut end,
+    );
+    sheet(
+        b"seven EOLs as RTC",
+        b"\x00\x19\x80\x08\x00\x80\x08\x00\x80\x08\x00\x80\x08",
+        group3_block(),
+        &mut two,
+        &mut end,
+    );
+}
+
 fn main() {
     group4_sheets();
     group3_sheets();
+    partings();
 }
