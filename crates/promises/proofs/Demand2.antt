@@ -1,0 +1,21 @@
+-- Demand 2, from the laws of the rules. Assumes nothing.
+use mathlib.Core.Path.{_≡_, sym, ap, _∙_}
+use mathlib.Core.List.{List}
+use Prim.Native.Nat.{ℕ}
+use lib.ListN.{length, drop}
+use Rattle.rules.specs.Bits.{bitsOf}
+use Rattle.rules.specs.Modes.{modeTake, modeByTable, modeByZeros, readMode}
+use Rattle.rules.proofs.Lookup.{lookup-code}
+use Rattle.rules.proofs.Modes.{modes-agree}
+use Rattle.rules.proofs.Pixels.{b1-agrees, b2-agrees}
+use Rattle.promises.specs.Demand2.{CodesAreTheStandards, ModesAreTheStandards, ChangingElementsAreTheStandards}
+
+pub codes-are-the-standards : CodesAreTheStandards
+codes-are-the-standards colour c member rest = lookup-code colour c member rest
+
+pub modes-are-the-standards : ModesAreTheStandards
+unfolding readMode
+modes-are-the-standards bytes at r e = e ∙ ap (modeTake (length (bitsOf bytes)) at) (modes-agree (drop at (bitsOf bytes)))
+
+pub changing-elements-are-the-standards : ChangingElementsAreTheStandards
+changing-elements-are-the-standards reference width position colour r up f = (f .b1-is ∙ sym (b1-agrees up position colour), f .b2-is ∙ sym (b2-agrees up position colour))
