@@ -193,6 +193,7 @@ module _ (a : Page.Answer) (changes ends : List ℕ) (r : Answer) (changes′ en
     stored = record {
       rows-fit = omega (arith, rows-are, f .rows-fit);
       entries-fit = omega (arith, entries-are, loose-is, f .entries-fit);
+      counted = ap entries in-store ∙ sym entries-are;
       rising = subst (Rows (settings .columns)) (sym in-store) (f .rising);
       later-changes = later-changes;
       later-ends = later-ends;

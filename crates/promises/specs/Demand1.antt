@@ -7,6 +7,7 @@ use mathlib.Core.Bool.{Bool}
 use mathlib.Core.List.{List}
 use Prim.Native.Nat.{ℕ, _+_, _*_, _≤_, _<_}
 use lib.ListN.{length, take, drop}
+use Rattle.rules.specs.Pages.{entries}
 use Rattle.rules.specs.Write.{rowsIn}
 use Rattle.rules.proofs.PageBack.{Rows}
 use Rattle.error.specs.declared.Answer.{Answer}
@@ -34,6 +35,7 @@ module _ (bytes : List ℕ) (settings : DecodeSettings) (changes ends : List ℕ
   pub record Stored : Type 0 where
     pub rows-fit : r .rows ≤ length ends
     pub entries-fit : r .entries + r .loose ≤ length changes
+    pub counted : entries (rowsIn 0 changes′ (take (r .rows) ends′)) ≡ r .entries
     pub rising : Rows (settings .columns) (rowsIn 0 changes′ (take (r .rows) ends′))
     pub later-changes : drop (r .entries + r .loose) changes′ ≡ drop (r .entries + r .loose) changes
     pub later-ends : drop (r .rows) ends′ ≡ drop (r .rows) ends
