@@ -10,6 +10,8 @@ use Rattle.error.specs.declared.Answer.{Answer}
 use Rattle.rows.specs.declared.DecodeSettings.{DecodeSettings}
 use Rattle.ccitt.specs.Decode.{Decodes}
 use Rattle.context.specs.OneLine.{ReadOne}
+use Rattle.context.specs.declared.line.Line.{Line}
+use Rattle.lent.specs.Lent.{Lends}
 use Rattle.writer.specs.Outcome.{Answers}
 
 abbrev pub DecodePinned : Type 0
@@ -33,3 +35,11 @@ WritersPinned =
     → Answers w out r xs
     → Answers w out s ys
     → (r ≡ s) × (xs ≡ ys)
+
+-- for pixels pushed on a lent line
+abbrev pub PushPinned : Type 0
+PushPinned =
+    (xs : List ℕ) (l : Line) (count : ℕ) (strict : Bool) (r s : ℕ) (m o : Line) (ys zs : List ℕ)
+    → Lends xs l count strict r m ys
+    → Lends xs l count strict s o zs
+    → (r ≡ s) × (m ≡ o) × (ys ≡ zs)
