@@ -3,7 +3,7 @@
 use mathlib.Core.Path.{_≡_, refl, sym, ap, ap₂, _∙_, subst, subst₂}
 use mathlib.Core.Bool.{Bool, false, cond}
 use mathlib.Core.List.{List, [], _∷_, _++_, append-assoc}
-use Prim.Native.Nat.{ℕ, zero, suc, _+_, _-_, _*_, _≤_, _<_}
+use Prim.Native.Nat.{ℕ, suc, _+_, _-_, _≤_, _<_}
 use native.Mathlib.Omega.{arith}
 use lib.Dec.{eqb}
 use lib.ListN.{length, take, drop, set, length-append, length-set}
@@ -21,7 +21,7 @@ use Rattle.rules.proofs.Machine.{ends-more, ends-done}
 use Rattle.rules.proofs.Bits.{length-bitsOf}
 use Rattle.rules.proofs.Ascending.{Rising}
 use Rattle.rules.proofs.Budget.{Bytes}
-use Rattle.rules.proofs.Pages.{Onward, Moved, Stopped, Goes, Does, row-goes, row-does, step, roomFor, page-kept, page-full, page-stopped, page-falls, Held, held-start, held-next, held-entries}
+use Rattle.rules.proofs.Pages.{Onward, Moved, Goes, Does, row-goes, row-does, step, roomFor, page-kept, page-full, page-stopped, page-falls, Held, held-start, held-next, held-entries}
 use Rattle.rules.proofs.Store.{length-overlaid, overlaid-nothing, overlaid-behind, overlaid-one, length-joined, joined-snoc, length-ends, ends-snoc}
 use Rattle.tables.specs.Tables.{Lookups}
 use Rattle.error.specs.Error.{answerOf}

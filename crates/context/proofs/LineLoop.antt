@@ -10,6 +10,7 @@ use Rattle.rules.specs.Bits.{bitsOf}
 use Rattle.rules.specs.Lines as Rule
 use Rattle.rules.specs.Lines.{Rules, Went, failed, newLine, rightOfA0, code2D, two, codeOf, lineEnd, readLine}
 use Rattle.rules.specs.Pages.{overlaid}
+use Rattle.rules.proofs.Ahead.{b2-ahead}
 use Rattle.rules.proofs.Bits.{length-bitsOf}
 use Rattle.rules.proofs.Lines.{moves, line-more, line-failed, line-done}
 use Rattle.rules.proofs.Ascending.{Rising}
@@ -26,7 +27,6 @@ use Rattle.context.specs.Reference.{Passed, Finds}
 use Rattle.context.specs.Coding.{Coding, Coded, referenceIn, Placed, Seeks, Lines, StepsAt}
 use Rattle.context.proofs.Grows.{Grows, GrowsTo, code2D-grows}
 use Rattle.context.proofs.Search.{right-grows, passed-none, passed-on}
-use Rattle.context.proofs.ModeCode.{b2-ahead}
 use Rattle.context.proofs.RowPart.{placed-base, placed-as, reference-same, row-lent, row-back, back-front, back-row}
 use Rattle.context.proofs.Carried.{Carries, carries-length, carries-holds, carries-step, carries-on, overlaid-none, step-on, step-stop}
 

@@ -1,24 +1,20 @@
 -- One mode code: what each mode makes of a line, as the code's answer says it. Assumes nothing.
-use mathlib.Core.Path.{_≡_, refl, sym, ap, _∙_, subst}
-use mathlib.Core.Bool.{Bool, true, false, cond, _&&_}
-use mathlib.Core.List.{List, _∷_}
-use Prim.Native.Nat.{ℕ, zero, suc, _-_, _*_, _≤_}
+use mathlib.Core.Path.{_≡_, sym, ap, _∙_, subst}
+use mathlib.Core.Bool.{Bool, true, false, cond}
+use mathlib.Core.List.{List}
+use Prim.Native.Nat.{ℕ, _-_, _*_, _≤_}
 use native.Mathlib.Omega.{arith}
-use lib.Dec.{leb}
 use lib.IntN.{ℤ, pos, negsuc}
 use lib.ListN.{length}
-use borrow.Author.Tests.{leb-true}
 use Rattle.rules.specs.Bits.{bitsOf}
-use Rattle.rules.specs.Codes.{Colour, black, opposite, differ}
 use Rattle.rules.specs.Runs.{Res, ok, fault}
 use Rattle.rules.specs.Modes as Modes
 use Rattle.rules.specs.Modes.{Moded, moded, readMode}
 use Rattle.rules.specs.Lines as Rule
-use Rattle.rules.specs.Lines.{Rules, Went, went, failed, next, turned, push, pushRun, rightOfA0, fromB1, headOr, tail, b1, b2, apply, afterMode, code2D}
+use Rattle.rules.specs.Lines.{Rules, Went, went, failed, next, turned, push, pushRun, b1, b2, apply, afterMode, code2D}
 use Rattle.rules.specs.Pages.{overlaid}
 use Rattle.rules.proofs.Bits.{length-bitsOf}
 use Rattle.rules.proofs.Modes.{ModeAt, mode-at, Coded, c-right, c-left}
-use Rattle.rules.proofs.Ascending.{Rising, none, some, head-low}
 use Rattle.tables.specs.Tables.{colourOf}
 use Rattle.error.specs.Error.{numberOf}
 use Rattle.error.specs.declared.DecodeError.{DecodeError}
@@ -138,28 +134,3 @@ module _ (bytes xs : List ℕ) (l : Line) (at : ℕ) (strict : Bool) where
         mode-vertical count k r ys p = rw (moved (By count) k) (pushed-steps R xs at count (lineAt next′ xs l) true r ys (p next′ at))
 
 -- ---- b2
-
--- what the search finds rises from its bound on
-found-rises : (colour : Colour) (least : ℕ) (turns : Colour) {width low : ℕ} {xs : List ℕ} → Rising width low xs → Rising width least (fromB1 colour least turns xs)
-unfolding fromB1
-found-rises colour least turns none = none
-found-rises colour least turns {width = width} (some {x = x} {xs = xs} h k r) = tests (leb least x) (leb-true least x) (differ turns colour) (found-rises colour least (opposite turns) r)
-  where
-    tests : (b : Bool) → (b ≡ true → least ≤ x) → (d : Bool) → Rising width least (fromB1 colour least (opposite turns) xs)
-        → Rising width least (elim (b && d) as (λ _. List ℕ) [ true ↦ x ∷ xs | false ↦ fromB1 colour least (opposite turns) xs ])
-    tests true p true later = some (p refl) k r
-    tests true p false later = later
-    tests false p d later = later
-
--- b2 does not lie left of the position
-pub b2-ahead : (width : ℕ) (reference : List ℕ) (position : ℕ) (colour : Colour) → Rising width 0 reference → position ≤ width → position ≤ b2 width reference position colour
-unfolding rightOfA0
-b2-ahead width reference position colour r h = by (found-rises colour (rightOfA0 position) black r) (right position)
-  where
-    right : (p : ℕ) → p ≤ rightOfA0 p
-    right zero = omega arith
-    right (suc p) = omega arith
-
-    by : {least : ℕ} {ys : List ℕ} → Rising width least ys → position ≤ least → position ≤ headOr width (tail ys)
-    by none k = h
-    by (some a b later) k = let low = head-low b later in omega arith

@@ -14,7 +14,6 @@ use Rattle.rules.specs.Codes.{Colour, white, black, opposite, differ}
 use Rattle.rules.specs.Lines.{rightOfA0, fromB1, headOr, tail}
 use Rattle.rules.proofs.Ascending.{Rising, none, some, rises-lower}
 use Rattle.tables.specs.Tables.{colourOf}
-use Rattle.context.specs.declared.reference.Found.{Found}
 use Rattle.context.specs.Reference.{Passed, Stopped, Finds, turnsAt, b1Place}
 
 -- ---- Right of a0
@@ -63,7 +62,7 @@ pub head-past : (width : ℕ) (xs : List ℕ) (i : ℕ) → length xs ≤ i → 
 head-past width xs i h = rw (drop-of-length-le xs h)
 
 -- the changes after the first of them
-drop-next : (xs : List ℕ) (i : ℕ) → drop (i + 1) xs ≡ tail (drop i xs)
+pub drop-next : (xs : List ℕ) (i : ℕ) → drop (i + 1) xs ≡ tail (drop i xs)
 drop-next xs i = rw add-one (go xs i)
   where
     go : (xs : List ℕ) (i : ℕ) → drop (suc i) xs ≡ tail (drop i xs)

@@ -2,7 +2,7 @@
 use mathlib.Core.Path.{_≡_, refl, sym, ap, ap₂, _∙_, subst, subst₂}
 use mathlib.Core.Logic.{_↔_}
 use mathlib.Core.Bool.{Bool, true, false}
-use mathlib.Core.List.{List, [], _++_, append-assoc, append-nil}
+use mathlib.Core.List.{List, [], _++_, append-assoc}
 use Prim.Native.Nat.{ℕ, zero, suc, _+_, _*_, _≤_, _<_}
 use native.Mathlib.Omega.{arith}
 use lib.Dec.{eqb, ltb}
@@ -16,14 +16,14 @@ use Rattle.rules.specs.Write.{rowsIn}
 use Rattle.rules.proofs.Bits.{length-bitsOf}
 use Rattle.rules.proofs.Budget.{Bytes}
 use Rattle.rules.proofs.PageBack.{Rows, no-rows}
-use Rattle.rules.proofs.Pages.{Answered, read-answered}
+use Rattle.rules.proofs.Pages.{read-answered}
 use Rattle.rules.proofs.MoreRoom.{decode-stays}
 use Rattle.rules.proofs.Store.{length-joined, length-ends, rows-back}
 use Rattle.error.specs.Error.{answerOf}
 use Rattle.error.specs.declared.Answer.{Answer}
 use Rattle.rows.specs.declared.DecodeSettings.{DecodeSettings}
 use Rattle.rows.specs.Settings.{settingsOf}
-use Rattle.ccitt.specs.Decode.{Gives, Decodes}
+use Rattle.ccitt.specs.Decode.{Gives}
 use Rattle.promises.specs.Demand1.{Listed, Refused, Stored, DecodeAnswers, MoreRoom}
 
 -- ---- The rules' answer, by the tests

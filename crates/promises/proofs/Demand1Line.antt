@@ -2,24 +2,23 @@
 use mathlib.Core.Path.{_≡_, refl, sym, ap, ap₂, _∙_, subst}
 use mathlib.Core.Logic.{_⊎_, inl, inr, _↔_, ⊎-elim}
 use mathlib.Core.Bool.{Bool, true, false, _||_}
-use mathlib.Core.List.{List, [], _∷_, _++_, append-assoc, append-nil}
+use mathlib.Core.List.{List, _++_, append-assoc, append-nil}
 use Prim.Native.Nat.{ℕ, zero, suc, _+_, _*_, _≤_, _<_}
 use native.Mathlib.Omega.{arith}
 use lib.Dec.{eqb, leb, ltb}
 use lib.ListN.{length, take, drop, length-append}
 use lib.Seq.{take-at, drop-at}
-use borrow.Author.Tests.{eqb-true, eqb-false, ltb-true, ltb-false, leb-true, leb-false}
+use borrow.Author.Tests.{eqb-true, eqb-false, ltb-true, ltb-false, leb-true}
 use Rattle.rules.specs.Bits.{bitsOf}
-use Rattle.rules.specs.Lines.{Rules, Line, newLine, Went, went, failed, two, readLine}
+use Rattle.rules.specs.Lines.{Rules, newLine, Went, went, failed, two, readLine}
 use Rattle.rules.specs.Pages as Page
-use Rattle.rules.specs.Pages.{mostBytes, noLine, ascends, entries, joined, overlaid, oneLine, readOneLine, changesAfter}
+use Rattle.rules.specs.Pages.{mostBytes, ascends, entries, joined, overlaid, oneLine, readOneLine, changesAfter}
 use Rattle.rules.proofs.Bits.{length-bitsOf}
 use Rattle.rules.proofs.Ascending.{Rising}
-use Rattle.rules.proofs.Lines.{Whole, read-whole, Broken, read-broken, data-bound}
+use Rattle.rules.proofs.Lines.{read-whole, read-broken, data-bound}
 use Rattle.rules.proofs.Store.{length-joined}
 use Rattle.error.specs.Error.{answerOf}
 use Rattle.error.specs.declared.Answer.{Answer}
-use Rattle.context.specs.OneLine.{ReadOne}
 use Rattle.promises.specs.Demand1Line.{LineListed, LineRefused, LineStored, ReadLineAnswers}
 
 module _ (bytes : List ℕ) (at columns : ℕ) (strict : Bool) (reference changes : List ℕ) where

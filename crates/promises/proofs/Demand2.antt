@@ -1,10 +1,8 @@
 -- Demand 2, from the laws of the rules. Assumes nothing.
-use mathlib.Core.Path.{_≡_, sym, ap, _∙_}
-use mathlib.Core.List.{List}
-use Prim.Native.Nat.{ℕ}
+use mathlib.Core.Path.{sym, ap, _∙_}
 use lib.ListN.{length, drop}
 use Rattle.rules.specs.Bits.{bitsOf}
-use Rattle.rules.specs.Modes.{modeTake, modeByTable, modeByZeros, readMode}
+use Rattle.rules.specs.Modes.{modeTake, readMode}
 use Rattle.rules.proofs.Lookup.{lookup-code}
 use Rattle.rules.proofs.Modes.{modes-agree}
 use Rattle.rules.proofs.Pixels.{b1-agrees, b2-agrees}

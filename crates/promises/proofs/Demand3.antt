@@ -1,9 +1,9 @@
 -- Demand 3 is met: by the rules' laws on reading back, over the contracts of the four functions. Assumes nothing.
-use mathlib.Core.Path.{_≡_, refl, sym, ap, ap₂, _∙_, subst}
-use mathlib.Core.Logic.{_⊎_, inl, inr, ⊎-elim}
+use mathlib.Core.Path.{_≡_, refl, sym, ap, _∙_, subst}
+use mathlib.Core.Logic.{_⊎_}
 use mathlib.Core.Bool.{Bool, true, false, _&&_}
 use mathlib.Core.List.{List, [], _∷_, _++_, append-assoc, append-nil}
-use Prim.Native.Nat.{ℕ, zero, suc, _+_, _-_, _*_, _/_, _≤_, _<_}
+use Prim.Native.Nat.{ℕ, suc, _+_, _-_, _≤_}
 use native.Mathlib.Omega.{arith}
 use lib.Dec.{leb, ltb}
 use lib.ListN.{length, take, drop, length-append, take-append-drop}
@@ -16,17 +16,15 @@ use Rattle.rules.specs.Pages as Page
 use Rattle.rules.specs.Pages.{mostBytes, noLine, ascends, entries, joined, overlaid, decode, readOneLine, changesAfter}
 use Rattle.rules.specs.Write.{mostMakeup, lineBits, pageBits, rowsIn, endsRise, allAscend, writeLine, writePage, Written, unwritten, writtenAt}
 use Rattle.rules.proofs.Bits.{length-bitsOf}
-use Rattle.rules.proofs.Ascending.{Rising}
 use Rattle.rules.proofs.PageBack.{Rows, Plain, whole}
 use Rattle.rules.proofs.ReadBack.{rows-same}
-use Rattle.rules.proofs.RoundTrip.{line-returns, bits-split, page-returns, page-cut, LineWritten, line-written, PageWritten, page-written}
+use Rattle.rules.proofs.RoundTrip.{line-returns, bits-split, page-returns, page-cut, line-written, PageWritten, page-written}
 use Rattle.error.specs.Error.{answerOf}
 use Rattle.error.specs.declared.Answer.{Answer}
 use Rattle.rows.specs.declared.DecodeSettings.{DecodeSettings}
 use Rattle.rows.specs.Settings.{encodingOf, settingsOf}
 use Rattle.context.specs.OneLine.{ReadOne}
 use Rattle.writer.specs.Outcome.{Answers}
-use Rattle.ccitt.specs.Decode.{Gives, Decodes}
 use Rattle.promises.specs.Demand3.{Back, LineReadsBack, WrittenLineReadsBack, LinesApart, Plainly, WrittenPageReadsBack, CutPageGivesFirstRows}
 use Rattle.promises.proofs.Demand1.{in-store}
 

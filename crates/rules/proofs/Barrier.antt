@@ -1,19 +1,19 @@
 -- A code that is read never reaches past the one of an EOL that begins at or after its start: of the eleven zeros of an EOL it takes three at most, since
 -- no code ends with more and eight begin none. So the third of them is a bound of every line that begins before it. Assumes nothing.
 use mathlib.Core.Path.{_≡_, refl, sym, ap, _∙_, subst}
-use mathlib.Core.Bool.{Bool, true, false, _&&_, _||_}
+use mathlib.Core.Bool.{Bool, true, false, _||_}
 use mathlib.Core.List.{List, [], _∷_, _++_}
 use mathlib.Core.Option.{Option, none, some}
 use Prim.Native.Nat.{ℕ, zero, suc, _+_, _-_, _≤_, _<_}
 use native.Mathlib.Omega.{arith}
 use lib.Dec.{T, leb, ltb}
-use lib.ListN.{length, take, drop, replicate, length-drop}
-use lib.Seq.{drop-drop, drop-append-le, drop-nil}
+use lib.ListN.{length, take, drop, replicate}
+use lib.Seq.{drop-drop, drop-append-le}
 use borrow.Author.Tests.{ltb-true, ltb-false, leb-true, leb-false}
-use Rattle.rules.specs.Machine.{Out, more, done, ends}
+use Rattle.rules.specs.Machine.{more, done, ends}
 use Rattle.rules.specs.Codes.{Colour, Code, codeBits}
 use Rattle.rules.specs.Runs.{Res, ok, fault, Sum, sum, runStep, bitsAfter, answer, readRun}
-use Rattle.rules.specs.Modes.{Moded, modeBits, readMode}
+use Rattle.rules.specs.Modes.{modeBits}
 use Rattle.rules.specs.Eols.{zeroRun}
 use Rattle.rules.proofs.Machine.{ends-ind, ends-stops}
 use Rattle.rules.proofs.Codes.{both, hasOne, spread, soon, shape, length-codeBits}

@@ -11,7 +11,6 @@ use lib.Dec.{eqb}
 use lib.ListN.{length, getD, take, drop, length-append, length-drop}
 use lib.Pow.{pow-pos, pow-add, high, low, mod-pow-add, field, mod-mod-pow}
 use lib.Seq.{drop-nil, drop-append-add, ext-getD, drop-drop, drop-append-seam}
-use borrow.Author.Tests.{eq-eqb, ne-eqb}
 use Rattle.rules.specs.Bits.{bit, bitsFor, bitsOf, window, valueOf, peek}
 
 pub pow-two : (n : ℕ) → 2 ^ suc n ≡ 2 ^ n + 2 ^ n

@@ -1,17 +1,17 @@
 -- Before a row of a Group 3 page: how far the reader has come, and that the entries of the rows before it do not outrun the bits. Assumes nothing.
 use mathlib.Core.Path.{_≡_, refl, sym, ap, _∙_, subst}
 use mathlib.Core.Bool.{Bool, true, false, cond, not, _&&_, _||_}
-use mathlib.Core.List.{List, [], _∷_}
+use mathlib.Core.List.{List}
 use mathlib.Core.Option.{Option, none, some}
-use Prim.Native.Nat.{ℕ, zero, suc, _+_, _-_, _*_, _/_, _≤_, _<_}
+use Prim.Native.Nat.{ℕ, zero, suc, _+_, _-_, _*_, _≤_, _<_}
 use native.Mathlib.Omega.{arith}
 use lib.Dec.{eqb, leb, ltb}
 use lib.ListN.{length}
 use borrow.Author.Tests.{leb-true, leb-false, eqb-true, eqb-false}
 use Rattle.rules.specs.Eols.{Eols, eolsTo, allEols, skipToEol}
-use Rattle.rules.specs.Rows.{Settings, State, bytesTo, alignedIf}
+use Rattle.rules.specs.Rows.{Settings, State, alignedIf}
 use Rattle.rules.specs.Group3.{Tagging, eols3, Before, line-at, end-at, no-eol-at, judged, searched, missing, checked, checkEob, before}
-use Rattle.rules.proofs.Eols.{EolAt, Ahead, eols-ahead, eols3-ahead, eol-inside, eols3-read, Next, skip-finds, reach, reachOf, reach-eol}
+use Rattle.rules.proofs.Eols.{EolAt, Ahead, eols-ahead, eols3-ahead, eol-inside, eols3-read, skip-finds, reach, reachOf, reach-eol}
 
 -- Where EOLs are expected, the entries reach no further than a damaged line could have, and leave a bit where that began with the data. Where none are expected
 -- any more, one damaged line may have been read a second time: then the entries are at most the bits passed and all but one bit of the data again.

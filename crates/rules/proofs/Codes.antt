@@ -6,12 +6,12 @@ use mathlib.Core.Logic.{_⊎_, inl, inr, ⊎-elim}
 use mathlib.Core.Bool.{Bool, true, false, not, _&&_, _||_}
 use mathlib.Core.List.{List, [], _∷_, _++_, reverse, List·Memᴰ, List·Memᴰ·head, List·Memᴰ·tail, List·Memᴰ·not-nil, List·Memᴰ·cases-cons}
 use mathlib.Core.Option.{Option, none, some}
-use Prim.Native.Nat.{ℕ, zero, suc, _+_, _-_, _*_, _≤_, _<_}
+use Prim.Native.Nat.{ℕ, suc, _+_, _-_, _≤_}
 use native.Mathlib.Omega.{arith}
-use lib.Dec.{T, T-not, eqb, leb, ltb, leb→le, eqb→eq}
+use lib.Dec.{T, T-not, leb, ltb, leb→le}
 use lib.ListN.{length, take, replicate}
 use Rattle.rules.specs.Bits.{bit, bitsFor}
-use Rattle.rules.specs.Codes.{Colour, white, black, Code, codeBits, codesOf, codeAt}
+use Rattle.rules.specs.Codes.{Colour, white, black, Code, codeBits, codesOf}
 use Rattle.rules.specs.Lookup.{begins, codeIn}
 use Rattle.rules.proofs.Bits.{length-bitsFor}
 

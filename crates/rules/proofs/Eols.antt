@@ -7,10 +7,10 @@ use Prim.Native.Nat.{ℕ, zero, suc, _+_, _-_, _≤_, _<_}
 use native.Mathlib.Omega.{arith}
 use lib.Dec.{eqb, leb, ltb}
 use lib.ListN.{length, drop, length-drop, drop-of-length-le}
-use borrow.Author.Tests.{leb-true, leb-false, ltb-true, ltb-false, le-ltb, eqb-true, eqb-false}
+use borrow.Author.Tests.{leb-true, leb-false, ltb-false, le-ltb, eqb-false}
 use Rattle.rules.specs.Bits.{firstBit}
 use Rattle.rules.specs.Eols.{zeroRun, eolAfter, Eols, eolsTo, readEols, allEols, skip, skipToEol}
-use Rattle.rules.specs.Group3.{Tagging, untagged, tagged, betweenTags, withTags, eols3}
+use Rattle.rules.specs.Group3.{Tagging, untagged, tagged, betweenTags, eols3}
 use Rattle.rules.proofs.Lines.{Bound, data-bound}
 use Rattle.rules.proofs.Barrier.{eol-bound}
 

@@ -6,6 +6,7 @@ pub mod Agree
 pub mod Runs
 pub mod Modes
 pub mod Ascending
+pub mod Ahead
 pub mod Lines
 pub mod Local
 pub mod Pixels

@@ -3,11 +3,11 @@
 use mathlib.Core.Path.{_≡_, refl, sym, ap, _∙_, subst}
 use mathlib.Core.Bool.{Bool, true, false, cond, _&&_}
 use mathlib.Core.List.{List}
-use Prim.Native.Nat.{ℕ, zero, suc, _+_, _-_, _≤_, _<_}
+use Prim.Native.Nat.{ℕ, _+_, _-_, _≤_}
 use native.Mathlib.Omega.{arith}
-use lib.Dec.{eqb, leb}
+use lib.Dec.{leb}
 use lib.ListN.{length}
-use Rattle.rules.specs.Machine.{Out, more, done, ends}
+use Rattle.rules.specs.Machine.{more, done, ends}
 use Rattle.rules.specs.Runs.{Res, ok, fault, Sum, readRun}
 use Rattle.rules.specs.Modes.{Mode, pass, horizontal, VR, VL, Moded, readMode}
 use Rattle.rules.specs.Lines.{Rules, Line, newLine, turned, movedTo, Went, went, failed, next, push, pushTurn, afterRun, pushRun, b1, vertical, apply, afterMode, code2D, Kind, one, two, codeOf, lineOf, lineStep, lineEnd, readLine}

@@ -4,17 +4,17 @@ use mathlib.Core.Path.{_≡_, refl, sym, ap, _∙_, subst}
 use mathlib.Core.Bool.{Bool, true, false}
 use mathlib.Core.List.{List, [], _∷_, _++_, List·Memᴰ}
 use mathlib.Core.Option.{Option, none, some}
-use Prim.Native.Nat.{ℕ, zero, suc, _+_, _-_, _*_, _≤_, _<_}
+use Prim.Native.Nat.{ℕ, zero, suc, _+_, _-_, _≤_, _<_}
 use native.Mathlib.Omega.{arith}
-use native.Mathlib.Nat.{add-zero, add-suc, suc-add}
+use native.Mathlib.Nat.{add-zero}
 use lib.Dec.{T}
-use lib.ListN.{length, getD, take, drop, length-drop, take-append-drop, replicate}
+use lib.ListN.{length, getD, drop, length-drop}
 use lib.Seq.{drop-drop}
 use Rattle.rules.specs.Bits.{bitsFor, window, peek}
 use Rattle.rules.specs.Codes.{Colour, Code, codeBits, codesOf}
-use Rattle.rules.specs.Lookup.{begins, codeIn, longestShared, Entry, valid, invalid, entryFor, lookup, entryNumber, tabulate, lookupTable}
-use Rattle.rules.proofs.Bits.{window-append, length-window, bits-peek, peek-lt}
-use Rattle.rules.proofs.Codes.{Found, found-is, finds, shape, length-codeBits, eight-zeros}
+use Rattle.rules.specs.Lookup.{begins, codeIn, valid, entryFor, lookup, entryNumber, tabulate, lookupTable}
+use Rattle.rules.proofs.Bits.{window-append, bits-peek, peek-lt}
+use Rattle.rules.proofs.Codes.{found-is, finds, shape, length-codeBits}
 
 -- ---- What begins with what
 

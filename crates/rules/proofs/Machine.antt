@@ -1,7 +1,7 @@
 -- Laws of machines: n steps and then m, an end that does not depend on the fuel, induction over the steps to an end, and machines of smaller
 -- steps that come to the same end. Assumes nothing.
-use mathlib.Core.Path.{_≡_, refl, sym, ap, _∙_}
-use Prim.Native.Nat.{ℕ, zero, suc, _+_, _≤_, _<_}
+use mathlib.Core.Path.{_≡_, refl, _∙_}
+use Prim.Native.Nat.{ℕ, zero, suc, _+_, _<_}
 use native.Mathlib.Omega.{arith}
 use native.Mathlib.Nat.{zero-add, suc-add}
 use Rattle.rules.specs.Machine.{Out, more, done, andThen, run, ends}

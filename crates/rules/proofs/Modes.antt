@@ -8,12 +8,12 @@ use native.Mathlib.Omega.{arith}
 use lib.Dec.{leb, T}
 use lib.ListN.{length, drop, length-drop}
 use lib.Seq.{drop-drop}
-use borrow.Author.Tests.{leb-true, leb-false, le-leb, lt-leb}
-use Rattle.rules.specs.Bits.{window, firstBit, leadingZeros}
+use borrow.Author.Tests.{leb-true, le-leb}
+use Rattle.rules.specs.Bits.{window, leadingZeros}
 use Rattle.rules.specs.Lookup.{begins}
 use Rattle.rules.specs.Runs.{Res, ok, fault}
 use Rattle.rules.specs.Modes.{Mode, pass, horizontal, VR, VL, modeBits, modes, ModeIn, known, unknown, modeAmong, modeByTable, modeFor, modeByZeros, Moded, moded, modeTake, readMode}
-use Rattle.rules.proofs.Bits.{drop-after, fits-after}
+use Rattle.rules.proofs.Bits.{fits-after}
 use Rattle.rules.proofs.Codes.{hasOne, spread, soon}
 use Rattle.rules.proofs.Lookup.{begins-window}
 use Rattle.rules.proofs.Agree.{Agree, agree-word}

@@ -1,30 +1,29 @@
 -- Laws of pages, over the encoding: each row moves on, so a page ends; its rows ascend strictly below the width; there are at most as many as bits and one; and their
 -- entries are less than twice the bits, so that row ends fit 32 bits. Assumes nothing.
 use mathlib.Core.Path.{_≡_, refl, sym, ap, _∙_, subst}
-use mathlib.Core.Logic.{_⊎_, inl, inr, ⊎-elim}
+use mathlib.Core.Logic.{_⊎_, ⊎-elim}
 use mathlib.Core.Bool.{Bool, true, false, cond, not, _&&_, _||_}
 use mathlib.Core.List.{List, [], _∷_, _++_}
-use Prim.Native.Nat.{ℕ, zero, suc, _+_, _-_, _*_, _/_, _≤_, _<_}
+use Prim.Native.Nat.{ℕ, suc, _+_, _-_, _*_, _≤_, _<_}
 use native.Mathlib.Omega.{arith}
 use lib.Dec.{eqb, leb, ltb}
 use lib.ListN.{length, length-append}
-use borrow.Author.Tests.{leb-true, leb-false, ltb-true, ltb-false, lt-ltb, le-ltb, eqb-true, eqb-false, ne-eqb}
+use borrow.Author.Tests.{leb-false, ltb-true, ltb-false, lt-ltb, le-ltb, eqb-true, eqb-false, ne-eqb}
 use Rattle.rules.specs.Machine.{Out, more, done, ends}
 use Rattle.rules.specs.Lines.{Rules, Line, Went, went, failed, push, two, readLine}
-use Rattle.rules.specs.Eols.{Eols}
-use Rattle.rules.specs.Rows.{Encoding, group4, group3-1D, group3-2D, Settings, State, pageStart, RowOut, row, stop, rulesOf, bytesTo, alignedIf, finished}
+use Rattle.rules.specs.Rows.{Encoding, group4, group3-1D, group3-2D, Settings, State, pageStart, RowOut, row, stop, rulesOf, bytesTo, alignedIf}
 use Rattle.rules.specs.Group4.{eolsBefore, over, afterLine4, row4}
-use Rattle.rules.specs.Group3.{Tagging, untagged, tagged, Before, line-at, end-at, no-eol-at, before, line3, kept, whitened, afterLine3, row3}
+use Rattle.rules.specs.Group3.{Tagging, untagged, tagged, Before, line-at, end-at, before, line3, kept, whitened, afterLine3, row3}
 use Rattle.rules.specs.Pages.{Answer, Kept, entries, keepRow, pageStep, rowsLeft, pageOf, rowOf, readPage}
-use Rattle.rules.proofs.Machine.{Falls, ends-more, ends-done, ends-ind, ends-stops}
+use Rattle.rules.proofs.Machine.{Falls, ends-ind, ends-stops}
 use Rattle.rules.proofs.Ascending as Asc
 use Rattle.rules.proofs.Ascending.{Rising}
 use Rattle.rules.proofs.PageBack.{Rows, no-rows, row-then, entries-snoc}
-use Rattle.rules.proofs.Lines.{Whole, read-whole, Broken, read-broken, data-bound, Each, Pushes, PushFails, push-pushes, Sound}
+use Rattle.rules.proofs.Lines.{Whole, read-whole, read-broken, data-bound, Each, Pushes, PushFails, push-pushes}
 use Rattle.rules.proofs.Eols.{Ahead, eols-ahead, reach, reaches}
 use Rattle.rules.proofs.Budget.{Budgeted, Budget, Due, Bytes, aligned-ahead, Starts, Sets, before-sets}
 use Rattle.rules.proofs.Spare.{Blank, push-blank}
-use Rattle.rules.proofs.Rows.{row4-cases, row3-cases, mended-cases, line3-whole, Damaged, line3-damaged, Mended, mended}
+use Rattle.rules.proofs.Rows.{row4-cases, row3-cases, mended-cases, line3-whole, Damaged, line3-damaged, mended}
 
 -- ---- What one row does
 

@@ -10,11 +10,12 @@ use lib.ListN.{length, drop, length-append}
 use borrow.Author.Tests.{ltb-true, leb-true, leb-false, eqb-true, eqb-false, lt-ltb, le-ltb, le-leb, ne-eqb}
 use Rattle.rules.specs.Codes.{Colour, white, black, opposite, differ}
 use Rattle.rules.specs.Modes.{Mode, pass, horizontal, VR, VL, modeBits}
-use Rattle.rules.specs.Lines.{Rules, Line, line, turned, movedTo, Went, went, failed, next, lastColour, recorded, add, push, pushTurn, afterRun, pushRun, rightOfA0, fromB1, headOr, tail, b1, b2, vertical, apply, afterMode, code2D, Kind, one, two, codeOf, lineEnd, readLine}
+use Rattle.rules.specs.Lines.{Rules, Line, line, turned, movedTo, Went, went, failed, next, lastColour, recorded, add, push, pushTurn, afterRun, pushRun, headOr, tail, b1, b2, vertical, apply, afterMode, code2D, Kind, one, two, codeOf, lineEnd, readLine}
 use Rattle.rules.specs.Write.{runBits, verticalTo, near, bits1D, bits2D, lineBits}
 use Rattle.rules.proofs.Bits.{drop-after}
 use Rattle.rules.proofs.Modes.{Coded, c-pass, c-horizontal, c-right, c-left, read-mode}
 use Rattle.rules.proofs.Ascending.{Rising, none, some, rises-lower, head-low, head-fits}
+use Rattle.rules.proofs.Ahead.{above, b2-behind, no-longer, shorter}
 use Rattle.rules.proofs.Lines.{moves, line-more, line-done}
 use Rattle.rules.proofs.WriteRuns.{read-run}
 
@@ -97,11 +98,6 @@ to-change {p = p} {c = c} {done = done} (within h (some {x = x} {xs = xs} k l r)
     ∙ ap (λ (l : List ℕ). l ++ xs) (sym (noted-turned x c (noted p c done) (noted-colour p c done)) ∙ ap (noted x (opposite c)) (sym (reached-some p x c done k))))
 to-change {width} {c = c} {done = done} (whole e) = whole (e ∙ sym (reached-none width width c done refl))
 
--- a bound before the first change is one for all
-above : {width low q : ℕ} {xs : List ℕ} → q < headOr width xs → Rising width low xs → Rising width (suc q) xs
-above h none = none
-above h (some k l r) = some h l r
-
 -- on to a position before the next change, in the same colour
 to-before : {width p : ℕ} {c : Colour} {full done rest : List ℕ} (q : ℕ) → p < q → q < headOr width rest → Middle width full p c done rest
     → Middle width full q c (reached p q c done) rest
@@ -169,42 +165,6 @@ vertical-coded b a1 e = tests (leb b a1) refl (leb a1 (b + 3)) refl (leb b (a1 +
     tests false q true f true g e = left (b - a1) (omega (arith, leb-false b a1 q)) (omega (arith, leb-true b (a1 + 3) g))
     tests t q true f false g e = absurd (let z : _≡_ {A = ℕ} 0 1 = cc in omega arith)
     tests t q false f v g e = absurd (let z : _≡_ {A = ℕ} 0 1 = cc in omega arith)
-
--- the changes from b1 on rise from its least place
-found-rises : (colour : Colour) (least : ℕ) (turns : Colour) {width low : ℕ} {xs : List ℕ} → Rising width low xs → Rising width least (fromB1 colour least turns xs)
-unfolding fromB1
-found-rises colour least turns none = none
-found-rises colour least turns {width} (some {x = x} {xs = xs} k l r) = tests (leb least x) refl (differ turns colour) (found-rises colour least (opposite turns) r)
-  where
-    tests : (b : Bool) → leb least x ≡ b → (d : Bool) → Rising width least (fromB1 colour least (opposite turns) xs)
-        → Rising width least (elim (b && d) as (λ _. List ℕ) [ true ↦ x ∷ xs | false ↦ fromB1 colour least (opposite turns) xs ])
-    tests true e true ih = some (leb-true least x e) l r
-    tests true e false ih = ih
-    tests false e d ih = ih
-
--- so b2, where there is one, lies behind a0
-b2-behind : {width : ℕ} {reference : List ℕ} → Rising width 0 reference → (p : ℕ) (c : Colour) → b2 width reference p c < width → p < b2 width reference p c
-unfolding rightOfA0
-b2-behind {width} r p c = second (found-rises c (rightOfA0 p) black r) (right p)
-  where
-    right : (p : ℕ) → p ≤ rightOfA0 p
-    right zero = omega arith
-    right (suc p) = omega arith
-
-    second : {least : ℕ} {xs : List ℕ} → Rising width least xs → p ≤ least → headOr width (tail xs) < width → p < headOr width (tail xs)
-    second none h k = absurd (omega arith)
-    second (some _ _ none) h k = absurd (omega arith)
-    second (some l _ (some k _ _)) h _ = omega arith
-
--- to the next change there are fewer positions and changes left,
-shorter : {width p : ℕ} {xs : List ℕ} → p < width → Rising width p xs → width - headOr width xs + length (tail xs) < width - p + length xs
-shorter h none = omega arith
-shorter h (some k l r) = omega arith
-
--- and to the one after it no more than there
-no-longer : {width p : ℕ} {xs : List ℕ} → p ≤ width → Rising width p xs → width - headOr width xs + length (tail xs) ≤ width - p + length xs
-no-longer h none = omega arith
-no-longer h (some k l r) = omega arith
 
 -- two turns give the colour back
 opposite-twice : (c : Colour) → opposite (opposite c) ≡ c

@@ -1,26 +1,24 @@
 -- Laws of one row, for each encoding: what it does, by cases; and what holds of a line of a Group 3 page, whole or damaged. Assumes nothing.
-use mathlib.Core.Path.{_≡_, refl, sym, ap, _∙_, subst}
+use mathlib.Core.Path.{_≡_, refl, sym, ap, subst}
 use mathlib.Core.Logic.{_⊎_, inl, inr, ⊎-elim}
-use mathlib.Core.Bool.{Bool, true, false, cond, not, _&&_, _||_}
-use mathlib.Core.List.{List, [], _∷_, _++_}
-use mathlib.Core.Option.{Option, none, some}
-use Prim.Native.Nat.{ℕ, zero, suc, _+_, _-_, _*_, _/_, _≤_, _<_}
+use mathlib.Core.Bool.{Bool, true, false, not, _&&_}
+use mathlib.Core.List.{List, []}
+use mathlib.Core.Option.{none}
+use Prim.Native.Nat.{ℕ, suc, _+_, _-_, _≤_, _<_}
 use native.Mathlib.Omega.{arith}
 use lib.Dec.{eqb, leb, ltb}
 use lib.ListN.{length, drop}
-use borrow.Author.Tests.{leb-true, leb-false, ltb-true, ltb-false, eqb-true, eqb-false}
+use borrow.Author.Tests.{leb-true, ltb-true}
 use Rattle.rules.specs.Bits.{firstBit}
-use Rattle.rules.specs.Codes.{white}
 use Rattle.rules.specs.Lines.{Rules, Line, line, newLine, Went, went, failed, push, Kind, one, two, readLine}
-use Rattle.rules.specs.Eols.{Eols, eolsTo, allEols, skipToEol}
-use Rattle.rules.specs.Rows.{Settings, State, RowOut, row, stop, rulesOf, alignedIf, finished}
+use Rattle.rules.specs.Rows.{Settings, State, RowOut, stop, rulesOf, finished}
 use Rattle.rules.specs.Group4.{eolsBefore, over, afterLine4, lineOrEnd, row4}
-use Rattle.rules.specs.Group3.{Tagging, untagged, tagged, eols3, Before, line-at, end-at, no-eol-at, before, taggedLine, lineOfTag, line3, kept, whitened, recovered, afterLine3, rowFrom, row3}
+use Rattle.rules.specs.Group3.{Tagging, untagged, tagged, Before, line-at, end-at, no-eol-at, before, taggedLine, lineOfTag, line3, kept, whitened, recovered, afterLine3, rowFrom, row3}
 use Rattle.rules.proofs.Ascending as Asc
 use Rattle.rules.proofs.Ascending.{Rising, rises-wider}
-use Rattle.rules.proofs.Lines.{Each, Sound, sound-new, Bound, Pushes, PushFails, push-pushes, Whole, read-whole, Broken, read-broken}
-use Rattle.rules.proofs.Eols.{Reach, reach, reaches}
-use Rattle.rules.proofs.Spare.{Blank, Left, spareOf, broken-spare, push-blank}
+use Rattle.rules.proofs.Lines.{Each, Sound, sound-new, Pushes, PushFails, push-pushes, Whole, read-whole, read-broken}
+use Rattle.rules.proofs.Eols.{reach, reaches}
+use Rattle.rules.proofs.Spare.{Blank, spareOf, broken-spare, push-blank}
 
 -- ---- Group 4, by cases
 

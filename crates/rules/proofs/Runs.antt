@@ -2,20 +2,19 @@
 -- Assumes nothing.
 use mathlib.Core.Path.{_≡_, refl, sym, ap, _∙_, subst}
 use mathlib.Core.Bool.{Bool, true, false, cond}
-use mathlib.Core.List.{List, [], _∷_, _++_, List·Memᴰ}
-use Prim.Native.Nat.{ℕ, zero, suc, _+_, _-_, _*_, _≤_, _<_}
+use mathlib.Core.List.{List, _++_, List·Memᴰ}
+use Prim.Native.Nat.{ℕ, _+_, _-_, _≤_, _<_}
 use native.Mathlib.Omega.{arith}
 use lib.Dec.{leb, ltb}
-use lib.ListN.{length, drop, replicate}
-use borrow.Author.Tests.{leb-true, leb-false, le-leb, lt-leb, ltb-true, ltb-false, lt-ltb, le-ltb}
+use lib.ListN.{length, drop}
+use borrow.Author.Tests.{leb-true, le-leb, ltb-true, ltb-false, lt-ltb, le-ltb}
 use Rattle.rules.specs.Machine.{Out, more, done, ends}
 use Rattle.rules.specs.Bits.{window}
 use Rattle.rules.specs.Codes.{Colour, Code, codeBits, codesOf}
 use Rattle.rules.specs.Lookup.{Entry, valid, invalid, lookup}
 use Rattle.rules.specs.Runs.{Res, ok, fault, Sum, sum, runTake, runStep, bitsAfter, answer, readRun}
 use Rattle.rules.proofs.Machine.{Falls, ends-more, ends-done, ends-ind, ends-stops}
-use Rattle.rules.proofs.Bits.{fits-after}
-use Rattle.rules.proofs.Codes.{Shape, shape, length-codeBits}
+use Rattle.rules.proofs.Codes.{shape, length-codeBits}
 use Rattle.rules.proofs.Lookup.{lookup-code, Entered, lookup-valid, entered-bits}
 use Rattle.rules.proofs.Agree.{Agree, agree-less, agree-word}
 

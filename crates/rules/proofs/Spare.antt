@@ -1,21 +1,20 @@
 -- A damaged line has bits to spare: unless it has no change at all, it has taken more bits than it has changes, since its first pixels are white and record
 -- none. So the change to white that recovery may add has its bit too, and one is left over. Assumes nothing.
 use mathlib.Core.Path.{_≡_, refl, sym, ap, _∙_, subst}
-use mathlib.Core.Logic.{_⊎_, inl, inr, ⊎-elim}
+use mathlib.Core.Logic.{_⊎_, inl, inr}
 use mathlib.Core.Bool.{Bool, true, false, cond, _&&_}
-use mathlib.Core.List.{List, [], _∷_, _++_}
-use Prim.Native.Nat.{ℕ, zero, suc, _+_, _-_, _≤_, _<_}
+use mathlib.Core.List.{List, []}
+use Prim.Native.Nat.{ℕ, _+_, _-_, _≤_, _<_}
 use native.Mathlib.Omega.{arith}
 use lib.Dec.{eqb, leb}
 use lib.ListN.{length}
-use borrow.Author.Tests.{eqb-true, eqb-false}
-use Rattle.rules.specs.Codes.{Colour, white, differ}
+use Rattle.rules.specs.Codes.{white}
 use Rattle.rules.specs.Runs.{Res, ok, fault, Sum, readRun}
 use Rattle.rules.specs.Modes.{Mode, pass, horizontal, VR, VL, Moded, readMode}
 use Rattle.rules.specs.Lines.{Rules, Line, line, newLine, turned, movedTo, withCut, Went, went, failed, next, lastColour, recorded, add, push, pushTurn, afterRun, pushRun, b1, b2, vertical, apply, afterMode, code2D, Kind, one, two, codeOf, lineEnd, readLine}
 use Rattle.rules.proofs.Runs.{run-two-bits}
 use Rattle.rules.proofs.Modes.{ModeAt, mode-at}
-use Rattle.rules.proofs.Lines.{Each, Sound, sound-new, Bound, Pushes, PushFails, push-pushes, Coded, code-coded, moves, line-more, line-failed, line-done, Ends, line-end}
+use Rattle.rules.proofs.Lines.{Each, Sound, sound-new, Bound, Pushes, PushFails, push-pushes, Coded, code-coded, moves, line-more, line-failed, Ends, line-end}
 
 -- ---- White pixels on a line without changes
 

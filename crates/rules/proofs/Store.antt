@@ -1,11 +1,10 @@
 -- Laws of the lent arrays: rows that are kept one after the other lie behind each other in the store, and so do their ends. Assumes nothing.
-use mathlib.Core.Path.{_≡_, refl, sym, ap, ap₂, _∙_, subst}
+use mathlib.Core.Path.{_≡_, refl, sym, ap, ap₂, _∙_}
 use mathlib.Core.List.{List, [], _∷_, _++_, append-assoc, append-nil}
-use Prim.Native.Nat.{ℕ, zero, suc, _+_, _-_, _≤_, _<_}
+use Prim.Native.Nat.{ℕ, suc, _+_, _-_, _≤_, _<_}
 use native.Mathlib.Omega.{arith}
-use native.Mathlib.Nat.{add-zero}
-use lib.ListN.{length, take, drop, set, length-append, length-drop, length-take}
-use lib.Seq.{take-at, drop-at, drop-drop, set-at, drop-cons, length-take-le, take-append-le, drop-append-le}
+use lib.ListN.{length, take, drop, set, length-append, length-drop}
+use lib.Seq.{take-at, drop-at, drop-drop, set-at, drop-cons}
 use Rattle.rules.specs.Pages.{entries, overlaid, joined, endsFrom}
 use Rattle.rules.specs.Write.{rowsIn}
 

@@ -8,7 +8,7 @@ use lib.Dec.{eqb, leb, ltb}
 use lib.ListN.{length, drop}
 use Rattle.rules.specs.Bits.{firstBit}
 use Rattle.rules.specs.Codes.{white}
-use Rattle.rules.specs.Lines.{Line, line, newLine, Rules, Went, went, failed, push, Kind, one, two, readLine}
+use Rattle.rules.specs.Lines.{Line, line, newLine, Rules, Went, went, failed, push, one, two, readLine}
 use Rattle.rules.specs.Eols.{Eols, eolsTo, allEols, skipToEol}
 use Rattle.rules.specs.Rows.{Settings, State, RowOut, row, stop, rulesOf, alignedIf, finished}
 

@@ -4,7 +4,7 @@ use mathlib.Core.List.{List}
 use Prim.Native.Nat.{ℕ, suc}
 use lib.Dec.{eqb, leb}
 use lib.ListN.{length}
-use Rattle.rules.specs.Lines.{Line, Went, went, failed, two, readLine}
+use Rattle.rules.specs.Lines.{Went, went, failed, two, readLine}
 use Rattle.rules.specs.Eols.{Eols, readEols}
 use Rattle.rules.specs.Rows.{Settings, State, RowOut, row, stop, rulesOf, alignedIf, finished}
 

@@ -1,9 +1,9 @@
 -- One line: its state, what one code does to it, and its steps to the width; 1D and 2D, strict and lenient
 -- (T.4 4.1.1 and 4.2.1.3, T.6 2.2, 01 "One line"; context.rs).
-use mathlib.Core.Bool.{Bool, true, false, cond, not, _&&_}
+use mathlib.Core.Bool.{Bool, true, false, cond, _&&_}
 use mathlib.Core.List.{List, [], _∷_, _++_}
 use Prim.Native.Nat.{ℕ, zero, suc, _+_, _-_}
-use lib.Dec.{eqb, leb, ltb}
+use lib.Dec.{eqb, leb}
 use lib.ListN.{length}
 use Rattle.rules.specs.Machine.{Out, more, done, ends}
 use Rattle.rules.specs.Codes.{Colour, white, black, opposite, differ}

@@ -1,13 +1,13 @@
 -- A page: row after row into a lent store, to an answer of 01's list (01 "The row store and what the desk says", "Pages"; lib.rs).
 use mathlib.Core.Bool.{Bool, true, false, cond, _&&_, _||_}
 use mathlib.Core.List.{List, [], _∷_, _++_}
-use Prim.Native.Nat.{ℕ, suc, _+_, _-_, _*_}
+use Prim.Native.Nat.{ℕ, suc, _+_, _-_}
 use lib.Dec.{eqb, leb, ltb}
 use lib.ListN.{length, drop}
 use Rattle.rules.specs.Machine.{Out, more, done, ends}
 use Rattle.rules.specs.Bits.{bitsOf}
 use Rattle.rules.specs.Runs.{unreachable}
-use Rattle.rules.specs.Lines.{Line, Rules, Went, went, failed, newLine, two, readLine}
+use Rattle.rules.specs.Lines.{Went, went, failed, newLine, two, readLine}
 use Rattle.rules.specs.Rows.{Encoding, group4, group3-1D, group3-2D, Settings, State, pageStart, RowOut, row, stop}
 use Rattle.rules.specs.Group4.{row4}
 use Rattle.rules.specs.Group3.{row3, untagged, tagged}

@@ -5,7 +5,7 @@ use mathlib.Core.Bool.{Bool, true, false, cond, _&&_}
 use mathlib.Core.List.{List, [], _∷_}
 use Prim.Native.Nat.{ℕ, zero, suc, _-_}
 use lib.Dec.{ltb}
-use Rattle.rules.specs.Codes.{Colour, white, black, opposite, differ}
+use Rattle.rules.specs.Codes.{Colour, white, opposite, differ}
 
 -- the colour of each position, from 0 on
 abbrev pub Pixels : Type 0

@@ -6,7 +6,7 @@ use Prim.Native.Nat.{ℕ}
 use lib.Dec.{eqb}
 use lib.ListN.{length}
 use Rattle.rules.specs.Bits.{bitsFor, bitsOf}
-use Rattle.rules.specs.Lines.{Went, went, failed, Rules, two, readLine}
+use Rattle.rules.specs.Lines.{Went, went, failed, two, readLine}
 use Rattle.rules.specs.Rows.{group4, Settings}
 use Rattle.rules.specs.Pages.{Answer, decode}
 use Rattle.rules.specs.Write.{mostMakeup, lineBits, Written, writePage}

@@ -5,8 +5,8 @@ use mathlib.Core.List.{List, [], _∷_, _++_}
 use Prim.Native.Nat.{ℕ, zero, suc, _+_, _-_, _*_, _/_, _%_}
 use lib.Dec.{eqb, leb, ltb}
 use lib.ListN.{length, take, drop, replicate}
-use Rattle.rules.specs.Bits.{bitsFor, bitsOf}
-use Rattle.rules.specs.Codes.{Colour, white, black, opposite, Code, codeBits, codeAt, terminatingOf, makeupOf}
+use Rattle.rules.specs.Bits.{bitsOf}
+use Rattle.rules.specs.Codes.{Colour, white, opposite, Code, codeBits, codeAt, terminatingOf, makeupOf}
 use Rattle.rules.specs.Modes.{Mode, pass, horizontal, VR, VL, modeBits}
 use Rattle.rules.specs.Lines.{headOr, tail, Kind, one, two, b1, b2}
 use Rattle.rules.specs.Rows.{bytesTo}

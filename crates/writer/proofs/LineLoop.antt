@@ -1,10 +1,9 @@
 -- A line that is being put: what holds between its codes, and what each code does. Assumes nothing.
 use mathlib.Core.Path.{_≡_, refl, sym, ap, _∙_, subst}
 use mathlib.Core.Bool.{Bool}
-use mathlib.Core.List.{List, [], _∷_, _++_}
+use mathlib.Core.List.{List, [], _++_}
 use Prim.Native.Nat.{ℕ, zero, suc, _+_, _-_, _*_, _≤_, _<_}
 use native.Mathlib.Omega.{arith}
-use native.Mathlib.Numerals.{add-one}
 use lib.ListN.{length, drop}
 use Rattle.rules.specs.Bits.{bitsFor, bitsOf}
 use Rattle.rules.specs.Codes.{Colour, opposite}
@@ -17,11 +16,13 @@ use Rattle.tables.specs.declared.Code.{Code}
 use Rattle.context.specs.declared.reference.Found.{Found}
 use Rattle.context.specs.Reference.{Passed, Finds}
 use Rattle.context.proofs.Search.{right-grows, passed-none, passed-on}
+use Rattle.rules.proofs.Ahead.{leftOver}
+use Rattle.context.proofs.Search.{drop-next}
 use Rattle.writer.specs.Putting.{inked, Sound, Spells, Room, Puts}
 use Rattle.writer.specs.Coding.{apart, across, lineOf, Lined}
 use Rattle.writer.proofs.Owing.{Owes, owes-all, first-room, owes-put, first-code, owes-code, puts-zeros}
 use Rattle.writer.proofs.ModeCodes.{near-by, near-not}
-use Rattle.writer.proofs.Turns.{leftOver, Turn, bits-end, pass-turn, vertical-turn, horizontal-turn}
+use Rattle.writer.proofs.Turns.{Turn, bits-end, pass-turn, vertical-turn, horizontal-turn}
 
 -- the other colour, as a number
 pub colour-turns : (colour : ℕ) → colour ≤ 1 → colourOf (1 - colour) ≡ opposite (colourOf colour)
@@ -29,17 +30,7 @@ colour-turns zero h = refl
 colour-turns (suc zero) h = refl
 colour-turns (suc (suc c)) h = absurd (omega arith)
 
--- the changes from the next place on
-drop-next : (xs : List ℕ) (i : ℕ) → drop (i + 1) xs ≡ tail (drop i xs)
-drop-next xs i = rw add-one (go xs i)
-  where
-    go : (xs : List ℕ) (i : ℕ) → drop (suc i) xs ≡ tail (drop i xs)
-    go [] zero = refl
-    go [] (suc i) = refl
-    go (x ∷ xs) zero = refl
-    go (x ∷ xs) (suc i) = go xs i
-
--- and from the one after it
+-- the changes after the second of them
 drop-two : (xs : List ℕ) (i : ℕ) → drop (i + 2) xs ≡ tail (tail (drop i xs))
 drop-two xs i =
     ap (λ (j : ℕ). drop j xs) (let q : i + 2 ≡ i + 1 + 1 = omega arith in q) ∙ drop-next xs (i + 1) ∙ ap tail (drop-next xs i)

@@ -1,68 +1,20 @@
 -- One code of a 2D line, by its three cases: what it takes the place of, how far it goes, and how many bits it has. Assumes nothing.
 use mathlib.Core.Path.{_≡_, refl}
-use mathlib.Core.Bool.{Bool, true, false, _&&_}
-use mathlib.Core.List.{List, [], _∷_, _++_, append-assoc}
+use mathlib.Core.Bool.{Bool, true, false}
+use mathlib.Core.List.{List, [], _++_, append-assoc}
 use Prim.Native.Nat.{ℕ, zero, suc, _+_, _-_, _*_, _≤_, _<_}
 use native.Mathlib.Omega.{arith}
 use lib.Dec.{eqb, leb, ltb}
 use lib.ListN.{length, length-append}
 use borrow.Author.Tests.{lt-ltb, le-ltb, ne-eqb, eq-eqb, ltb-true, ltb-false, leb-true, leb-false}
-use Rattle.rules.specs.Codes.{Colour, white, black, opposite, differ}
+use Rattle.rules.specs.Codes.{Colour, white, opposite}
 use Rattle.rules.specs.Modes.{Mode, pass, horizontal, VR, VL, modeBits}
-use Rattle.rules.specs.Lines.{rightOfA0, fromB1, headOr, tail, b1, b2}
+use Rattle.rules.specs.Lines.{headOr, tail, b1, b2}
 use Rattle.rules.specs.Write.{mostMakeup, runBits, verticalTo, near, bits2D, lineBits}
-use Rattle.rules.proofs.Ascending.{Rising, none, some, rises-lower, head-low, head-fits, tail-rises}
+use Rattle.rules.proofs.Ascending.{Rising, rises-lower, head-low, head-fits, tail-rises}
+use Rattle.rules.proofs.Ahead.{above, b2-behind, leftOver, no-longer, shorter}
 use Rattle.writer.specs.Coding.{across, lineOf}
 use Rattle.writer.proofs.RunCodes.{run-few}
-
--- ---- Places
-
--- changes that rise and lie behind a position rise from behind it
-above : {width low q : ℕ} {xs : List ℕ} → q < headOr width xs → Rising width low xs → Rising width (suc q) xs
-above h none = none
-above h (some k l r) = some h l r
-
--- the changes from b1 on rise from its least place
-found-rises : (colour : Colour) (least : ℕ) (turns : Colour) {width low : ℕ} {xs : List ℕ} → Rising width low xs
-    → Rising width least (fromB1 colour least turns xs)
-unfolding fromB1
-found-rises colour least turns none = none
-found-rises colour least turns {width} (some {x = x} {xs = xs} k l r) =
-    tests (leb least x) refl (differ turns colour) (found-rises colour least (opposite turns) r)
-  where
-    tests : (b : Bool) → leb least x ≡ b → (d : Bool) → Rising width least (fromB1 colour least (opposite turns) xs)
-        → Rising width least (elim (b && d) as (λ _. List ℕ) [ true ↦ x ∷ xs | false ↦ fromB1 colour least (opposite turns) xs ])
-    tests true e true ih = some (leb-true least x e) l r
-    tests true e false ih = ih
-    tests false e d ih = ih
-
--- so b2, where there is one, lies behind a0
-b2-behind : {width : ℕ} {reference : List ℕ} → Rising width 0 reference → (p : ℕ) (c : Colour) → b2 width reference p c < width → p < b2 width reference p c
-unfolding rightOfA0
-b2-behind {width} r p c = second (found-rises c (rightOfA0 p) black r) (right p)
-  where
-    right : (p : ℕ) → p ≤ rightOfA0 p
-    right zero = omega arith
-    right (suc p) = omega arith
-
-    second : {least : ℕ} {xs : List ℕ} → Rising width least xs → p ≤ least → headOr width (tail xs) < width → p < headOr width (tail xs)
-    second none h k = absurd (omega arith)
-    second (some _ _ none) h k = absurd (omega arith)
-    second (some l _ (some k _ _)) h _ = omega arith
-
--- what is left of a line: positions and changes
-abbrev pub leftOver : ℕ → ℕ → List ℕ → ℕ
-leftOver width p rest = (width - p) + length rest
-
--- to the next change it is no more,
-no-longer : {width p : ℕ} {xs : List ℕ} → p ≤ width → Rising width p xs → leftOver width (headOr width xs) (tail xs) ≤ leftOver width p xs
-no-longer h none = omega arith
-no-longer h (some k l r) = omega arith
-
--- and less before the width
-shorter : {width p : ℕ} {xs : List ℕ} → p < width → Rising width p xs → leftOver width (headOr width xs) (tail xs) < leftOver width p xs
-shorter h none = omega arith
-shorter h (some k l r) = omega arith
 
 -- ---- A mode's bits
 

@@ -2,7 +2,6 @@ use Rattle.ccitt.proofs.Paging.{Turn, turnsLeft, turn-start, turn-asked
 use borrow.Author.Needs.{needs}
 use native.Mathlib.Omega.{arith}
 use denote.Ref.{now}
-use mathlib.Core.Path.{_≡_, refl, sym, ap, _∙_, subst}
 use Rattle.ccitt.proofs.page.Statement.{statement}
 use Rattle.ccitt.proofs.page.Tie as tie
 use Rattle.ccitt.proofs.page.Reads as reads

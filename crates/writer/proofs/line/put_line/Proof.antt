@@ -8,7 +8,7 @@ use borrow.Author.Needs.{needs}
 use Rattle.rules.proofs.Ascending.{rises-length}
 use Rattle.writer.proofs.LineLoop.{Going, begin, ended, turn-room, turn-code, turn-put, a1-low, a2-low, passes, verticals, horizontals}
 use Rattle.writer.proofs.Owing.{code-puts}
-use Rattle.writer.proofs.Turns.{leftOver}
+use Rattle.rules.proofs.Ahead.{leftOver}
 use Rattle.writer.proofs.line.put_line.Statement.{statement}
 use Rattle.writer.proofs.line.put_line.Tie as tie
 
