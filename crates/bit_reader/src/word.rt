@@ -63,6 +63,14 @@ fn slow(src: &[u8], i: usize, n: usize) -> u64
     append(slow(src, i, k), byte_or_zero(src, i + k))
 }
 
+// A function of its own, so that `src` is put into memory for `slow` only here, and not at every word.
+fn near_end(src: &[u8], i: usize) -> u64
+    requires { ⌜ i ≤ length (now src) ⌝ }
+    ensures { λ r. ⌜ r ≡ peek 64 (drop (i * 8) (bitsOf (now (src .entry)))) ⌝ }
+{
+    slow(src, i, 8)
+}
+
 // The 64 bits from byte `i` on, zeros past the data.
 pub fn word(src: &[u8], i: usize) -> u64
     requires { ⌜ i ≤ length (now src) ⌝ }
@@ -71,5 +79,5 @@ pub fn word(src: &[u8], i: usize) -> u64
     if i + 8 <= src.len() {
         return fast(src, i);
     }
-    slow(src, i, 8)
+    near_end(src, i)
 }

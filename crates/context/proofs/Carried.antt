@@ -188,6 +188,6 @@ pub step-on : (width : ℕ) (w : Went) (m : Line) (at : ℕ) → Step.On m at �
 step-on width (went t) m at e = (t, refl, cc, cc)
 step-on width (failed n p t) m at e = absurd (let z : _≡_ {A = ℕ} 0 1 = cc in omega arith)
 
-pub step-stop : (width : ℕ) (w : Went) (k a : ℕ) (m : Line) → Step.Stop k a m ≡ stepFor width w → (t : Rule.Line) × (w ≡ failed k a t) × (m ≡ lineFor width t)
+pub step-stop : (width : ℕ) (w : Went) (k a : ℕ) (m : Line) → Step.Stop k m a ≡ stepFor width w → (t : Rule.Line) × (w ≡ failed k a t) × (m ≡ lineFor width t)
 step-stop width (failed n p t) k a m e = (t, (let q : n ≡ k = cc in let r : p ≡ a = cc in λ i. failed (q i) (r i) t), cc)
 step-stop width (went t) k a m e = absurd (let z : _≡_ {A = ℕ} 0 1 = cc in omega arith)

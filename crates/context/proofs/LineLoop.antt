@@ -177,11 +177,11 @@ module _ {T : Task} {l : Line} {at seen : ℕ} {zs : List ℕ} (g : Reading T l 
         array-after : (o : Went) → code2D (R T) (ref T) (bs T) s ≡ o → putMid (T .base) (length zs - T .base) zs ys ≡ take (T .base) (T .xs) ++ overlaid (changesOf o) (row T)
         array-after o e = row-back zs (T .base) reading-room ys ∙ (λ i. g .front i ++ (steps .store ∙ ap (λ (o : Went). overlaid (changesOf o) (row T)) e) i)
 
-        pub reading-stop : {n p : ℕ} {m : Line} → r ≡ Stop n p m → StepsAt (T .base) (T .width) (T .xs) (whole T) (Stop n p m) (putMid (T .base) (length zs - T .base) zs ys)
+        pub reading-stop : {n p : ℕ} {m : Line} → r ≡ Stop n m p → StepsAt (T .base) (T .width) (T .xs) (whole T) (Stop n m p) (putMid (T .base) (length zs - T .base) zs ys)
         reading-stop {n} {p} {m} e =
             let (u, o, same) = step-stop (T .width) (code2D (R T) (ref T) (bs T) s) n p m (sym e ∙ steps .answer) in
             rw (g .same ∙ line-failed (T .width) (code T) (bs T) (moves (R T) (two (ref T)) (bs T)) s u n p short o)
-            (record { answer = ap (Stop n p) same; store = array-after (failed n p u) o })
+            (record { answer = ap (λ (l : Line). Stop n l p) same; store = array-after (failed n p u) o })
 
         pub reading-less : {m : Line} {after : ℕ} → r ≡ On m after → (at < after) × (after ≤ 8 * length (T .bytes))
         reading-less {m} {after} e =

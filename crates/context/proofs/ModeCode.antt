@@ -67,9 +67,9 @@ pushed-steps R xs place count s turns (Push.Stop n m) ys c =
     by turns p t e same (push-place R place count s t n p e) (c .store ∙ ap (λ (w : Went). overlaid (changesOf w) xs) e)
   where
     by : (turns : Bool) (p : ℕ) (t : Rule.Line) → push R place count s ≡ failed n p t → m ≡ lineFor (R .width) t → p ≡ placeFor n place → ys ≡ overlaid (t .changes) xs
-        → Steps (R .width) xs (turnedBy turns (push R place count s)) (Step.Stop n (placeFor n place) m) ys
-    by true p t e same a store′ = rw e (record { answer = λ i. Step.Stop n (sym a i) (same i); store = store′ })
-    by false p t e same a store′ = rw e (record { answer = λ i. Step.Stop n (sym a i) (same i); store = store′ })
+        → Steps (R .width) xs (turnedBy turns (push R place count s)) (Step.Stop n m (placeFor n place)) ys
+    by true p t e same a store′ = rw e (record { answer = λ i. Step.Stop n (same i) (sym a i); store = store′ })
+    by false p t e same a store′ = rw e (record { answer = λ i. Step.Stop n (same i) (sym a i); store = store′ })
 
 -- ---- What a mode does
 
@@ -103,10 +103,10 @@ module _ (bytes xs : List ℕ) (l : Line) (at : ℕ) (strict : Bool) where
       unfolding code2D
       coded o e = ap (afterMode R reference bs s) (sym q ∙ e)
 
-      pub mode-bad : Holds xs l → (e : DecodeError) → m ≡ Bad e → Steps (l .width) xs (code2D R reference bs s) (Step.Stop (numberOf e) at l) xs
+      pub mode-bad : Holds xs l → (e : DecodeError) → m ≡ Bad e → Steps (l .width) xs (code2D R reference bs s) (Step.Stop (numberOf e) l at) xs
       mode-bad h e f =
           rw (coded (fault (numberOf e) at) (ap (modeOf at) f))
-          (record { answer = ap (Step.Stop (numberOf e) at) (sym (line-for xs l h at)); store = overlaid-same (l .changes) xs (h .held) })
+          (record { answer = ap (λ (m : Line). Step.Stop (numberOf e) m at) (sym (line-for xs l h at)); store = overlaid-same (l .changes) xs (h .held) })
 
       pub mode-horizontal : (next′ : ℕ) → m ≡ Horizontal next′ → (r : Step) (ys : List ℕ)
           → Steps (l .width) xs (next (pushRun R bs (lineAt next′ xs l)) (pushRun R bs)) r ys → Steps (l .width) xs (code2D R reference bs s) r ys
@@ -124,10 +124,10 @@ module _ (bytes xs : List ℕ) (l : Line) (at : ℕ) (strict : Bool) where
         moved : (v : Move) → v ≡ moveBy b (offsetMode (held z)) (l .position) → code2D R reference bs s ≡ afterMove R at (lineAt next′ xs l) v
         moved v k = coded (ok (moded next′ (offsetMode z))) (ap (modeOf at) f) ∙ offset-moves R reference bs at (lineAt next′ xs l) z e (k ∙ ap (λ (y : ℤ). moveBy b (offsetMode y) (l .position)) (offset-held z (offset-small z next′ f)))
 
-        pub mode-over : Holds xs l → Over ≡ moveBy b (offsetMode (held z)) (l .position) → Steps (l .width) xs (code2D R reference bs s) (Step.Stop 3 at l) xs
+        pub mode-over : Holds xs l → Over ≡ moveBy b (offsetMode (held z)) (l .position) → Steps (l .width) xs (code2D R reference bs s) (Step.Stop 3 l at) xs
         mode-over h k =
             rw (moved Over k)
-            (record { answer = ap (Step.Stop 3 at) (sym (line-for xs l h next′)); store = overlaid-same (l .changes) xs (h .held) })
+            (record { answer = ap (λ (m : Line). Step.Stop 3 m at) (sym (line-for xs l h next′)); store = overlaid-same (l .changes) xs (h .held) })
 
         pub mode-vertical : (count : ℕ) → By count ≡ moveBy b (offsetMode (held z)) (l .position) → (r : Push) (ys : List ℕ)
             → Pushes xs l count strict r ys → Steps (l .width) xs (code2D R reference bs s) (afterPush r at next′ true) ys

@@ -35,7 +35,7 @@ answers-on l at width w e =
     let count : l .changes ≡ length (t .changes) + 0 = omega (arith, ap (λ (m : Line). m .changes) same) in
     rw o (λ i. record { number = 0; rows = 1; entries = count i; loose = 0; bytes = there i })
 
-pub answers-stop : (n p : ℕ) (l : Line) → Answers (Stop n p l) (record { number = n; rows = 0; entries = 0; loose = l .changes; bytes = 0 })
+pub answers-stop : (n p : ℕ) (l : Line) → Answers (Stop n l p) (record { number = n; rows = 0; entries = 0; loose = l .changes; bytes = 0 })
 unfolding entries
 answers-stop n p l width w e =
     let (t, o, same) = step-stop width w n p l e in

@@ -154,12 +154,12 @@ module _ {T : Task} {count : ℕ} {l : Line} {b : Buffer} {ys : List ℕ} (g : G
     read-same : readRun (colourOf (l .colour)) (bs T) (b .at) ≡ readRun (s .colour) (bs T) (s .at)
     read-same = λ i. readRun ((ap (λ (m : Line). colourOf (m .colour)) (k .line-is) ∙ colour-number (s .colour)) i) (bs T) (g .place i)
 
-    pub going-bad : {e : DecodeError} {p : ℕ} → RunRead (colourOf (l .colour)) (T .bytes) (b .at) (Bad e p) → Steps (widthOf T) (T .xs) (whole T) (Step.Stop (numberOf e) p l) ys
+    pub going-bad : {e : DecodeError} {p : ℕ} → RunRead (colourOf (l .colour)) (T .bytes) (b .at) (Bad e p) → Steps (widthOf T) (T .xs) (whole T) (Step.Stop (numberOf e) l p) ys
     unfolding pushRun
     going-bad {e} {p} q =
         let r : readRun (s .colour) (bs T) (s .at) ≡ fault (numberOf e) p = sym (q .same ∙ read-same) in
         rw (turn ∙ ap (λ (x : Res Sum). next (afterRun (R T) s x) (rest (R T) (bs T) (T .two) (count + 1))) r)
-        (record { answer = λ i. Step.Stop (numberOf e) p (k .line-is i); store = k .store })
+        (record { answer = λ i. Step.Stop (numberOf e) (k .line-is i) p; store = k .store })
 
     module _ {n : ℕ} {b′ : Buffer} (q : RunRead (colourOf (l .colour)) (T .bytes) (b .at) (Length n b′)) where
       read : readRun (s .colour) (bs T) (s .at) ≡ ok (sum (b′ .at) n)
@@ -180,12 +180,12 @@ module _ {T : Task} {count : ℕ} {l : Line} {b : Buffer} {ys : List ℕ} (g : G
         comes : Comes (widthOf T) (T .xs) pushed r zs
         comes = carries-push k (T .strict) n r zs p (b′ .at) (s .at)
 
-        pub going-stop : {j : ℕ} {m : Line} → r ≡ Push.Stop j m → Steps (widthOf T) (T .xs) (whole T) (Step.Stop j (placeFor j (b .at)) m) zs
+        pub going-stop : {j : ℕ} {m : Line} → r ≡ Push.Stop j m → Steps (widthOf T) (T .xs) (whole T) (Step.Stop j m (placeFor j (b .at))) zs
         going-stop {j} {m} e =
             let (a, u, w, same) = push-stop (widthOf T) pushed j m (sym e ∙ comes .answer) in
             let at-fault : placeFor j (b .at) ≡ a = ap (placeFor j) (g .place) ∙ sym (push-place (R T) (s .at) n (movedTo (b′ .at) s) u j a w) in
             rw (turn ∙ ap (λ (w : Went). next w (rest (R T) (bs T) (T .two) (count + 1))) (ran (failed j a u) w))
-            (record { answer = λ i. Step.Stop j (at-fault i) (same i); store = comes .store ∙ ap (λ (w : Went). overlaid (changesOf w) (T .xs)) w })
+            (record { answer = λ i. Step.Stop j (same i) (at-fault i); store = comes .store ∙ ap (λ (w : Went). overlaid (changesOf w) (T .xs)) w })
 
         pub going-coloured : {m : Line} → r ≡ Push.On m → m .colour ≤ 1
         going-coloured {m} e =

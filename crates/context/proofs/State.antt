@@ -1,13 +1,13 @@
 -- Laws of the line's state: the line of the code and that of the rules are one, and what a push does to the slice. Assumes nothing.
 use mathlib.Core.Path.{_≡_, refl, sym, ap, _∙_}
-use mathlib.Core.Bool.{Bool, true, false, cond, not}
+use mathlib.Core.Bool.{Bool, true, false, not}
 use mathlib.Core.List.{List, [], _∷_, _++_, append-assoc}
 use Prim.Native.Nat.{ℕ, zero, suc, _+_, _-_, _%_, _≤_, _<_}
 use native.Mathlib.Omega.{arith}
-use lib.Dec.{eqb, leb}
+use lib.Dec.{eqb}
 use lib.ListN.{length, take, drop, set, length-append, take-append-drop}
 use lib.Seq.{length-take-le, set-split, take-at}
-use borrow.Author.Tests.{eq-eqb, ne-eqb, le-leb, lt-leb, leb-true, leb-false}
+use borrow.Author.Tests.{eq-eqb, ne-eqb, le-leb, lt-leb}
 use Rattle.rules.specs.Codes.{Colour, white, black, opposite, differ}
 use Rattle.rules.specs.Lines as Rule
 use Rattle.rules.specs.Lines.{Rules, lastColour, recorded, add, push}
@@ -16,9 +16,7 @@ use Rattle.tables.specs.Tables.{colourOf}
 use Rattle.context.specs.declared.line.Line.{Line}
 use Rattle.context.specs.declared.line.Push.{Push}
 use Rattle.context.specs.declared.line.Push.the-variants.{On, Stop}
-use Rattle.context.specs.declared.line.Count.{Count}
-use Rattle.context.specs.declared.line.Count.the-variants.{Whole, Cut, TooMany}
-use Rattle.context.specs.State.{flagOf, colourNumber, flagNumber, lineAt, lineFor, movedFor, cutFor, rulesFor, Holds, fitted, turns, Adds, Comes, Added, Pushes}
+use Rattle.context.specs.State.{flagOf, colourNumber, flagNumber, lineAt, lineFor, movedFor, cutFor, rulesFor, Holds, turns, Comes, Added, Pushes}
 
 -- ---- The two lines are one
 
@@ -153,38 +151,18 @@ module _ (xs : List ℕ) (l : Line) (h : Holds xs l) (count : ℕ) (strict : Boo
 
 -- ---- Any count
 
--- which of the three it is, and why
-abbrev Fits : ℕ → ℕ → Bool → Count → Type 0
-Fits left count strict (Whole n) = (n ≡ count) × (count ≤ left)
-Fits left count strict (Cut n) = (n ≡ left) × (left < count) × (strict ≡ false)
-Fits left count strict TooMany = (left < count) × (strict ≡ true)
-
-fits-one : (left count : ℕ) (strict : Bool) (c : Count) → c ≡ fitted left count strict → Fits left count strict c
-fits-one left count strict c e = rw e (tests (leb count left) (leb-true count left) (leb-false count left) strict)
-  where
-    tests : (b : Bool) → (b ≡ true → count ≤ left) → (b ≡ false → left < count) → (strict : Bool) → Fits left count strict (cond b (Whole count) (cond strict TooMany (Cut left)))
-    tests true h k strict = (refl, h refl)
-    tests false h k true = (k refl, refl)
-    tests false h k false = (refl, k refl, refl)
-
 module _ (xs : List ℕ) (l : Line) (h : Holds xs l) (count : ℕ) (strict : Bool) where
-  pub adds-whole : (n : ℕ) → Whole n ≡ fitted (l .width - l .position) count strict → Adds xs l n
-  adds-whole n e = let f = fits-one (l .width - l .position) count strict _ e in record { holds = h; within = omega arith }
-
-  pub adds-cut : (n : ℕ) → Cut n ≡ fitted (l .width - l .position) count strict → Adds xs (cutFor l) n
-  adds-cut n e = let f = fits-one (l .width - l .position) count strict _ e in record { holds = record { narrow = h .narrow; fits = h .fits; held = h .held; coloured = h .coloured; flagged = omega arith }; within = omega arith }
-
-  pub push-whole : (n : ℕ) → Whole n ≡ fitted (l .width - l .position) count strict → (r : Push) (ys : List ℕ) → Added xs l n r ys → Pushes xs l count strict r ys
+  pub push-whole : count ≤ l .width - l .position → (r : Push) (ys : List ℕ) → Added xs l count r ys → Pushes xs l count strict r ys
   unfolding push
-  push-whole n e r ys a at place = let f = fits-one (l .width - l .position) count strict _ e in rw (le-leb count (l .width - l .position) (f .1), ← f .0) (a strict at)
+  push-whole f r ys a at place = rw (le-leb count (l .width - l .position) f) (a strict at)
 
-  pub push-cut : (n : ℕ) → Cut n ≡ fitted (l .width - l .position) count strict → (r : Push) (ys : List ℕ) → Added xs (cutFor l) n r ys → Pushes xs l count strict r ys
-  unfolding push
-  push-cut n e r ys a at place = let f = fits-one (l .width - l .position) count strict _ e in rw (lt-leb count (l .width - l .position) (f .1), f .2, ← f .0) (a false at)
+  module _ (over : l .width - l .position < count) where
+    pub push-refused : strict ≡ true → Pushes xs l count strict (Stop 1 l) xs
+    unfolding push
+    push-refused e at place =
+        rw (lt-leb count (l .width - l .position) over, e)
+        (record { answer = ap (Stop 1) (sym (line-for xs l h at)); store = overlaid-same (l .changes) xs (h .held) })
 
-  pub push-refused : TooMany ≡ fitted (l .width - l .position) count strict → Pushes xs l count strict (Stop 1 l) xs
-  unfolding push
-  push-refused e at place =
-      let f = fits-one (l .width - l .position) count strict _ e in
-      rw (lt-leb count (l .width - l .position) (f .0), f .1)
-      (record { answer = ap (Stop 1) (sym (line-for xs l h at)); store = overlaid-same (l .changes) xs (h .held) })
+    pub push-cut : strict ≡ false → (r : Push) (ys : List ℕ) → Added xs (cutFor l) (l .width - l .position) r ys → Pushes xs l count strict r ys
+    unfolding push
+    push-cut e r ys a at place = rw (lt-leb count (l .width - l .position) over, e) (a false at)

@@ -31,7 +31,7 @@ Coloured (Push.Stop n l) = Unit {0}
 
 abbrev pub afterPush : Push → ℕ → ℕ → Bool → Step
 afterPush (Push.On l) at next turns = Step.On (cond turns (turnedFor l) l) next
-afterPush (Push.Stop n l) at next turns = Step.Stop n (placeFor n at) l
+afterPush (Push.Stop n l) at next turns = Step.Stop n l (placeFor n at)
 
 -- what a code asks besides: b2 does not lie left of the line
 pub record Coding (w b bytes xs : List ℕ) (l : Line) (at b2 : ℕ) : Type 0 where

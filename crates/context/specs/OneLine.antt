@@ -15,7 +15,7 @@ use Rattle.context.specs.Outcome.{stepFor}
 -- the changes of a step are few enough to be counted
 abbrev pub Counts : Step → Type 0
 Counts (On l at) = l .changes < 4294967296
-Counts (Stop n place l) = l .changes < 4294967296
+Counts (Stop n l place) = l .changes < 4294967296
 
 -- a step that stands for an outcome is answered as the outcome is
 abbrev pub Answers : Step → Answer → Type 0

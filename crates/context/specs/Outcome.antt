@@ -22,7 +22,7 @@ placeFor number place = cond (eqb number 4) 0 place
 
 abbrev pub stepFor : ℕ → Went → Step
 stepFor width (went s) = On (lineFor width s) (s .at)
-stepFor width (failed n place s) = Stop n place (lineFor width s)
+stepFor width (failed n place s) = Stop n (lineFor width s) place
 
 -- an answer and the slice after it are those of an outcome
 pub record Steps (width : ℕ) (xs : List ℕ) (w : Went) (r : Step) (ys : List ℕ) : Type 0 where

@@ -1,9 +1,9 @@
 -- A line of the code, and the line of the rules that it stands for.
 use mathlib.Core.Path.{_≡_}
-use mathlib.Core.Bool.{Bool, true, false, cond, not}
+use mathlib.Core.Bool.{Bool, true, false, not}
 use mathlib.Core.List.{List}
 use Prim.Native.Nat.{ℕ, zero, suc, _+_, _-_, _%_, _≤_, _<_}
-use lib.Dec.{eqb, leb}
+use lib.Dec.{eqb}
 use lib.ListN.{length, take}
 use Rattle.rules.specs.Codes.{Colour, white, black}
 use Rattle.rules.specs.Lines as Rule
@@ -13,8 +13,6 @@ use Rattle.tables.specs.Tables.{colourOf}
 use Rattle.context.specs.declared.line.Line.{Line}
 use Rattle.context.specs.declared.line.Push.{Push}
 use Rattle.context.specs.declared.line.Push.the-variants.{On, Stop}
-use Rattle.context.specs.declared.line.Count.{Count}
-use Rattle.context.specs.declared.line.Count.the-variants.{Whole, Cut, TooMany}
 
 -- ---- The two lines
 
@@ -69,9 +67,6 @@ pub record Holds (xs : List ℕ) (l : Line) : Type 0 where
   pub flagged : l .cut ≤ 1
 
 -- ---- A push
-
-abbrev pub fitted : ℕ → ℕ → Bool → Count
-fitted left count strict = cond (leb count left) (Whole count) (cond strict TooMany (Cut left))
 
 -- after so many changes, pixels of this colour turn
 abbrev pub turns : ℕ → ℕ → Bool

@@ -1,7 +1,7 @@
 // The state of a line, and pixels pushed on it. Its changes lie in front of a lent slice, whose length is the room that the row has.
 ghost use mathlib.Core.Path.{_≡_};
 ghost use Prim.Native.Nat.{_+_, _≤_};
-ghost use Rattle.context.specs.State.{newFor, turnedFor, movedFor, cutFor, fitted, turns, Holds, Adds, Added, Pushes};
+ghost use Rattle.context.specs.State.{newFor, turnedFor, movedFor, cutFor, turns, Holds, Adds, Added, Pushes};
 
 // A colour is 0 for white and 1 for black, and `cut` is 1 once a lenient count was shortened: so the struct has no padding, which the line loops feel.
 pub struct Line {
@@ -41,26 +41,6 @@ pub fn turned(line: Line) -> Line
 pub enum Push {
     On(Line),
     Stop(u32, Line),
-}
-
-// How many of `count` pixels fit, or that they are too many for a strict line.
-enum Count {
-    Whole(u32),
-    Cut(u32),
-    TooMany,
-}
-
-fn fit(left: u32, count: u32, strict: bool) -> Count
-    ensures { λ r. ⌜ r ≡ fitted left count strict ⌝ }
-{
-    if count <= left {
-        return Count::Whole(count);
-    }
-    if strict {
-        Count::TooMany
-    } else {
-        Count::Cut(left)
-    }
 }
 
 // An odd number of changes means that the last pixel is black.
@@ -121,9 +101,12 @@ pub fn push_pixels(changes: &mut [u32], line: Line, count: u32, strict: bool) ->
     requires { ⌜ Holds (now changes) line ⌝ }
     ensures { λ r. ⌜ Pushes (now (changes .entry)) line count strict r (now (changes .exit)) ⌝ }
 {
-    match fit(line.width - line.position, count, strict) {
-        Count::Whole(n) => add(changes, line, n),
-        Count::Cut(n) => add(changes, with_cut(line), n),
-        Count::TooMany => Push::Stop(1, line),
+    let left = line.width - line.position;
+    if count <= left {
+        return add(changes, line, count);
     }
+    if strict {
+        return Push::Stop(1, line);
+    }
+    add(changes, with_cut(line), left)
 }

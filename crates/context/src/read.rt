@@ -20,7 +20,7 @@ fn answer(step: Step) -> Answer
             loose: 0,
             bytes: after as u64,
         },
-        Step::Stop(number, _, line) => Answer {
+        Step::Stop(number, line, _) => Answer {
             number: number,
             rows: 0,
             entries: 0,

@@ -44,7 +44,7 @@ pub fn runs<'a>(
         let from = buffer.at;
         match run::read_run(white, black, line.colour as usize, src, buffer) {
             Run::Bad(e, place) => {
-                return Step::Stop(error::number(e), place, line);
+                return Step::Stop(error::number(e), line, place);
             }
             Run::Length(pixels, next) => match line::push_pixels(
                 changes,
@@ -53,7 +53,7 @@ pub fn runs<'a>(
                 rules.strict,
             ) {
                 Push::Stop(number, stopped) => {
-                    return Step::Stop(number, step::place_of(number, from), stopped);
+                    return Step::Stop(number, stopped, step::place_of(number, from));
                 }
                 Push::On(pushed) => {
                     line = line::turned(pushed);

@@ -7,10 +7,11 @@ pub struct Rules {
     pub strict: bool,
 }
 
-// The line and the bit after; or the number of the fault, its bit, and the line so far, whose `changes` says how many it has recorded.
+// The line and the bit after; or the number of the fault, the line so far, whose `changes` says how many it has recorded, and the fault's
+// bit. The line stands at one place in both, which the line loops feel.
 pub enum Step {
     On(Line, usize),
-    Stop(u32, usize, Line),
+    Stop(u32, Line, usize),
 }
 
 // A change for which there is no room is at no bit's fault.

@@ -12,8 +12,10 @@ use crate::step::Rules;
 use crate::step::Step;
 use codes::mode;
 use codes::mode::Mode;
+ghost use mathlib.Core.Bool.{true};
 ghost use mathlib.Core.Path.{_≡_};
 ghost use Rattle.tables.specs.Tables.{colourOf};
+ghost use Rattle.context.specs.Outcome.{Reads, Runs};
 ghost use Rattle.context.specs.Reference.{Finds};
 ghost use Rattle.context.specs.Coding.{Coloured, afterPush, Coding, Coded, referenceIn, Seeks, Lines, Lined};
 
@@ -23,7 +25,7 @@ fn after_push(push: Push, at: usize, next: usize, turns: bool) -> Step
     ensures { λ r. ⌜ r ≡ afterPush push at next turns ⌝ }
 {
     match push {
-        Push::Stop(number, line) => Step::Stop(number, step::place_of(number, at), line),
+        Push::Stop(number, line) => Step::Stop(number, line, step::place_of(number, at)),
         Push::On(line) => {
             if turns {
                 return Step::On(line::turned(line), next);
@@ -31,6 +33,22 @@ fn after_push(push: Push, at: usize, next: usize, turns: bool) -> Step
             Step::On(line, next)
         }
     }
+}
+
+// A function of its own, so that the line is put into memory for `runs` only where a code is horizontal, and not at every code.
+fn horizontal<'a>(
+    white: &'a [u16; 8192],
+    black: &'a [u16; 8192],
+    src: &[u8],
+    changes: &mut [u32],
+    line: Line,
+    at: usize,
+    rules: Rules,
+) -> Step
+    requires { ⌜ Reads (now white) (now black) (now src) (now changes) line at ⌝ }
+    ensures { λ r. ⌜ Runs (now (src .entry)) (now (changes .entry)) true line at rules r (now (changes .exit)) ⌝ }
+{
+    runs::runs(white, black, src, changes, true, line, at, rules)
 }
 
 pub fn code_2d<'a>(
@@ -48,14 +66,14 @@ pub fn code_2d<'a>(
     ensures { λ r. ⌜ Coded (now (src .entry)) (now (changes .entry)) line at b1 b2 rules r (now (changes .exit)) ⌝ }
 {
     match mode::read_mode(src, at) {
-        Mode::Bad(e) => Step::Stop(error::number(e), at, line),
-        Mode::Horizontal(next) => runs::runs(white, black, src, changes, true, line, next, rules),
+        Mode::Bad(e) => Step::Stop(error::number(e), line, at),
+        Mode::Horizontal(next) => horizontal(white, black, src, changes, line, next, rules),
         Mode::Pass(next) => {
             let pushed = line::push_pixels(changes, line, b2 - line.position, rules.strict);
             after_push(pushed, at, next, false)
         }
         Mode::Vertical(offset, next) => match offset::moved(b1, offset, line.position) {
-            Move::Over => Step::Stop(3, at, line),
+            Move::Over => Step::Stop(3, line, at),
             Move::By(count) => {
                 let pushed = line::push_pixels(changes, line, count, rules.strict);
                 after_push(pushed, at, next, true)
@@ -127,8 +145,8 @@ pub fn decode_2d_line<'a>(
             found.b2,
             rules,
         ) {
-            Step::Stop(number, fault, stopped) => {
-                return Step::Stop(number, fault, stopped);
+            Step::Stop(number, stopped, fault) => {
+                return Step::Stop(number, stopped, fault);
             }
             Step::On(next, after) => {
                 line = next;

@@ -60,7 +60,7 @@ module _ {w b bytes xs : List ℕ} {settings : DecodeSettings} {st : State} {at 
         store = s .store ∙ ap (λ (w : Went). take base xs ++ overlaid (changesOf w) (drop base xs)) o;
       })
 
-  module _ (n place : ℕ) (m : Line) (e : r ≡ Step.Stop n place m) where
+  module _ (n place : ℕ) (m : Line) (e : r ≡ Step.Stop n m place) where
     abbrev R : Rules
     R = rulesOf (settingsOf settings) (length xs - base)
 

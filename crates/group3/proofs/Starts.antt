@@ -98,10 +98,10 @@ module _ {w b bytes xs : List ℕ} {settings : DecodeSettings} {st : State} {at 
   starts : (start : ℕ) → Loading bytes start → Line.Starts w b bytes (settings .columns) start
   starts start l = record { lookups = h .row .lookups; loading = l; narrow = h .row .narrow }
 
-  pub line-missing : k ≡ NoTag → StepsAt base (settings .columns) xs (lineIn settings bytes xs st at) (Stop 2 (8 * length bytes) (newFor (settings .columns))) xs
+  pub line-missing : k ≡ NoTag → StepsAt base (settings .columns) xs (lineIn settings bytes xs st at) (Stop 2 (newFor (settings .columns)) (8 * length bytes)) xs
   line-missing e =
       gives _ xs
-      (rw e (record { answer = ap (λ (n : ℕ). Stop 2 n (newFor (settings .columns))) (sym (length-bitsOf bytes)); store = unchanged base xs }))
+      (rw e (record { answer = ap (λ (n : ℕ). Stop 2 (newFor (settings .columns)) n) (sym (length-bitsOf bytes)); store = unchanged base xs }))
 
   module _ (start : ℕ) where
     pub one-starts : k ≡ One start → Line.Starts w b bytes (settings .columns) start

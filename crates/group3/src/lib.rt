@@ -35,7 +35,7 @@ fn row_at<'a>(
 {
     match line::decode(white, black, src, settings, changes, state, at) {
         Step::On(line, next) => Row::Kept(line.changes, next, expected),
-        Step::Stop(number, place, line) => {
+        Step::Stop(number, line, place) => {
             recover::recover(changes, settings, state, at, expected, number, place, line)
         }
     }

@@ -54,7 +54,10 @@ pub fn decode<'a>(
         strict: settings.strict,
     };
     match kind_at(src, settings, at) {
-        Kind::NoTag => Step::Stop(2, 8 * src.len(), line::new_line(columns)),
+        Kind::NoTag => {
+            let end = 8 * src.len();
+            Step::Stop(2, line::new_line(columns), end)
+        }
         Kind::One(start) => {
             runs::decode_1d_line(
                 white,

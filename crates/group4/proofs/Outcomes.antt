@@ -122,7 +122,7 @@ module _ {w b bytes xs : List ℕ} {settings : DecodeSettings} {st : State} (h :
             gives (went t) o (Kept (m .changes) next (st .eols))
             (λ i. Kept (same i .changes) ((n ∙ ap (alignedIf (settings .«rows_are_byte_aligned»)) there) i) (st .eols)) refl
 
-        pub row-stops : (n place : ℕ) (m : Line) → r ≡ Step.Stop n place m → RowGives (st .base) xs outcome (Stop n place 0 (m .changes)) ys
+        pub row-stops : (n place : ℕ) (m : Line) → r ≡ Step.Stop n m place → RowGives (st .base) xs outcome (Stop n place 0 (m .changes)) ys
         row-stops n place m a =
             let (t, o, same) = step-stop (settings .columns) (lined (length (drop (st .base) xs))) n place m (sym a ∙ l .answer) in
             gives (failed n place t) o (Stop n place 0 (m .changes)) (λ i. Stop n place 0 (same i .changes)) refl

@@ -99,6 +99,6 @@ pub fn row<'a>(
             let next = rows::align_if(settings.rows_are_byte_aligned, at);
             Row::Kept(line.changes, next, state.eols)
         }
-        Step::Stop(number, place, line) => Row::Stop(number, place, 0, line.changes),
+        Step::Stop(number, line, place) => Row::Stop(number, place, 0, line.changes),
     }
 }

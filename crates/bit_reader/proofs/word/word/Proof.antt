@@ -19,11 +19,11 @@ returns c =
     let a = k .before .args in
     c .fast .ensures ∙ eight (now (a .src)) (λ i. omega (arith, k .shared-slice-known .given i)) (a .i)
 
-slow-requires : tie.Need-slow-requires
-slow-requires c κs = search needs
+near-end-requires : tie.Need-near-end-requires
+near-end-requires c κs = search needs
 
 returns-2 : tie.Need-returns-2
 returns-2 c = search needs
 
 pub word-spec : {M : Type 1} → statement M
-word-spec = tie.close (tie.spec add-if1 fast-requires returns slow-requires returns-2)
+word-spec = tie.close (tie.spec add-if1 fast-requires returns near-end-requires returns-2)

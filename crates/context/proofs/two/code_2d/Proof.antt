@@ -18,8 +18,8 @@ number-requires c κs = search needs
 enum-known-next : tie.Need-enum-known-next
 enum-known-next c = search needs
 
-runs-requires : tie.Need-runs-requires
-runs-requires c κs =
+horizontal-requires : tie.Need-horizontal-requires
+horizontal-requires c κs =
     let a = c .before .before .before .before .before .before .before .args in
     let h = c .before .before .before .before .before .before .before .pre .reads in
     record {
@@ -71,7 +71,7 @@ same-length c = search needs
 returns-2 : tie.Need-returns-2
 returns-2 c = λ reference e1 e2.
     let a = c .before .before .before .before .before .before .before .before .before .before .args in
-    mode-horizontal (now (a .src)) (now (a .changes)) (a .line) (a .at) (a .rules .strict) _ (c .before .before .before .before .before .before .before .read-mode .ensures) reference _ (c .before .before .before .before .before .next .given .1) _ _ (c .before .before .runs .ensures)
+    mode-horizontal (now (a .src)) (now (a .changes)) (a .line) (a .at) (a .rules .strict) _ (c .before .before .before .before .before .before .before .read-mode .ensures) reference _ (c .before .before .before .before .before .next .given .1) _ _ (c .before .before .horizontal .ensures)
 
 same-length-2 : tie.Need-same-length-2
 same-length-2 c = search needs
@@ -102,7 +102,7 @@ code-2d-spec =
     enum-known-e
     number-requires
     enum-known-next
-    runs-requires
+    horizontal-requires
     enum-known-next-2
     sub-push-pixels
     push-pixels-requires

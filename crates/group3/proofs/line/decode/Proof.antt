@@ -10,8 +10,8 @@ kind-at-requires c κs = search needs
 enum-told : tie.Need-enum-told
 enum-told c = search needs
 
-mul-t18 : tie.Need-mul-t18
-mul-t18 c = search needs
+mul-end : tie.Need-mul-end
+mul-end c = search needs
 
 new-line-requires : tie.Need-new-line-requires
 new-line-requires c κs = search needs
@@ -74,7 +74,7 @@ decode-spec =
     (tie.spec
     kind-at-requires
     enum-told
-    mul-t18
+    mul-end
     new-line-requires
     enum-known-start
     mul-decode-1d-line
