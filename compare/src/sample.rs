@@ -1,8 +1,8 @@
-//! A sample of the crate's answers, for a program that replays them without Rust. Only `put_case` knows
-//! how a case is written.
+//! A sample of the crate's answers, which a program replays without Rust (crates/replay): what was asked
+//! goes into a file `stdin`, what the crate answered into a file `stdout`.
 
 use crate::call::{Ask, Form, Room};
-use crate::check::{Case, Plan, Source, hex};
+use crate::check::{Case, Plan, Source};
 use crate::checks::limits::{LineLimits, PageLimits};
 use crate::checks::lines::Lines;
 use crate::checks::random_pages::{Kind, RandomPages};
@@ -12,25 +12,31 @@ use crate::settings::Encoding;
 use std::collections::BTreeMap;
 use std::fmt::Write as _;
 use std::io;
+use std::path::Path;
 
 /// So many cases of each kind: of each source, form, strictness and answer.
 const EACH: usize = 4;
 /// Inputs tried for each source.
 const TRIED: u64 = 40_000;
-/// Longer data is left out, so that the sample stays small.
-const LONGEST: usize = 120;
+/// What the arrays of the program that replays have room for; what needs more is left out.
+const LONGEST: usize = 128;
+const MOST_CHANGES: usize = 256;
+const MOST_ENDS: usize = 64;
+const LONGEST_REFERENCE: usize = 32;
+const MOST_ASKED: usize = 131_072;
 
-pub fn write(file: &str, seed: u64) -> io::Result<()> {
-    let mut out = format!("# The crate's answers, seed {seed}. compare/src/sample.rs says how a case is written.\n");
-    let mut count = 0;
-    for source in sources() {
-        for (ask, plan) in chosen(source.as_ref(), seed) {
-            put_case(&mut out, &ask, &plan);
-            count += 1;
-        }
+pub fn write(folder: &str, seed: u64) -> io::Result<()> {
+    let list: Vec<(Ask, Plan)> = sources().iter().flat_map(|source| chosen(source.as_ref(), seed)).collect();
+    let mut asked = format!("{}\n", list.len());
+    let mut answered = String::new();
+    for (ask, plan) in &list {
+        put_question(&mut asked, ask, plan);
+        put_answer(&mut answered, plan);
     }
-    std::fs::write(file, out)?;
-    println!("{count} cases in {file}");
+    assert!(asked.len() <= MOST_ASKED, "the program that replays reads so much");
+    std::fs::write(Path::new(folder).join("stdin"), asked)?;
+    std::fs::write(Path::new(folder).join("stdout"), answered)?;
+    println!("seed {seed}: {} cases in {folder}", list.len());
     Ok(())
 }
 
@@ -56,10 +62,7 @@ fn chosen(source: &dyn Source, seed: u64) -> Vec<(Ask, Plan)> {
     let each = if source.count() < TRIED { usize::MAX } else { EACH };
     for index in 0..source.count() {
         let Case { ask, plans, .. } = source.case(index, &mut Random::of(seed, &source.name(), index));
-        if ask.src.len() + ask.tail > LONGEST {
-            continue;
-        }
-        for plan in plans {
+        for plan in plans.into_iter().filter(|plan| is_small(&ask, plan)) {
             let kind = (form_number(ask.form), ask.settings.strict, plan.wanted.answer.number);
             let count = taken.entry(kind).or_default();
             if *count < each {
@@ -71,41 +74,56 @@ fn chosen(source: &dyn Source, seed: u64) -> Vec<(Ask, Plan)> {
     list
 }
 
-/// Four lines: the settings and rooms; the data; the answer; what the lent arrays begin with. Numbers
-/// are decimal, lists are parted by spaces.
-///
-///   page ENCODING COLUMNS ROWS END_OF_BLOCK END_OF_LINE ALIGNED STRICT CHANGES ENDS
-///   line COLUMNS STRICT AT CHANGES REFERENCE...
-///   data HEX
-///   answer NUMBER ROWS ENTRIES LOOSE BYTES
-///   changes CHANGE...
-///   ends END...
-fn put_case(out: &mut String, ask: &Ask, plan: &Plan) {
-    let s = &ask.settings;
-    let Room::Rows { changes, ends } = plan.room else { unreachable!("readers only") };
-    let _ = match ask.form {
-        Form::ReadLine => writeln!(out, "line {} {} {} {changes}{}", s.columns, u8::from(s.strict), ask.at, list(&ask.first)),
-        form => writeln!(
-            out,
-            "page {} {} {} {} {} {} {} {changes} {ends}",
-            form_number(form),
-            s.columns,
-            s.rows,
-            u8::from(s.end_of_block),
-            u8::from(s.end_of_line),
-            u8::from(s.aligned),
-            u8::from(s.strict)
-        ),
-    };
-    let a = &plan.wanted.answer;
-    let _ = writeln!(out, "data {}", hex(&ask.src));
-    let _ = writeln!(out, "answer {} {} {} {} {}", a.number, a.rows, a.entries, a.loose, a.bytes);
-    let _ = writeln!(out, "changes{}", list(&plan.wanted.changes));
-    let _ = writeln!(out, "ends{}", list(&plan.wanted.ends));
+fn is_small(ask: &Ask, plan: &Plan) -> bool {
+    let (changes, ends) = rooms(plan);
+    ask.src.len() + ask.tail <= LONGEST && changes <= MOST_CHANGES && ends <= MOST_ENDS && ask.first.len() <= LONGEST_REFERENCE
 }
 
-fn list(words: &[u32]) -> String {
-    words.iter().map(|word| format!(" {word}")).collect()
+fn rooms(plan: &Plan) -> (usize, usize) {
+    let Room::Rows { changes, ends } = plan.room else { unreachable!("readers only") };
+    (changes, ends)
+}
+
+/// One line of decimal numbers: thirteen, the reference, the data. The thirteen are the form (0 Group 4,
+/// 1 Group 3 1D, 2 Group 3 2D, 3 one line), columns, rows, end_of_block, end_of_line, aligned, strict, the
+/// upper and the lower half of a line's first bit, the rooms for changes and for row ends, and the lengths
+/// of the reference and of the data.
+fn put_question(out: &mut String, ask: &Ask, plan: &Plan) {
+    let s = &ask.settings;
+    let (changes, ends) = rooms(plan);
+    let flags = [s.end_of_block, s.end_of_line, s.aligned, s.strict].map(u64::from);
+    let mut numbers = vec![u64::from(form_number(ask.form)), s.columns.into(), s.rows.into()];
+    numbers.extend(flags);
+    numbers.extend([ask.at >> 32, ask.at % (1 << 32)]);
+    numbers.extend([changes, ends, ask.first.len(), ask.src.len() + ask.tail].map(|length| length as u64));
+    numbers.extend(ask.first.iter().map(|&change| u64::from(change)));
+    numbers.extend(ask.src.iter().map(|&byte| u64::from(byte)));
+    numbers.extend(vec![0; ask.tail]);
+    let words: Vec<String> = numbers.iter().map(u64::to_string).collect();
+    let _ = writeln!(out, "{}", words.join(" "));
+}
+
+/// One line: number, rows, entries, loose, bytes; then every entry of the changes and of the row ends that
+/// were lent, `-` for one that was left alone.
+fn put_answer(out: &mut String, plan: &Plan) {
+    let a = &plan.wanted.answer;
+    let (changes, ends) = rooms(plan);
+    let _ = writeln!(
+        out,
+        "{} {} {} {} {} :{} :{}",
+        a.number,
+        a.rows,
+        a.entries,
+        a.loose,
+        a.bytes,
+        entries(&plan.wanted.changes, changes),
+        entries(&plan.wanted.ends, ends)
+    );
+}
+
+fn entries(words: &[u32], room: usize) -> String {
+    let written = words.iter().map(|word| format!(" {word}"));
+    written.chain(std::iter::repeat_n(" -".to_string(), room - words.len())).collect()
 }
 
 fn form_number(form: Form) -> u32 {

@@ -1,0 +1,173 @@
+// One question of the sample, asked and answered.
+use crate::asked;
+use error::Answer;
+use libc::STDOUT_FILENO;
+use rows::DecodeSettings;
+use rows::EncodingMode;
+ghost use Prim.Native.Nat.{_≤_};
+
+// What is asked: the form (an encoding, or 3 for one line), the settings, and a line's first bit.
+struct Question {
+    form: u32,
+    columns: u32,
+    rows: u32,
+    end_of_block: bool,
+    end_of_line: bool,
+    rows_are_byte_aligned: bool,
+    strict: bool,
+    at: u64,
+}
+
+fn joined(high: u32, low: u32) -> u64 {
+    high as u64 * 4294967296 + low as u64
+}
+
+fn question_of(n: &[u32; 13]) -> Question {
+    Question {
+        form: n[0],
+        columns: n[1],
+        rows: n[2],
+        end_of_block: n[3] == 1,
+        end_of_line: n[4] == 1,
+        rows_are_byte_aligned: n[5] == 1,
+        strict: n[6] == 1,
+        at: joined(n[7], n[8]),
+    }
+}
+
+fn encoding(form: u32) -> EncodingMode {
+    match form {
+        0 => EncodingMode::Group4,
+        1 => EncodingMode::Group3_1D,
+        _ => EncodingMode::Group3_2D,
+    }
+}
+
+fn settings(q: Question) -> DecodeSettings {
+    DecodeSettings {
+        columns: q.columns,
+        rows: q.rows,
+        end_of_block: q.end_of_block,
+        end_of_line: q.end_of_line,
+        rows_are_byte_aligned: q.rows_are_byte_aligned,
+        encoding: encoding(q.form),
+        strict: q.strict,
+    }
+}
+
+fn ask(
+    q: Question,
+    src: &[u8],
+    reference: &[u32],
+    changes: &mut [u32],
+    ends: &mut [u32],
+) -> Answer {
+    if q.form == 3 {
+        return context::read::read_line(src, q.at, q.columns, q.strict, reference, changes);
+    }
+    ccitt::decode(src, settings(q), changes, ends)
+}
+
+// The number, or `most`, which no question of the sample passes.
+fn within(n: u32, most: usize) -> usize
+    ensures { λ r. ⌜ r ≤ most ⌝ }
+{
+    let wide = n as usize;
+    if most < wide { most } else { wide }
+}
+
+// Asks with as much of each array as the question says, in the last four of its numbers.
+fn ask_within(
+    n: &[u32; 13],
+    src: &[u8],
+    reference: &[u32],
+    changes: &mut [u32],
+    ends: &mut [u32],
+) -> Answer {
+    let c = within(n[9], changes.len());
+    let e = within(n[10], ends.len());
+    let r = within(n[11], reference.len());
+    let d = within(n[12], src.len());
+    ask(
+        question_of(n),
+        &src[..d],
+        &reference[..r],
+        &mut changes[..c],
+        &mut ends[..e],
+    )
+}
+
+fn number(n: u64) {
+    io::print_decimal(STDOUT_FILENO, n);
+    io::write_all(STDOUT_FILENO, b" ");
+}
+
+// No change and no row end is 4294967295: an entry that still has it was left alone.
+fn entry(n: u32) {
+    io::write_all(STDOUT_FILENO, b" ");
+    if n == 4294967295 {
+        io::write_all(STDOUT_FILENO, b"-");
+        return;
+    }
+    io::print_decimal(STDOUT_FILENO, n as u64);
+}
+
+// The first `n` entries of an array.
+fn entries(array: &[u32], n: u32) {
+    io::write_all(STDOUT_FILENO, b":");
+    let end = within(n, array.len());
+    let mut k = 0;
+    while k < end {
+        entry(array[k]);
+        k += 1;
+    }
+}
+
+fn tell(answer: Answer) {
+    number(answer.number as u64);
+    number(answer.rows as u64);
+    number(answer.entries as u64);
+    number(answer.loose as u64);
+    number(answer.bytes);
+}
+
+fn low_byte(word: u32) -> u8 {
+    (word % 256) as u8
+}
+
+fn byte_at(words: &[u32], k: usize) -> u8 {
+    if k < words.len() {
+        low_byte(words[k])
+    } else {
+        0
+    }
+}
+
+fn narrow(words: &[u32], out: &mut [u8]) {
+    let mut k = 0;
+    while k < out.len() {
+        out[k] = byte_at(words, k);
+        k += 1;
+    }
+}
+
+// Asks the question that begins at a place, and prints the answer. Answers the place behind the question: its thirteen numbers, the
+// reference, the data.
+pub fn replay(input: &[u8], from: usize) -> usize {
+    let mut n = [0u32; 13];
+    let mut reference = [0u32; 32];
+    let mut words = [0u32; 128];
+    let mut src = [0u8; 128];
+    let mut changes = [4294967295u32; 256];
+    let mut ends = [4294967295u32; 64];
+    let head = asked::numbers(input, from, 13, &mut n);
+    let data = asked::numbers(input, head, n[11], &mut reference);
+    let next = asked::numbers(input, data, n[12], &mut words);
+    narrow(&words, &mut src);
+    tell(ask_within(&n, &src, &reference, &mut changes, &mut ends));
+    entries(&changes, n[9]);
+    io::write_all(STDOUT_FILENO, b" ");
+    entries(&ends, n[10]);
+    io::write_all(STDOUT_FILENO, b"\n");
+    next
+}
