@@ -3,13 +3,15 @@ use mathlib.Core.Path.{sym, ap, _∙_}
 use lib.ListN.{length, drop}
 use Rattle.rules.specs.Bits.{bitsOf}
 use Rattle.rules.specs.Modes.{modeTake, readMode}
-use Rattle.rules.proofs.Lookup.{lookup-code}
+use Rattle.rules.specs.Runs.{sum}
+use Rattle.rules.proofs.WriteRuns.{read-codes, stands-codes}
 use Rattle.rules.proofs.Modes.{modes-agree}
 use Rattle.rules.proofs.Pixels.{b1-agrees, b2-agrees}
-use Rattle.promises.specs.Demand2.{CodesAreTheStandards, ModesAreTheStandards, ChangingElementsAreTheStandards}
+use Rattle.promises.specs.Demand2.{RunsAreTheStandards, ModesAreTheStandards, ChangingElementsAreTheStandards}
 
-pub codes-are-the-standards : CodesAreTheStandards
-codes-are-the-standards colour c member rest = lookup-code colour c member rest
+pub runs-are-the-standards : RunsAreTheStandards
+runs-are-the-standards colour bytes at r k =
+    (λ n cs rest m e h. k .same ∙ read-codes colour (bitsOf bytes) at rest m e h, λ end n e. stands-codes colour (bitsOf bytes) at (sum end n) (sym (k .same) ∙ e))
 
 pub modes-are-the-standards : ModesAreTheStandards
 unfolding readMode

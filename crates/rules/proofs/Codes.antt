@@ -6,9 +6,9 @@ use mathlib.Core.Logic.{_⊎_, inl, inr, ⊎-elim}
 use mathlib.Core.Bool.{Bool, true, false, not, _&&_, _||_}
 use mathlib.Core.List.{List, [], _∷_, _++_, reverse, List·Memᴰ, List·Memᴰ·head, List·Memᴰ·tail, List·Memᴰ·not-nil, List·Memᴰ·cases-cons}
 use mathlib.Core.Option.{Option, none, some}
-use Prim.Native.Nat.{ℕ, suc, _+_, _-_, _≤_}
+use Prim.Native.Nat.{ℕ, suc, _+_, _-_, _^_, _≤_, _<_}
 use native.Mathlib.Omega.{arith}
-use lib.Dec.{T, T-not, leb, ltb, leb→le}
+use lib.Dec.{T, T-not, leb, ltb, leb→le, ltb→lt}
 use lib.ListN.{length, take, replicate}
 use Rattle.rules.specs.Bits.{bit, bitsFor}
 use Rattle.rules.specs.Codes.{Colour, white, black, Code, codeBits, codesOf}
@@ -64,6 +64,7 @@ pub record Shape (c : Code) : Type 0 where
   pub some-bits : 1 ≤ c .size
   pub two-bits : 2 ≤ c .size
   pub few-bits : c .size ≤ 13
+  pub small-word : c .word < 2 ^ (c .size)
   pub has-one : T (hasOne (codeBits c))
   pub leading : zerosBefore (codeBits c) ≤ 7
   pub trailing : zerosBefore (reverse (codeBits c)) ≤ 3
@@ -76,6 +77,7 @@ shape colour c m = record {
   some-bits = leb→le 1 (c .size) (either-colour (λ (d : Code). leb 1 (d .size)) tt tt colour c m);
   two-bits = leb→le 2 (c .size) (either-colour (λ (d : Code). leb 2 (d .size)) tt tt colour c m);
   few-bits = leb→le (c .size) 13 (either-colour (λ (d : Code). leb (d .size) 13) tt tt colour c m);
+  small-word = ltb→lt (c .word) (2 ^ (c .size)) (either-colour (λ (d : Code). ltb (d .word) (2 ^ (d .size))) tt tt colour c m);
   has-one = either-colour (λ (d : Code). hasOne (codeBits d)) tt tt colour c m;
   leading = leb→le (zerosBefore (codeBits c)) 7 (either-colour (λ (d : Code). leb (zerosBefore (codeBits d)) 7) tt tt colour c m);
   trailing =

@@ -2,21 +2,21 @@
 -- Assumes nothing.
 use mathlib.Core.Path.{_≡_, refl, sym, ap, _∙_, subst}
 use mathlib.Core.Bool.{Bool, true, _&&_}
-use mathlib.Core.List.{List, [], _∷_, _++_, append-assoc, List·Memᴰ, List·Memᴰ·head, List·Memᴰ·tail, Memᴰ·append-left, Memᴰ·append-right}
+use mathlib.Core.List.{List, [], _∷_, _++_, append-assoc, append-nil, List·Memᴰ, List·Memᴰ·head, List·Memᴰ·tail, Memᴰ·append-left, Memᴰ·append-right}
 use Prim.Native.Nat.{ℕ, zero, suc, _+_, _-_, _*_, _/_, _%_, _≤_, _<_}
 use native.Mathlib.Omega.{arith}
 use native.Mathlib.Nat.{zero-mul, zero-add, suc-mul, mod-lt, mod-mod-of-dvd, dvd-mul-right, div-add-mod'}
 use lib.Dec.{T, eqb, eqb→eq}
 use lib.ListN.{length, drop, replicate, length-append}
 use borrow.Author.Tests.{lt-ltb, le-ltb}
-use Rattle.rules.specs.Machine.{Out, done, ends}
+use Rattle.rules.specs.Machine.{Out, more, done, ends}
 use Rattle.rules.specs.Codes.{Colour, white, black, Code, codeBits, codeAt, terminatingOf, makeupOf, codesOf}
-use Rattle.rules.specs.Runs.{Res, ok, Sum, sum, runStep, bitsAfter, answer, readRun}
+use Rattle.rules.specs.Runs.{Res, ok, fault, Sum, sum, runStep, bitsAfter, answer, readRun, For, Made, last, next}
 use Rattle.rules.specs.Write.{terminating, makeup, wholes, runCodes, codesBits, runBits}
-use Rattle.rules.proofs.Machine.{ends-more, ends-done}
+use Rattle.rules.proofs.Machine.{ends-more, ends-done, ends-ind, ends-stops}
 use Rattle.rules.proofs.Bits.{drop-after, fits-after}
 use Rattle.rules.proofs.Codes.{both, shape, length-codeBits}
-use Rattle.rules.proofs.Runs.{Takes, after, step-code, run-falls}
+use Rattle.rules.proofs.Runs.{Takes, after, run-cases, step-code, run-falls}
 
 -- ---- The codes of a table by their places
 
@@ -34,11 +34,6 @@ placed-at f i (c ∷ cs) t zero h =
 placed-at f i (c ∷ cs) t (suc k) h =
     let r = placed-at f (suc i) cs (both (eqb (c .run) (f i)) (placed f (suc i) cs) t .1) k (omega arith) in
     (List·Memᴰ·tail (r .0), r .1 ∙ ap f (let e : suc i + k ≡ i + suc k = omega arith in e))
-
--- a code of the colour, for a run
-pub record For (colour : Colour) (run : ℕ) (c : Code) : Type 0 where
-  pub member : List·Memᴰ c (codesOf colour)
-  pub run-is : c .run ≡ run
 
 -- a terminating code is one of the colour, for its run
 pub terminating-for : (colour : Colour) (run : ℕ) → run < 64 → For colour run (terminating colour run)
@@ -59,11 +54,6 @@ makeup-for colour m h k = record { member = Memᴰ·append-right (terminatingOf 
     at black = placed-at (λ i. 64 * suc i) 0 (makeupOf black) tt (m - 1) (omega arith)
 
 -- ---- What is written
-
--- make-up codes and then a terminating one, of the colour, that sum to n
-pub data Made (colour : Colour) : ℕ → List Code → Type 0 where
-  last : {run : ℕ} {c : Code} → For colour run c → run < 64 → Made colour run (c ∷ [])
-  next : {run n : ℕ} {c : Code} {cs : List Code} → For colour run c → 64 ≤ run → Made colour n cs → Made colour (run + n) (c ∷ cs)
 
 -- a make-up code k times
 made-repeated : {colour : Colour} {run n : ℕ} {c : Code} {cs : List Code} (k : ℕ) → For colour run c → 64 ≤ run → Made colour n cs
@@ -127,9 +117,58 @@ module _ (colour : Colour) (bs : List Bool) where
       here : drop (s .at) bs ≡ codeBits c ++ (codesBits cs ++ rest)
       here = e ∙ append-assoc (codeBits c) (codesBits cs) rest
 
+  -- so data that hold such codes are read as the run
+  pub read-codes : (at : ℕ) {n : ℕ} {cs : List Code} (rest : List Bool) → Made colour n cs → drop at bs ≡ codesBits cs ++ rest → n ≤ 4294967295
+      → readRun colour bs at ≡ ok (sum (at + length (codesBits cs)) n)
+  unfolding readRun
+  read-codes at rest m e h = ap answer (read-made (sum at 0) rest m e (omega arith) ∙ same-end refl (zero-add _))
+
+  -- and a run that is read stands in the data as such codes
+  Stands : Sum → Res Sum → Type 0
+  Stands s (ok r) = (n : ℕ) × (cs : List Code) × Made colour n cs × (drop (s .at) bs ≡ codesBits cs ++ drop (r .at) bs) × (r .total ≡ s .total + n)
+  Stands s (fault n p) = Unit {0}
+
+  run-stands : (s : Sum) (r : Res Sum) → ends (runStep colour bs) (bitsAfter bs) s ≡ done r → Stands s r
+  unfolding Stands codesBits
+  run-stands s r e = ends-ind (runStep colour bs) Stands base next′ (bitsAfter bs) s r e
+    where
+      of : (s : Sum) (c : Code) → Takes colour bs s c → For colour (c .run) c
+      of s c k = record { member = k .member; run-is = refl }
+
+      base : (s : Sum) (r : Res Sum) → runStep colour bs s ≡ done r → Stands s r
+      base s r =
+          run-cases colour bs s (λ o. o ≡ done r → Stands s r)
+          (λ c k l e. subst (Stands s) (let q : ok (after s c) ≡ r = cc in q)
+          (c .run, c ∷ [], last (of s c k) l, k .there ∙ ap (λ (t : List Bool). t ++ drop (s .at + c .size) bs) (sym (append-nil (codeBits c))), refl))
+          (λ c k l e. absurd (let z : _≡_ {A = ℕ} 0 1 = cc in omega arith))
+          (λ n p q e. subst (Stands s) (let q : fault n (s .at) ≡ r = cc in q) tt)
+
+      along : (s : Sum) (c : Code) → Takes colour bs s c → 64 ≤ c .run → (r : Res Sum) → Stands (after s c) r → Stands s r
+      along s c k l (fault n p) w = tt
+      along s c k l (ok r) (n, cs, m, e, t) = (
+        c .run + n,
+        c ∷ cs,
+        next (of s c k) l m,
+        k .there ∙ ap (λ (w : List Bool). codeBits c ++ w) e ∙ sym (append-assoc (codeBits c) (codesBits cs) (drop (r .at) bs)),
+        omega arith,
+      )
+
+      next′ : (s t : Sum) (r : Res Sum) → runStep colour bs s ≡ more t → Stands t r → Stands s r
+      next′ s t r =
+          run-cases colour bs s (λ o. o ≡ more t → Stands t r → Stands s r)
+          (λ c k l e. absurd (let z : _≡_ {A = ℕ} 0 1 = cc in omega arith))
+          (λ c k l e w. along s c k l r (subst (λ (x : Sum). Stands x r) (let q : t ≡ after s c = cc in q) w))
+          (λ n p q e. absurd (let z : _≡_ {A = ℕ} 0 1 = cc in omega arith))
+
+  pub stands-codes : (at : ℕ) (r : Sum) → readRun colour bs at ≡ ok r → (cs : List Code) × Made colour (r .total) cs × (drop at bs ≡ codesBits cs ++ drop (r .at) bs)
+  unfolding readRun Stands
+  stands-codes at r e =
+      let p = ends-stops (runStep colour bs) (bitsAfter bs) (run-falls colour bs) (sum at 0) in
+      let w = subst (Stands (sum at 0)) (sym (ap answer (p .1)) ∙ e) (run-stands (sum at 0) (p .0) (p .1)) in
+      (w .1, subst (λ (n : ℕ). Made colour n (w .1)) (let q : w .0 ≡ r .total = omega (arith, w .4) in q) (w .2), w .3)
+
 -- a run's bits are read as the run, whatever follows
 pub read-run : (most : ℕ) → 1 ≤ most → most ≤ 40 → (colour : Colour) (n : ℕ) (bs rest : List Bool) (at : ℕ) → n ≤ 4294967295
     → drop at bs ≡ runBits most colour n ++ rest → readRun colour bs at ≡ ok (sum (at + length (runBits most colour n)) n)
-unfolding readRun runBits
-read-run most some-most most-fits colour n bs rest at h e =
-    ap answer (read-made colour bs (sum at 0) rest (made-run most some-most most-fits colour n) e (omega arith) ∙ same-end refl (zero-add n))
+unfolding runBits
+read-run most some-most most-fits colour n bs rest at h e = read-codes colour bs at rest (made-run most some-most most-fits colour n) e h

@@ -1,19 +1,19 @@
 -- The codes of a run, one after the other, as a writer puts them. Assumes nothing.
-use mathlib.Core.Path.{_≡_, refl, sym, ap, _∙_, subst}
-use mathlib.Core.Logic.{⊎-elim}
-use mathlib.Core.Bool.{Bool, true, false, cond, _&&_}
-use mathlib.Core.List.{List, [], _∷_, _++_, append-nil, List·Memᴰ, List·Memᴰ·not-nil, List·Memᴰ·cases-cons}
-use Prim.Native.Nat.{ℕ, suc, _+_, _-_, _*_, _/_, _%_, _^_, _≤_, _<_}
+use mathlib.Core.Path.{_≡_, refl, sym, ap, _∙_}
+use mathlib.Core.Bool.{Bool, true, false, cond}
+use mathlib.Core.List.{List, [], _∷_, _++_, append-nil}
+use Prim.Native.Nat.{ℕ, suc, _+_, _-_, _*_, _/_, _%_, _≤_, _<_}
 use native.Mathlib.Omega.{arith}
-use lib.Dec.{T, leb, ltb, ltb→lt}
+use lib.Dec.{leb}
 use lib.ListN.{length, replicate, length-append}
 use borrow.Author.Tests.{leb-true, leb-false}
 use Rattle.rules.specs.Bits.{bitsFor}
 use Rattle.rules.specs.Codes as Rule
-use Rattle.rules.specs.Codes.{Colour, white, black, codeBits, codesOf}
+use Rattle.rules.specs.Codes.{Colour, codeBits}
 use Rattle.rules.specs.Write.{mostMakeup, terminating, makeup, wholes, runCodes, codesBits, runBits}
-use Rattle.rules.proofs.Codes.{both, shape, length-codeBits}
-use Rattle.rules.proofs.WriteRuns.{For, terminating-for, makeup-for, Made, last, next, made-run}
+use Rattle.rules.proofs.Codes.{shape, length-codeBits}
+use Rattle.rules.specs.Runs.{For, Made, last, next}
+use Rattle.rules.proofs.WriteRuns.{terminating-for, makeup-for, made-run}
 use Rattle.tables.specs.Tables.{SameBits}
 use Rattle.tables.specs.declared.Code.{Code}
 use Rattle.writer.specs.Putting.{Sound, Spells, Room, Puts}
@@ -21,24 +21,6 @@ use Rattle.writer.specs.Coding.{largest}
 use Rattle.writer.proofs.Owing.{Owes, first-code, owes-code, last-code, puts-all}
 
 -- ---- Codes of the tables
-
--- no code has a bit above its size
-smallWords : List Rule.Code → Bool
-smallWords [] = true
-smallWords (c ∷ cs) = ltb (c .word) (2 ^ (c .size)) && smallWords cs
-
-small-at : (cs : List Rule.Code) → T (smallWords cs) → (c : Rule.Code) → List·Memᴰ c cs → c .word < 2 ^ (c .size)
-unfolding smallWords
-small-at [] t c m = absurd (List·Memᴰ·not-nil m)
-small-at (x ∷ cs) t c m =
-    let q = both (ltb (x .word) (2 ^ (x .size))) (smallWords cs) t in
-    ⊎-elim (λ e. subst (λ (y : Rule.Code). y .word < 2 ^ (y .size)) (sym e) (ltb→lt (x .word) (2 ^ (x .size)) (q .0))) (λ k. small-at cs (q .1) c k)
-    (List·Memᴰ·cases-cons m)
-
-small : (colour : Colour) (c : Rule.Code) → List·Memᴰ c (codesOf colour) → c .word < 2 ^ (c .size)
-unfolding smallWords codesOf
-small white c m = small-at (codesOf white) tt c m
-small black c m = small-at (codesOf black) tt c m
 
 -- a code of the source spells the code of the tables that it stands for
 pub code-spells : {colour : Colour} {run : ℕ} {c : Rule.Code} {code : Code} → For colour run c → SameBits code c → Spells code (codeBits c)
@@ -49,7 +31,7 @@ code-spells {colour} {c = c} f s =
       sound = record {
         some-bits = omega (arith, h .some-bits, s .same-size);
         few-bits = omega (arith, h .few-bits, s .same-size);
-        small = rw (s .same-size, s .same-word) (small colour c (f .member));
+        small = rw (s .same-size, s .same-word) (h .small-word);
       };
       bits = rw (s .same-size, s .same-word);
     }
