@@ -40,7 +40,8 @@ ccitt_answer ccitt_decode_group3_2d(const uint8_t *src, size_t src_len, uint32_t
 ccitt_answer ccitt_read_line(const uint8_t *src, size_t src_len, uint64_t at, uint32_t columns, bool strict,
                              const uint32_t *reference, size_t reference_len, uint32_t *changes, size_t changes_len);
 
-/* Writes a row as one T.6 line under a reference, from bit `at` of out on; every other bit of out stays. */
+/* Writes a row as one T.6 line under a reference, from bit `at` of out on. The bits before it and the bytes behind it stay; the unused bits of its
+   last byte become 0. */
 ccitt_answer ccitt_write_line(uint32_t columns, const uint32_t *reference, size_t reference_len, const uint32_t *row, size_t row_len,
                               uint8_t *out, size_t out_len, uint64_t at);
 

@@ -72,7 +72,7 @@ fn near_end(src: &[u8], i: usize) -> u64
 }
 
 // The 64 bits from byte `i` on, zeros past the data.
-pub fn word(src: &[u8], i: usize) -> u64
+pub(crate) fn word(src: &[u8], i: usize) -> u64
     requires { ⌜ i ≤ length (now src) ⌝ }
     ensures { λ r. ⌜ r ≡ peek 64 (drop (i * 8) (bitsOf (now (src .entry)))) ⌝ }
 {

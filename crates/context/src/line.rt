@@ -24,7 +24,7 @@ pub fn new_line(width: u32) -> Line
     }
 }
 
-pub fn turned(line: Line) -> Line
+pub(crate) fn turned(line: Line) -> Line
     requires { ⌜ line .colour ≤ 1 ⌝ }
     ensures { λ r. ⌜ r ≡ turnedFor line ⌝ }
 {

@@ -15,7 +15,7 @@ pub struct Found {
 }
 
 // a0 lies before the line while the position is 0, so that only there b1 may be 0.
-pub fn right_of_a0(position: u32) -> u32
+fn right_of_a0(position: u32) -> u32
     requires { ⌜ position < 4294967295 ⌝ }
     ensures { λ r. ⌜ r ≡ rightOfA0 position ⌝ }
 {
@@ -51,11 +51,12 @@ fn b1_place(seen: usize, colour: u32) -> usize
     seen + 1
 }
 
-fn change_or(reference: &[u32], place: usize, width: u32) -> u32
-    ensures { λ r. ⌜ r ≡ headOr width (drop place (now (reference .entry))) ⌝ }
+// The change at a place, or the width where there is none.
+pub fn change_or(row: &[u32], place: usize, width: u32) -> u32
+    ensures { λ r. ⌜ r ≡ headOr width (drop place (now (row .entry))) ⌝ }
 {
-    if place < reference.len() {
-        return reference[place];
+    if place < row.len() {
+        return row[place];
     }
     width
 }

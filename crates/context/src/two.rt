@@ -51,7 +51,7 @@ fn horizontal<'a>(
     runs::runs(white, black, src, changes, true, line, at, rules)
 }
 
-pub fn code_2d<'a>(
+fn code_2d<'a>(
     white: &'a [u16; 8192],
     black: &'a [u16; 8192],
     src: &[u8],

@@ -5,7 +5,7 @@ ghost use Prim.Native.Nat.{_<_};
 ghost use Rattle.desk.specs.Text.{tab, digit, decimal};
 ghost use Rattle.desk.specs.Writing.{Room, Puts};
 
-pub fn put_byte(out: &mut [u8], at: usize, b: u8) -> usize
+pub(crate) fn put_byte(out: &mut [u8], at: usize, b: u8) -> usize
     requires { ⌜ Room (now out) at (b ∷ []) ⌝ }
     ensures { λ r. ⌜ Puts (now (out .entry)) at (b ∷ []) r (now (out .exit)) ⌝ }
 {
@@ -13,7 +13,7 @@ pub fn put_byte(out: &mut [u8], at: usize, b: u8) -> usize
     at + 1
 }
 
-pub fn put_text(out: &mut [u8], at: usize, text: &[u8]) -> usize
+pub(crate) fn put_text(out: &mut [u8], at: usize, text: &[u8]) -> usize
     requires { ⌜ Room (now out) at (now text) ⌝ }
     ensures { λ r. ⌜ Puts (now (out .entry)) at (now (text .entry)) r (now (out .exit)) ⌝ }
 {
@@ -33,7 +33,7 @@ fn glyph(d: u64) -> u8
     48 + d as u8
 }
 
-pub fn put_number(out: &mut [u8], at: usize, n: u64) -> usize
+pub(crate) fn put_number(out: &mut [u8], at: usize, n: u64) -> usize
     requires { ⌜ Room (now out) at (decimal n) ⌝ }
     ensures { λ r. ⌜ Puts (now (out .entry)) at (decimal n) r (now (out .exit)) ⌝ }
 {
@@ -44,7 +44,7 @@ pub fn put_number(out: &mut [u8], at: usize, n: u64) -> usize
     put_byte(out, p, glyph(n % 10))
 }
 
-pub fn put_field(out: &mut [u8], at: usize, n: u64) -> usize
+pub(crate) fn put_field(out: &mut [u8], at: usize, n: u64) -> usize
     requires { ⌜ Room (now out) at (tab ∷ decimal n) ⌝ }
     ensures { λ r. ⌜ Puts (now (out .entry)) at (tab ∷ decimal n) r (now (out .exit)) ⌝ }
 {

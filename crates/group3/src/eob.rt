@@ -108,7 +108,7 @@ fn check_eob(src: &[u8], settings: DecodeSettings, state: State) -> Before
     judge(src, settings, rows_done, state.eols, eols)
 }
 
-pub fn between(src: &[u8], settings: DecodeSettings, state: State) -> Before
+pub(crate) fn between(src: &[u8], settings: DecodeSettings, state: State) -> Before
     requires { ⌜ Loading (now src) (state .at) ⌝ }
     ensures { λ r. ⌜ beforeOf settings (now (src .entry)) r ≡ beforeIn settings (now (src .entry)) state (eqb (state .rows) 0) ⌝ }
 {

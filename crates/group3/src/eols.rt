@@ -11,7 +11,7 @@ ghost use Rattle.bit_reader.specs.Loaded.{Loading};
 ghost use Rattle.codes.specs.Eols.{eolsOf};
 ghost use Rattle.group3.specs.Tags.{taggingOf, isTagged, EolsRead};
 
-pub fn is_tagged(settings: DecodeSettings) -> bool
+pub(crate) fn is_tagged(settings: DecodeSettings) -> bool
     ensures { λ r. ⌜ r ≡ isTagged (taggingOf (settings .encoding)) ⌝ }
 {
     let encoding = settings.encoding;
@@ -23,7 +23,7 @@ pub fn is_tagged(settings: DecodeSettings) -> bool
 }
 
 // Whether the next bit is a one; past the data there is none.
-pub fn is_one(src: &[u8], at: usize) -> bool
+pub(crate) fn is_one(src: &[u8], at: usize) -> bool
     requires { ⌜ Loading (now src) at ⌝ }
     ensures { λ r. ⌜ r ≡ firstBit (drop at (bitsOf (now (src .entry)))) ⌝ }
 {
@@ -54,7 +54,7 @@ fn between_tags(src: &[u8], first: Eols) -> Eols
     Eols { count, at }
 }
 
-pub fn read_eols(src: &[u8], settings: DecodeSettings, at: usize) -> Eols
+pub(crate) fn read_eols(src: &[u8], settings: DecodeSettings, at: usize) -> Eols
     requires { ⌜ Loading (now src) at ⌝ }
     ensures { λ r. ⌜ eolsOf r ≡ eols3 (bitsOf (now (src .entry))) (taggingOf (settings .encoding)) at ⌝ }
 {

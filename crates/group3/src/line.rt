@@ -36,7 +36,7 @@ fn kind_at(src: &[u8], settings: DecodeSettings, at: usize) -> Kind
     Kind::Two(at + 1)
 }
 
-pub fn decode<'a>(
+pub(crate) fn decode<'a>(
     white: &'a [u16; 8192],
     black: &'a [u16; 8192],
     src: &[u8],

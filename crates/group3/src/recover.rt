@@ -36,7 +36,7 @@ fn whitened(line: Line) -> Line
 }
 
 // The reader returns to the line's start. No line holds an EOL, so the next one from there on is the one that ends this line.
-pub fn recover(
+pub(crate) fn recover(
     changes: &mut [u32],
     settings: DecodeSettings,
     state: State,

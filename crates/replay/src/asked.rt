@@ -44,7 +44,7 @@ fn number(input: &[u8], from: usize) -> Read {
 
 // The next `count` numbers, whatever parts them, into the front of `out`, which is long enough for every question of the sample. Answers
 // the place behind them.
-pub fn numbers(input: &[u8], from: usize, count: u32, out: &mut [u32]) -> usize {
+pub(crate) fn numbers(input: &[u8], from: usize, count: u32, out: &mut [u32]) -> usize {
     let mut at = from;
     let mut k = 0;
     while k < out.len() {

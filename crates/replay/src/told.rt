@@ -153,7 +153,7 @@ fn narrow(words: &[u32], out: &mut [u8]) {
 
 // Asks the question that begins at a place, and prints the answer. Answers the place behind the question: its thirteen numbers, the
 // reference, the data.
-pub fn replay(input: &[u8], from: usize) -> usize {
+pub(crate) fn replay(input: &[u8], from: usize) -> usize {
     let mut n = [0u32; 13];
     let mut reference = [0u32; 32];
     let mut words = [0u32; 128];

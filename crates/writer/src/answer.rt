@@ -4,7 +4,7 @@ ghost use mathlib.Core.Path.{_≡_};
 ghost use Rattle.writer.specs.Outcome.{firstTests, doneAt};
 
 // 6 and 7, which come before all other tests; 0 where both are passed.
-pub fn refused(columns: u32, bytes: usize) -> u32
+pub(crate) fn refused(columns: u32, bytes: usize) -> u32
     ensures { λ r. ⌜ r ≡ firstTests columns bytes ⌝ }
 {
     if columns == 0 {
@@ -20,7 +20,7 @@ pub fn refused(columns: u32, bytes: usize) -> u32
 }
 
 // A writer keeps no rows, so its other counts are 0.
-pub fn done(end: usize) -> Answer
+pub(crate) fn done(end: usize) -> Answer
     ensures { λ r. ⌜ r ≡ doneAt end ⌝ }
 {
     Answer {

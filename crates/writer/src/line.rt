@@ -17,16 +17,6 @@ ghost use Rattle.writer.specs.Putting.{Room, Puts};
 ghost use Rattle.writer.specs.Coding.{Lent, across, lineOf, Lined};
 ghost use Rattle.writer.specs.Outcome.{Answers};
 
-// The change at a place, or the width where there is none.
-fn change_or(changes: &[u32], place: usize, width: u32) -> u32
-    ensures { λ r. ⌜ r ≡ headOr width (drop place (now (changes .entry))) ⌝ }
-{
-    if place < changes.len() {
-        return changes[place];
-    }
-    width
-}
-
 // The two runs of a horizontal code, in the line's colour and in the other.
 fn put_horizontal<'a>(
     wt: &'a [[u16; 3]; 64],
@@ -61,7 +51,7 @@ fn put_horizontal<'a>(
 }
 
 // The bit after a row's codes, which begin at bit `at`; they are written only where `write` says so.
-pub fn put_line<'a>(
+pub(crate) fn put_line<'a>(
     wt: &'a [[u16; 3]; 64],
     bt: &'a [[u16; 3]; 64],
     wm: &'a [[u16; 3]; 27],
@@ -84,7 +74,7 @@ pub fn put_line<'a>(
     let mut seen: usize = 0;
     while position < width {
         let found = reference::find(reference, seen, width, position, colour);
-        let a1 = change_or(row, place, width);
+        let a1 = reference::change_or(row, place, width);
         seen = found.seen;
         if found.b2 < a1 {
             next = ink::put(out, next, mode::pass(), write);
@@ -98,7 +88,7 @@ pub fn put_line<'a>(
             place += 1;
             continue;
         }
-        let a2 = change_or(row, place + 1, width);
+        let a2 = reference::change_or(row, place + 1, width);
         let first = a1 - position;
         let second = a2 - a1;
         next = put_horizontal(
@@ -121,7 +111,13 @@ pub fn put_line<'a>(
 }
 
 // 9 or 0: the line is counted, and written only where it fits. The tables are made once, here.
-pub fn write(columns: u32, reference: &[u32], row: &[u32], out: &mut [u8], at: usize) -> Answer
+pub(crate) fn write(
+    columns: u32,
+    reference: &[u32],
+    row: &[u32],
+    out: &mut [u8],
+    at: usize,
+) -> Answer
     requires { ⌜ Lined false columns (now reference) (now row) at (length (now out)) × (length (now out) ≤ mostBytes) ⌝ }
     ensures { λ r. ⌜ Answers (writeLine mostMakeup columns (now (reference .entry)) (now (row .entry)) (now (out .entry)) at) (now (out .entry)) r (now (out .exit)) ⌝ }
 {

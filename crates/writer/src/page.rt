@@ -15,7 +15,7 @@ ghost use Rattle.writer.specs.Paging.{goodRows, Sheet, Pages};
 ghost use Rattle.writer.specs.Outcome.{Answers};
 
 // Whether no row end falls or passes the array, and each row ascends.
-pub fn ascend(width: u32, changes: &[u32], ends: &[u32]) -> bool
+pub(crate) fn ascend(width: u32, changes: &[u32], ends: &[u32]) -> bool
     ensures { λ r. ⌜ r ≡ goodRows width (now (changes .entry)) 0 (now (ends .entry)) ⌝ }
 {
     let mut base: usize = 0;
@@ -45,7 +45,7 @@ fn eol() -> Code
 }
 
 // The bit after the page. It stops at the first row that ends past the output, since a page may have more bits than a number holds.
-pub fn put_page<'a>(
+pub(crate) fn put_page<'a>(
     wt: &'a [[u16; 3]; 64],
     bt: &'a [[u16; 3]; 64],
     wm: &'a [[u16; 3]; 27],
@@ -81,7 +81,7 @@ pub fn put_page<'a>(
 }
 
 // 9 or 0: the page is counted, and written only where it fits. The tables are made once, here.
-pub fn write(columns: u32, changes: &[u32], ends: &[u32], out: &mut [u8]) -> Answer
+pub(crate) fn write(columns: u32, changes: &[u32], ends: &[u32], out: &mut [u8]) -> Answer
     requires { ⌜ Sheet false columns (now changes) (now ends) (length (now out)) ⌝ }
     ensures { λ r. ⌜ Answers (writePage mostMakeup columns (now (changes .entry)) (now (ends .entry)) (now (out .entry))) (now (out .entry)) r (now (out .exit)) ⌝ }
 {

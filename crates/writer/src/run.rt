@@ -21,7 +21,7 @@ fn largest(left: u32) -> u32
 }
 
 // The bit after a run's codes, which begin at bit `at`; they are written only where `write` says so.
-pub fn put_run<'a>(
+pub(crate) fn put_run<'a>(
     wt: &'a [[u16; 3]; 64],
     bt: &'a [[u16; 3]; 64],
     wm: &'a [[u16; 3]; 27],
