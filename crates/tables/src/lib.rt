@@ -7,7 +7,7 @@ ghost use Rattle.rules.specs.Codes.{white, black, whiteTerminating, whiteMakeup
 ghost use Rattle.rules.specs.Lookup.{lookup, entryNumber, lookupTable};
 ghost use Rattle.tables.specs.Tables.{colourOf, rows, codeOf, SameBits, Lookups, Terminating, Makeup};
 
-mod codes;
+mod code_tables;
 mod lookup_black;
 mod lookup_white;
 
@@ -32,31 +32,31 @@ pub fn black_lookup() -> [u16; 8192]
 pub fn white_terminating() -> [[u16; 3]; 64]
     ensures { λ r. ⌜ r ≡ rows whiteTerminating ⌝ }
 {
-    codes::WHITE_TERMINATING
+    code_tables::WHITE_TERMINATING
 }
 
 pub fn white_makeup() -> [[u16; 3]; 27]
     ensures { λ r. ⌜ r ≡ rows whiteMakeup ⌝ }
 {
-    codes::WHITE_MAKEUP
+    code_tables::WHITE_MAKEUP
 }
 
 pub fn black_terminating() -> [[u16; 3]; 64]
     ensures { λ r. ⌜ r ≡ rows blackTerminating ⌝ }
 {
-    codes::BLACK_TERMINATING
+    code_tables::BLACK_TERMINATING
 }
 
 pub fn black_makeup() -> [[u16; 3]; 27]
     ensures { λ r. ⌜ r ≡ rows blackMakeup ⌝ }
 {
-    codes::BLACK_MAKEUP
+    code_tables::BLACK_MAKEUP
 }
 
 pub fn common_makeup() -> [[u16; 3]; 13]
     ensures { λ r. ⌜ r ≡ rows commonMakeup ⌝ }
 {
-    codes::COMMON_MAKEUP
+    code_tables::COMMON_MAKEUP
 }
 
 // What 13 bits begin with: a run in the low 12 bits, the length of its code above them. The colour 0 is white, any other black.
