@@ -1,4 +1,4 @@
-//! Says where the library is that is linked in.
+//! Says where the libraries are that are linked in.
 
 fn main() {
     println!("cargo:rerun-if-env-changed=COMPARE_LIBRARY");
@@ -9,4 +9,17 @@ fn main() {
     println!("cargo:rerun-if-changed={folder}/libexports.a");
     println!("cargo:rustc-link-search=native={folder}");
     println!("cargo:rustc-link-lib=static=exports");
+    link_libtiff();
+}
+
+/// libtiff stands behind libtiff.c: a linker may leave out a library that nothing before it asks for.
+fn link_libtiff() {
+    println!("cargo:rerun-if-env-changed=COMPARE_LIBTIFF");
+    if std::env::var_os("CARGO_FEATURE_LIBTIFF").is_none() {
+        return;
+    }
+    let object = std::env::var("COMPARE_LIBTIFF").expect("COMPARE_LIBTIFF names libtiff.c, compiled");
+    println!("cargo:rerun-if-changed={object}");
+    println!("cargo:rustc-link-arg-bins={object}");
+    println!("cargo:rustc-link-arg-bins=-ltiff");
 }

@@ -6,8 +6,10 @@ use std::time::{SystemTime, UNIX_EPOCH};
 pub enum Mode {
     Compare,
     Bench,
-    /// Writes a sample of the crate's answers to a file.
+    /// Writes a sample of the crate's answers into a folder, for the program that replays them.
     Sample(String),
+    /// Writes the listed pages into a folder, where another decoder can read them.
+    Pages(String),
 }
 
 #[derive(Debug, PartialEq, Eq)]
@@ -20,7 +22,7 @@ pub struct Arguments {
     pub mode: Mode,
 }
 
-pub const USAGE: &str = "usage: compare/run [--seed N] [--more N] [--only TEXT] [bench | sample FILE | test]";
+pub const USAGE: &str = "usage: compare/run [--seed N] [--more N] [--only TEXT] [bench | sample DIR | pages DIR | test]";
 
 /// Reads the words; without a seed, the clock gives one.
 pub fn parse(mut words: impl Iterator<Item = String>) -> Option<Arguments> {
@@ -32,6 +34,7 @@ pub fn parse(mut words: impl Iterator<Item = String>) -> Option<Arguments> {
             "--only" => arguments.only = words.next()?,
             "bench" if arguments.mode == Mode::Compare => arguments.mode = Mode::Bench,
             "sample" if arguments.mode == Mode::Compare => arguments.mode = Mode::Sample(words.next()?),
+            "pages" if arguments.mode == Mode::Compare => arguments.mode = Mode::Pages(words.next()?),
             _ => return None,
         }
     }

@@ -6,6 +6,9 @@ use crate::ours::Ours;
 use crate::settings::{Encoding, Settings};
 use std::io;
 
+#[cfg(feature = "libtiff")]
+pub mod libtiff;
+
 #[rustfmt::skip]
 unsafe extern "C" {
     fn ccitt_decode_group4(src: *const u8, src_len: usize, columns: u32, rows: u32, end_of_block: bool, rows_are_byte_aligned: bool, strict: bool,
@@ -26,18 +29,29 @@ unsafe extern "C" {
 
 pub struct Linked;
 
+/// What the library may use of the stack, in bytes.
+const STACK: usize = 128 * 1024;
+
 impl Ours for Linked {
+    /// In a thread that has no more stack than the library may use: a call that used more would end the run.
     fn answer(&mut self, calls: &[Call]) -> io::Result<Replies> {
-        let mut replies = Replies::default();
-        for call in calls {
-            replies.lend(call, |words, bytes| one(call, words, bytes));
-        }
-        Ok(replies)
+        std::thread::scope(|scope| {
+            let thread = std::thread::Builder::new().stack_size(STACK).spawn_scoped(scope, || answer_all(calls))?;
+            thread.join().map_err(|_| io::Error::other("a call ended in a panic"))
+        })
     }
 
     fn writes(&self) -> bool {
         cfg!(feature = "writers")
     }
+}
+
+fn answer_all(calls: &[Call]) -> Replies {
+    let mut replies = Replies::default();
+    for call in calls {
+        replies.lend(call, |words, bytes| one(call, words, bytes));
+    }
+    replies
 }
 
 fn one(call: &Call, words: &mut [u32], bytes: &mut [u8]) -> Answer {
@@ -115,14 +129,23 @@ fn write(call: &Call, bytes: &mut [u8]) -> Answer {
 #[rustfmt::skip]
 fn write_to(call: &Call, out: &mut [u8]) -> Answer {
     let ask = call.ask;
+    if ask.form == Form::WritePage {
+        return write_page(ask.settings.columns, &ask.first, &ask.second, out);
+    }
     // SAFETY: each pointer stands with the length of its slice.
     unsafe {
-        match ask.form {
-            Form::WriteLine => ccitt_write_line(ask.settings.columns, ask.first.as_ptr(), ask.first.len(),
-                ask.second.as_ptr(), ask.second.len(), out.as_mut_ptr(), out.len(), ask.at),
-            _ => ccitt_write_page(ask.settings.columns, ask.first.as_ptr(), ask.first.len(),
-                ask.second.as_ptr(), ask.second.len(), out.as_mut_ptr(), out.len()),
-        }
+        ccitt_write_line(ask.settings.columns, ask.first.as_ptr(), ask.first.len(),
+            ask.second.as_ptr(), ask.second.len(), out.as_mut_ptr(), out.len(), ask.at)
+    }
+}
+
+/// The page writer.
+#[cfg(feature = "writers")]
+#[rustfmt::skip]
+pub fn write_page(columns: u32, changes: &[u32], ends: &[u32], out: &mut [u8]) -> Answer {
+    // SAFETY: each pointer stands with the length of its slice.
+    unsafe {
+        ccitt_write_page(columns, changes.as_ptr(), changes.len(), ends.as_ptr(), ends.len(), out.as_mut_ptr(), out.len())
     }
 }
 

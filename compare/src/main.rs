@@ -13,10 +13,12 @@ mod damage;
 mod encoder;
 #[cfg(feature = "linked")]
 mod linked;
+mod listed;
 mod ours;
 mod pages;
 #[cfg(not(feature = "linked"))]
 mod piped;
+mod pixels;
 mod random;
 mod rooms;
 mod rows;
@@ -32,7 +34,9 @@ use arguments::{Arguments, Mode};
 use check::{Source, Tally};
 use checks::other_decoder::{self, OtherDecoder};
 use checks::random_pages::{Kind, RandomPages};
-use checks::{codes::Codes, exhaustive::Exhaustive, limits, lines::Lines, long_runs::LongRuns, sheets::Sheets, writers};
+use checks::{
+    codes::Codes, exhaustive::Exhaustive, limits, lines::Lines, listed_pages::ListedPages, long_runs::LongRuns, sheets::Sheets, writers,
+};
 use ours::Ours;
 use settings::{ENCODINGS, Encoding};
 use std::process::ExitCode;
@@ -46,7 +50,8 @@ fn main() -> ExitCode {
     let done = match &arguments.mode {
         Mode::Compare => compare(&arguments),
         Mode::Bench => bench::run(),
-        Mode::Sample(file) => sample::write(file, arguments.seed).map(|()| true),
+        Mode::Sample(folder) => sample::write(folder, arguments.seed).map(|()| true),
+        Mode::Pages(folder) => listed::write(folder).map(|()| true),
     };
     match done {
         Ok(true) => ExitCode::SUCCESS,
@@ -129,6 +134,7 @@ fn writer_sources(more: u64) -> Vec<Box<dyn Source>> {
         Box::new(writers::WriterLimits),
         Box::new(writers::WrittenLines { count: 100_000 * more }),
         Box::new(writers::WrittenPages { count: 50_000 * more }),
+        Box::new(ListedPages::recorded()),
     ];
     if let Some(mut texts) = other_decoder::texts() {
         texts.retain(|text| text.settings.encoding == Encoding::Group4);

@@ -310,7 +310,7 @@ mod tests {
     use super::{FAULTS, Fault, Standin};
     use crate::check::{self, Source};
     use crate::checks::random_pages::{Kind, RandomPages};
-    use crate::checks::{codes::Codes, limits, lines::Lines, long_runs::LongRuns, sheets::Sheets, writers};
+    use crate::checks::{codes::Codes, limits, lines::Lines, listed_pages::ListedPages, long_runs::LongRuns, sheets::Sheets, writers};
     use crate::ours::Ours;
 
     /// Every check but the exhaustive one, with fewer inputs.
@@ -329,6 +329,7 @@ mod tests {
             Box::new(writers::WriterLimits),
             Box::new(writers::WrittenLines { count }),
             Box::new(writers::WrittenPages { count }),
+            Box::new(ListedPages::recorded()),
         ]
     }
 

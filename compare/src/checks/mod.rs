@@ -4,6 +4,7 @@ pub mod codes;
 pub mod exhaustive;
 pub mod limits;
 pub mod lines;
+pub mod listed_pages;
 pub mod long_runs;
 pub mod other_decoder;
 pub mod random_pages;

@@ -2,6 +2,7 @@
 
 use crate::call::Ask;
 use crate::check::{Case, Source};
+use crate::pixels::packed;
 use crate::random::Random;
 use crate::rooms::page_case;
 use crate::settings::{Encoding, Settings};
@@ -50,7 +51,7 @@ impl Source for OtherDecoder {
     fn case(&self, index: u64, random: &mut Random) -> Case {
         let text = &self.0[index as usize];
         let outcome = Outcome::of_page(&text.settings, &text.src, 0);
-        let same = digest(&packed(&outcome)) == text.digest;
+        let same = digest(&packed(COLUMNS, outcome.rows())) == text.digest;
         page_case(Ask::page(text.settings, text.src.clone()), random)
             .require(same, || format!("{}: the crate's pixels are others", text.name))
     }
@@ -58,19 +59,4 @@ impl Source for OtherDecoder {
     fn batch(&self) -> u64 {
         1
     }
-}
-
-/// The pixels of every row, packed into bytes, the first one on top, black 1.
-fn packed(outcome: &Outcome) -> Vec<u8> {
-    outcome.rows().flat_map(packed_row).collect()
-}
-
-fn packed_row(row: &[u32]) -> Vec<u8> {
-    let mut bytes = vec![0; COLUMNS.div_ceil(8) as usize];
-    for pair in row.chunks(2) {
-        for pixel in pair[0]..pair.get(1).copied().unwrap_or(COLUMNS) {
-            bytes[pixel as usize / 8] |= 128 >> (pixel % 8);
-        }
-    }
-    bytes
 }

@@ -104,7 +104,7 @@ impl Source for WrittenPages {
 }
 
 /// A page of rows, and of entries behind its last row end that are not its own.
-fn written_page(random: &mut Random, columns: u32, rows: &[Vec<u32>]) -> Case {
+pub fn written_page(random: &mut Random, columns: u32, rows: &[Vec<u32>]) -> Case {
     let page = encoded(columns, rows);
     let complaint = misread(random, columns, rows, &page);
     let (mut changes, ends) = flattened(rows);
