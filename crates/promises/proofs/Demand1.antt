@@ -67,6 +67,7 @@ pub record Fine (settings : DecodeSettings) (bytes changes ends : List ℕ) (a :
   pub rising : Rows (settings .columns) (a .rows)
   pub clean : a .number ≡ 0 → a .loose ≡ []
   pub few-rows : length (a .rows) ≤ 8 * length bytes + 1
+  pub none : settings .columns ≡ 0 → (a .rows ≡ []) × (length bytes ≤ mostBytes → a .number ≡ 0)
 
 fine : {settings : DecodeSettings} {bytes changes ends : List ℕ} {a : Page.Answer} → settings .columns ≤ 4294967295 → Said settings bytes changes ends a → Fine settings bytes changes ends a
 unfolding entries
@@ -80,6 +81,7 @@ fine h (is-six e) = record {
   rising = no-rows;
   clean = λ q. refl;
   few-rows = omega arith;
+  none = λ q. (refl, λ l. absurd (omega (arith, e, q)));
 }
 fine h (is-seven n l) = record {
   at-most-7 = omega arith;
@@ -91,6 +93,7 @@ fine h (is-seven n l) = record {
   rising = no-rows;
   clean = λ q. refl;
   few-rows = omega arith;
+  none = λ q. (refl, λ k. absurd (omega (arith, l, k)));
 }
 fine h (no-columns n l) = record {
   at-most-7 = omega arith;
@@ -102,6 +105,7 @@ fine h (no-columns n l) = record {
   rising = no-rows;
   clean = λ q. refl;
   few-rows = omega arith;
+  none = λ q. (refl, λ k. refl);
 }
 fine {settings} {bytes} {changes} {ends} h (is-read n l z) =
     let w : 0 < settings .columns = positive (settings .columns) z in
@@ -117,6 +121,7 @@ fine {settings} {bytes} {changes} {ends} h (is-read n l z) =
       rising = a .rising;
       clean = a .clean;
       few-rows = omega (arith, a .few-rows, length-bitsOf bytes);
+      none = λ q. absurd (z q);
     }
   where
     positive : (n : ℕ) → (n ≡ 0 → ⊥) → 0 < n
@@ -177,6 +182,7 @@ module _ (a : Page.Answer) (changes ends : List ℕ) (r : Answer) (changes′ en
       at-most-7 = omega (arith, number-is, f .at-most-7);
       six = ((λ q. f .six .0 (sym number-is ∙ q)), λ q. number-is ∙ f .six .1 q);
       seven = ((λ q. f .seven .0 (sym number-is ∙ q)), λ q. number-is ∙ f .seven .1 q);
+      no-columns = λ q l. number-is ∙ f .none q .1 l;
     }
 
     refused : 6 ≤ r .number → Refused bytes settings changes ends r changes′ ends′
@@ -198,6 +204,7 @@ module _ (a : Page.Answer) (changes ends : List ℕ) (r : Answer) (changes′ en
       later-changes = later-changes;
       later-ends = later-ends;
       clean = λ q. loose-is ∙ ap length (f .clean (sym number-is ∙ q));
+      no-rows = λ q. rows-are ∙ ap length (f .none q .0);
       few-rows = omega (arith, rows-are, f .few-rows);
     }
 

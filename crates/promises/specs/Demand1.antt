@@ -17,11 +17,12 @@ use Rattle.ccitt.specs.Decode.{Decodes}
 
 -- a call of `decode` on bytes, with settings and two arrays of changes and row ends: its answer, and the arrays after it
 module _ (bytes : List ℕ) (settings : DecodeSettings) (changes ends : List ℕ) (r : Answer) (changes′ ends′ : List ℕ) where
-  -- a number of the list: 0 to 5, or a refusal with 6 or 7, each exactly when 01 says so
+  -- a number of the list: 0 to 5, or a refusal with 6 or 7, each exactly when 01 says so; without columns, and without a refusal, it is 0
   pub record Listed : Type 0 where
     pub at-most-7 : r .number ≤ 7
     pub six : (r .number ≡ 6) ↔ (settings .columns ≡ 4294967295)
     pub seven : (r .number ≡ 7) ↔ ((settings .columns ≡ 4294967295 → ⊥) × (268435456 < length bytes))
+    pub no-columns : settings .columns ≡ 0 → length bytes ≤ 268435456 → r .number ≡ 0
 
   -- a refusal leaves everything as found and gives zero counts
   pub record Refused : Type 0 where
@@ -30,7 +31,7 @@ module _ (bytes : List ℕ) (settings : DecodeSettings) (changes ends : List ℕ
     pub counts : (r .rows ≡ 0) × (r .entries ≡ 0) × (r .loose ≡ 0) × (r .bytes ≡ 0)
 
   -- The counts fit the arrays; the rows that lie in the store ascend strictly below the width, and their entries are as many as the answer says;
-  -- every later entry keeps its value; after 0 there are no loose entries; and rows never exceed 8 × bytes + 1.
+  -- every later entry keeps its value; after 0 there are no loose entries; without columns there are no rows; and rows never exceed 8 × bytes + 1.
   pub record Stored : Type 0 where
     pub rows-fit : r .rows ≤ length ends
     pub entries-fit : r .entries + r .loose ≤ length changes
@@ -39,6 +40,7 @@ module _ (bytes : List ℕ) (settings : DecodeSettings) (changes ends : List ℕ
     pub later-changes : drop (r .entries + r .loose) changes′ ≡ drop (r .entries + r .loose) changes
     pub later-ends : drop (r .rows) ends′ ≡ drop (r .rows) ends
     pub clean : r .number ≡ 0 → r .loose ≡ 0
+    pub no-rows : settings .columns ≡ 0 → r .rows ≡ 0
     pub few-rows : r .rows ≤ 8 * length bytes + 1
 
 -- whatever `decode` is called on
