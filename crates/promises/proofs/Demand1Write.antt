@@ -1,18 +1,18 @@
 -- Demand 1 is met by the writers. Assumes nothing.
 use mathlib.Core.Path.{_≡_, refl, sym, ap, _∙_, subst}
 use mathlib.Core.Logic.{_⊎_, inl, inr, _↔_, ⊎-elim}
-use mathlib.Core.Bool.{Bool, true, false, _||_, _&&_}
+use mathlib.Core.Bool.{Bool, true, false, _||_, true≢false}
 use mathlib.Core.List.{List}
 use Prim.Native.Nat.{ℕ, _+_, _*_, _≤_, _<_}
 use native.Mathlib.Omega.{arith}
-use lib.Dec.{eqb, leb, ltb}
+use native.Mathlib.Nat.{zero-add}
+use lib.Dec.{eqb}
 use lib.ListN.{length}
-use borrow.Author.Tests.{eqb-true, eqb-false, ltb-true, ltb-false, leb-true, leb-false}
-use Rattle.rules.specs.Bits.{bitsOf}
+use borrow.Author.Tests.{eqb-true, eqb-false}
 use Rattle.rules.specs.Lines.{two}
-use Rattle.rules.specs.Pages.{mostBytes, ascends, entries}
-use Rattle.rules.specs.Write.{mostMakeup, lineBits, pageBits, rowsIn, endsRise, allAscend, writeLine, writePage, Written, unwritten}
-use Rattle.rules.proofs.Bits.{length-bitsOf}
+use Rattle.rules.specs.Pages.{mostBytes, noLine, entries}
+use Rattle.rules.specs.Write.{mostMakeup, lineBits, pageBits, rowsIn, writes, writeLine, writePage, Written, unwritten}
+use Rattle.rules.proofs.Writes.{writes-cases}
 use Rattle.error.specs.declared.Answer.{Answer}
 use Rattle.writer.specs.Outcome.{Answers}
 use Rattle.promises.specs.Demand1Write.{WriteListed, WriteLineAnswers, WritePageAnswers}
@@ -32,25 +32,31 @@ module _ (columns : ℕ) (out : List ℕ) (good : Bool) (end : ℕ) where
     is-nine : (None → ⊥) → (Long → ⊥) → good ≡ true → 8 * length out < end → Said (unwritten 9 out)
     is-done : (None → ⊥) → (Long → ⊥) → good ≡ true → end ≤ 8 * length out → (w : Written) → w .number ≡ 0 → Said w
 
-  tests : (a : Bool) → (a ≡ true → columns ≡ 0) → (a ≡ false → columns ≡ 0 → ⊥) → (b : Bool) → (b ≡ true → columns ≡ 4294967295) → (b ≡ false → columns ≡ 4294967295 → ⊥)
-      → (c : Bool) → (c ≡ true → Long) → (c ≡ false → length out ≤ mostBytes) → (d : Bool) → good ≡ d → (e : Bool) → (e ≡ true → end ≤ length (bitsOf out)) → (e ≡ false → length (bitsOf out) < end)
-      → (w : Written) → w .number ≡ 0
-      → Said (elim (a || b) as (λ _. Written) [
-        | true ↦ unwritten 6 out
-        | false ↦ elim c as (λ _. Written) [
-          | true ↦ unwritten 7 out
-          | false ↦ elim d as (λ _. Written) [
-            | false ↦ unwritten 8 out
-            | true ↦ elim e as (λ _. Written) [ false ↦ unwritten 9 out | true ↦ w ]
-          ]
-        ]
-      ])
-  tests true p q b r s c t u d v e x y w z = is-six (inl (p refl))
-  tests false p q true r s c t u d v e x y w z = is-six (inr (r refl))
-  tests false p q false r s true t u d v e x y w z = is-seven (⊎-elim (q refl) (s refl)) (t refl)
-  tests false p q false r s false t u false v e x y w z = is-eight (⊎-elim (q refl) (s refl)) (λ l. omega (arith, u refl)) v
-  tests false p q false r s false t u true v false x y w z = is-nine (⊎-elim (q refl) (s refl)) (λ l. omega (arith, u refl)) v (omega (arith, y refl, length-bitsOf out))
-  tests false p q false r s false t u true v true x y w z = is-done (⊎-elim (q refl) (s refl)) (λ l. omega (arith, u refl)) v (omega (arith, x refl, length-bitsOf out)) w z
+  -- the test of the columns, both ways
+  none : noLine columns ≡ true → None
+  none = tests (eqb columns 0) (eqb-true _ _) (eqb columns 4294967295) (eqb-true _ _)
+    where
+      tests : (a : Bool) → (a ≡ true → columns ≡ 0) → (b : Bool) → (b ≡ true → columns ≡ 4294967295) → (a || b) ≡ true → None
+      tests true p b q e = inl (p refl)
+      tests false p true q e = inr (q refl)
+      tests false p false q e = absurd (true≢false (sym e))
+
+  some : noLine columns ≡ false → None → ⊥
+  some = tests (eqb columns 0) (eqb-false _ _) (eqb columns 4294967295) (eqb-false _ _)
+    where
+      tests : (a : Bool) → (a ≡ false → columns ≡ 0 → ⊥) → (b : Bool) → (b ≡ false → columns ≡ 4294967295 → ⊥) → (a || b) ≡ false → None → ⊥
+      tests true p b q e = absurd (true≢false e)
+      tests false p true q e = absurd (true≢false e)
+      tests false p false q e = ⊎-elim (p refl) (q refl)
+
+  said : (xs : List Bool) (at n : ℕ) → end ≡ at + length xs → Said (writes columns good xs n out at)
+  said xs at n e =
+      writes-cases columns good xs n out at Said
+      (λ i. is-six (none i))
+      (λ i h. is-seven (some i) h)
+      (λ i h g. is-eight (some i) (λ l. omega arith) g)
+      (λ i h g f. is-nine (some i) (λ l. omega arith) g (omega arith))
+      (λ i h g f. is-done (some i) (λ l. omega arith) g (omega arith) _ refl)
 
   apart : good ≡ true → good ≡ false → ⊥
   apart u v = absurd (let z : _≡_ {A = ℕ} 0 1 = (let y = sym u ∙ v in cc) in omega arith)
@@ -121,24 +127,12 @@ module _ (columns : ℕ) (out : List ℕ) (good : Bool) (end : ℕ) where
       number : r .number ≡ w .number
       number = ap (λ (x : Answer). x .number) (g .answer)
 
-said-line : (columns : ℕ) (reference row out : List ℕ) (at : ℕ)
-    → Said columns out (ascends columns reference && ascends columns row) (at + length (lineBits mostMakeup columns (two reference) row)) (writeLine mostMakeup columns reference row out at)
-unfolding writeLine
-said-line columns reference row out at =
-    tests columns out (ascends columns reference && ascends columns row) (at + length (lineBits mostMakeup columns (two reference) row))
-    (eqb columns 0) (eqb-true _ _) (eqb-false _ _) (eqb columns 4294967295) (eqb-true _ _) (eqb-false _ _) (ltb mostBytes (length out)) (ltb-true _ _) (ltb-false _ _)
-    (ascends columns reference && ascends columns row) refl (leb (at + length (lineBits mostMakeup columns (two reference) row)) (length (bitsOf out))) (leb-true _ _) (leb-false _ _) _ refl
-
-said-page : (columns : ℕ) (changes ends out : List ℕ)
-    → Said columns out (endsRise (length changes) 0 ends && allAscend columns (rowsIn 0 changes ends)) (length (pageBits mostMakeup columns (rowsIn 0 changes ends))) (writePage mostMakeup columns changes ends out)
-unfolding writePage
-said-page columns changes ends out =
-    tests columns out (endsRise (length changes) 0 ends && allAscend columns (rowsIn 0 changes ends)) (length (pageBits mostMakeup columns (rowsIn 0 changes ends)))
-    (eqb columns 0) (eqb-true _ _) (eqb-false _ _) (eqb columns 4294967295) (eqb-true _ _) (eqb-false _ _) (ltb mostBytes (length out)) (ltb-true _ _) (ltb-false _ _)
-    (endsRise (length changes) 0 ends && allAscend columns (rowsIn 0 changes ends)) refl (leb (length (pageBits mostMakeup columns (rowsIn 0 changes ends))) (length (bitsOf out))) (leb-true _ _) (leb-false _ _) _ refl
-
 pub write-line-answers : WriteLineAnswers
-write-line-answers columns reference row out at r out′ g = answered columns out _ _ (fine columns out _ _ (said-line columns reference row out at)) r out′ g
+unfolding writeLine
+write-line-answers columns reference row out at r out′ g =
+    answered columns out _ _ (fine columns out _ _ (said columns out _ _ (lineBits mostMakeup columns (two reference) row) at _ refl)) r out′ g
 
 pub write-page-answers : WritePageAnswers
-write-page-answers columns changes ends out r out′ g = answered columns out _ _ (fine columns out _ _ (said-page columns changes ends out)) r out′ g
+unfolding writePage
+write-page-answers columns changes ends out r out′ g =
+    answered columns out _ _ (fine columns out _ _ (said columns out _ _ (pageBits mostMakeup columns (rowsIn 0 changes ends)) 0 _ (sym (zero-add _)))) r out′ g

@@ -1,20 +1,18 @@
 -- Demand 3 is met: by the rules' laws on reading back, over the contracts of the four functions. Assumes nothing.
 use mathlib.Core.Path.{_≡_, refl, sym, ap, _∙_, subst}
 use mathlib.Core.Logic.{_⊎_}
-use mathlib.Core.Bool.{Bool, true, false, _&&_}
+use mathlib.Core.Bool.{Bool}
 use mathlib.Core.List.{List, [], _∷_, _++_, append-assoc, append-nil}
 use Prim.Native.Nat.{ℕ, suc, _+_, _-_, _≤_}
 use native.Mathlib.Omega.{arith}
-use lib.Dec.{leb, ltb}
 use lib.ListN.{length, take, drop, length-append, take-append-drop}
 use lib.Seq.{take-at, take-append-le, length-take-le}
-use borrow.Author.Tests.{ltb-false}
 use Rattle.rules.specs.Bits.{bitsOf}
 use Rattle.rules.specs.Rows.{bytesTo}
 use Rattle.rules.specs.Lines.{two}
 use Rattle.rules.specs.Pages as Page
-use Rattle.rules.specs.Pages.{mostBytes, noLine, ascends, entries, joined, overlaid, decode, readOneLine, changesAfter}
-use Rattle.rules.specs.Write.{mostMakeup, lineBits, pageBits, rowsIn, endsRise, allAscend, writeLine, writePage, Written, unwritten, writtenAt}
+use Rattle.rules.specs.Pages.{entries, joined, overlaid, decode, readOneLine, changesAfter}
+use Rattle.rules.specs.Write.{mostMakeup, pageBits, rowsIn, writeLine, writePage}
 use Rattle.rules.proofs.Bits.{length-bitsOf}
 use Rattle.rules.proofs.PageBack.{Rows, Plain, whole}
 use Rattle.rules.proofs.ReadBack.{rows-same}
@@ -52,28 +50,13 @@ line-reads-back columns reference row wide narrow up up′ bytes at rest small e
     back bytes at columns strict reference row changes _ r changes′
     (line-returns mostMakeup (omega arith) (omega arith) columns wide narrow strict reference row up up′ (length changes) roomy bytes small at rest e) c
 
--- a line that was written lies in an output that is not too long
-line-small : (columns : ℕ) (reference row out : List ℕ) (at : ℕ) → writeLine mostMakeup columns reference row out at .number ≡ 0 → length out ≤ mostBytes
-unfolding writeLine
-line-small columns reference row out at = tests (noLine columns) (ltb mostBytes (length out)) (ltb-false _ _) (ascends columns reference && ascends columns row) (leb (at + length xs) (length (bitsOf out)))
-  where
-    xs : List Bool
-    xs = lineBits mostMakeup columns (two reference) row
-
-    tests : (a b : Bool) → (b ≡ false → length out ≤ mostBytes) → (c d : Bool)
-        → (elim a as (λ _. Written) [ true ↦ unwritten 6 out | false ↦ elim b as (λ _. Written) [ true ↦ unwritten 7 out | false ↦ elim c as (λ _. Written) [ false ↦ unwritten 8 out | true ↦ elim d as (λ _. Written) [ false ↦ unwritten 9 out | true ↦ record { number = 0; end = at + length xs; bits = writtenAt at xs (bitsOf out) } ] ] ] ]) .number ≡ 0
-        → length out ≤ mostBytes
-    tests true b h c d e = absurd (omega arith)
-    tests false true h c d e = absurd (omega arith)
-    tests false false h c d e = h refl
-
 pub written-line-reads-back : WrittenLineReadsBack
 written-line-reads-back columns reference row out at w out′ narrow written z strict changes r changes′ roomy c =
     let n : writeLine mostMakeup columns reference row out at .number ≡ 0 = sym (ap (λ (x : Answer). x .number) (written .answer)) ∙ z in
     let l = line-written mostMakeup columns narrow reference row out at n in
     let end = ap (λ (x : Answer). x .bytes) (written .answer) ∙ l .end-is in
     subst (λ (after : ℕ). Back row after r changes′) (sym end)
-    (line-reads-back columns reference row (l .wide) (l .narrow) (l .rises) (l .rises′) out′ at (l .rest) (omega (arith, written .size, line-small columns reference row out at n))
+    (line-reads-back columns reference row (l .wide) (l .narrow) (l .rises) (l .rises′) out′ at (l .rest) (omega (arith, written .size, l .short))
     (ap (drop at) (written .bits) ∙ l .there) strict changes r changes′ roomy c)
 
 pub lines-apart : LinesApart
@@ -93,7 +76,7 @@ module _ (columns : ℕ) (changes ends out : List ℕ) (w : Answer) (out′ : Li
   number : writePage mostMakeup columns changes ends out .number ≡ 0
   number = sym (ap (λ (x : Answer). x .number) (written .answer)) ∙ z
 
-  p : PageWritten mostMakeup columns changes ends (writePage mostMakeup columns changes ends out)
+  p : PageWritten mostMakeup columns changes ends out (writePage mostMakeup columns changes ends out)
   p = page-written mostMakeup columns narrow changes ends out number
 
   P : List Bool
@@ -180,25 +163,9 @@ written-page-reads-back columns changes ends out w out′ narrow written z bytes
     a : r ≡ answerOf (whole (length (P columns changes ends out w out′ narrow written z)) (rowsIn 0 changes ends))
     a = called .answer ∙ ap answerOf is
 
--- a page that was written lies in an output that is not too long
-page-small : (columns : ℕ) (changes ends out : List ℕ) → writePage mostMakeup columns changes ends out .number ≡ 0 → length out ≤ mostBytes
-unfolding writePage
-page-small columns changes ends out =
-    tests (noLine columns) (ltb mostBytes (length out)) (ltb-false _ _) (endsRise (length changes) 0 ends && allAscend columns (rowsIn 0 changes ends)) (leb (length xs) (length (bitsOf out)))
-  where
-    xs : List Bool
-    xs = pageBits mostMakeup columns (rowsIn 0 changes ends)
-
-    tests : (a b : Bool) → (b ≡ false → length out ≤ mostBytes) → (c d : Bool)
-        → (elim a as (λ _. Written) [ true ↦ unwritten 6 out | false ↦ elim b as (λ _. Written) [ true ↦ unwritten 7 out | false ↦ elim c as (λ _. Written) [ false ↦ unwritten 8 out | true ↦ elim d as (λ _. Written) [ false ↦ unwritten 9 out | true ↦ record { number = 0; end = bytesTo (length xs); bits = writtenAt 0 xs (bitsOf out) } ] ] ] ]) .number ≡ 0
-        → length out ≤ mostBytes
-    tests true b h c d e = absurd (omega arith)
-    tests false true h c d e = absurd (omega arith)
-    tests false false h c d e = h refl
-
 pub cut-page-gives-first-rows : CutPageGivesFirstRows
 cut-page-gives-first-rows columns changes ends out w out′ narrow written z cut settings s store places r store′ places′ called =
     let c =
     read-cut columns changes ends out w out′ narrow written z
-    (omega (arith, written .size, page-small columns changes ends out (number columns changes ends out w out′ narrow written z))) cut settings s (length store) (length places) in
+    (omega (arith, written .size, p columns changes ends out w out′ narrow written z .short)) cut settings s (length store) (length places) in
     (c .0, in-store _ store places r store′ places′ called ∙ c .1)

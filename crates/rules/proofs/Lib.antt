@@ -21,6 +21,7 @@ pub mod Spare
 pub mod CutPage
 pub mod Rows
 pub mod Budget
+pub mod Writes
 pub mod RoundTrip
 pub mod Pages
 pub mod Store

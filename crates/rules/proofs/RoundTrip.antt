@@ -1,15 +1,15 @@
 -- Reading what was written, in the words of the public answers: what a writer leaves when its answer is 0, and what the readers answer to a line or a
 -- page that stands in bytes, whole or cut. Assumes nothing.
-use mathlib.Core.Path.{_≡_, refl, ap, _∙_}
-use mathlib.Core.Bool.{Bool, true, false, _||_, true≢false}
+use mathlib.Core.Path.{_≡_, refl, sym, ap, _∙_}
+use mathlib.Core.Bool.{Bool, true, false, _&&_, _||_, true≢false}
 use mathlib.Core.List.{List, [], _∷_, _++_, append-assoc}
 use mathlib.Core.Logic.{_⊎_}
 use Prim.Native.Nat.{ℕ, zero, suc, _+_, _*_, _≤_, _<_}
 use native.Mathlib.Omega.{arith}
-use lib.Dec.{eqb, leb, ltb}
+use lib.Dec.{eqb}
 use lib.ListN.{length, take, drop, length-append, length-take, length-drop}
 use lib.Seq.{drop-at, length-take-le}
-use borrow.Author.Tests.{leb-true, le-leb, le-ltb, ne-eqb, eqb-false}
+use borrow.Author.Tests.{le-leb, le-ltb, ne-eqb, eqb-false}
 use Rattle.rules.specs.Bits.{bitsFor, bitsOf}
 use Rattle.rules.specs.Lines.{two}
 use Rattle.rules.specs.Rows.{Settings, bytesTo}
@@ -19,6 +19,8 @@ use Rattle.rules.proofs.Ascending.{Rising, ascends-rises, rises-ascends
 use Rattle.rules.proofs.ReadBack.{read-line}
 use Rattle.rules.proofs.PageBack.{line-long, Rows, ascend-rows, Plain, whole, read-page}
 use Rattle.rules.proofs.CutPage.{cut-page}
+use Rattle.rules.proofs.Bits.{length-bitsOf}
+use Rattle.rules.proofs.Writes.{wrote}
 
 -- ---- Reading
 
@@ -97,70 +99,67 @@ allowed columns h e = tests (eqb columns 0) (eqb-false columns 0) (tooWide colum
     tests false f true g e = absurd (true≢false e)
     tests false f false g e = (omega (arith, f refl), omega (arith, g refl))
 
--- what the line writer's 0 says: a width and rows that are allowed, the line's bits from the bit on, and the bit after them
-pub record LineWritten (most columns : ℕ) (reference row : List ℕ) (at : ℕ) (w : Written) : Type 0 where
+both-true : (a b : Bool) → (a && b) ≡ true → (a ≡ true) × (b ≡ true)
+both-true true b e = (refl, e)
+both-true false b e = absurd (true≢false (sym e))
+
+-- what the line writer's 0 says: a width, rows and an output that are allowed, the line's bits from the bit on, and the bit after them
+pub record LineWritten (most columns : ℕ) (reference row out : List ℕ) (at : ℕ) (w : Written) : Type 0 where
   pub wide : 0 < columns
   pub narrow : columns < 4294967295
   pub rises : Rising columns 0 reference
   pub rises′ : Rising columns 0 row
+  pub short : length out ≤ mostBytes
   pub rest : List Bool
   pub there : drop at (w .bits) ≡ lineBits most columns (two reference) row ++ rest
   pub end-is : w .end ≡ at + length (lineBits most columns (two reference) row)
 
 -- so it does
 pub line-written : (most columns : ℕ) → columns ≤ 4294967295 → (reference row out : List ℕ) (at : ℕ) → writeLine most columns reference row out at .number ≡ 0
-    → LineWritten most columns reference row at (writeLine most columns reference row out at)
+    → LineWritten most columns reference row out at (writeLine most columns reference row out at)
 unfolding writeLine
-line-written most columns fits reference row out at =
-    tests (noLine columns) refl (ltb mostBytes (length out)) refl (ascends columns reference) refl (ascends columns row) refl (leb (at + length xs) (length (bitsOf out))) refl
-  where
-    xs : List Bool
-    xs = lineBits most columns (two reference) row
+line-written most columns fits reference row out at e =
+    let xs = lineBits most columns (two reference) row in
+    let k = wrote columns (ascends columns reference && ascends columns row) xs (at + length xs) out at e in
+    let p = allowed columns fits (k .line) in
+    let q = written-there at xs (bitsOf out) (omega (arith, k .fits, length-bitsOf out)) in
+    let g = both-true (ascends columns reference) (ascends columns row) (k .good-is) in
+    record {
+      wide = p .0;
+      narrow = p .1;
+      rises = ascends-rises columns 0 reference (g .0);
+      rises′ = ascends-rises columns 0 row (g .1);
+      short = k .short;
+      rest = q .0;
+      there = ap (λ (w : Written). drop at (w .bits)) (k .is) ∙ q .1;
+      end-is = ap (λ (w : Written). w .end) (k .is);
+    }
 
-    tests : (a : Bool) → noLine columns ≡ a → (b : Bool) → ltb mostBytes (length out) ≡ b → (c : Bool) → ascends columns reference ≡ c
-        → (d : Bool) → ascends columns row ≡ d → (f : Bool) → leb (at + length xs) (length (bitsOf out)) ≡ f
-        → writeLine most columns reference row out at .number ≡ 0 → LineWritten most columns reference row at (writeLine most columns reference row out at)
-    tests true i b j c k d l f m e = absurd (let y : 6 ≡ 0 = rw (i, writeLine) at e in omega arith)
-    tests false i true j c k d l f m e = absurd (let y : 7 ≡ 0 = rw (i, j, writeLine) at e in omega arith)
-    tests false i false j false k d l f m e = absurd (let y : 8 ≡ 0 = rw (i, j, k, writeLine) at e in omega arith)
-    tests false i false j true k false l f m e = absurd (let y : 8 ≡ 0 = rw (i, j, k, l, writeLine) at e in omega arith)
-    tests false i false j true k true l false m e = absurd (let y : 9 ≡ 0 = rw (i, j, k, l, m, writeLine) at e in omega arith)
-    tests false i false j true k true l true m e =
-        let p = allowed columns fits i in
-        let q = written-there at xs (bitsOf out) (omega (arith, leb-true (at + length xs) (length (bitsOf out)) m)) in
-        rw (i, j, k, l, m, writeLine)
-        (record { wide = p .0; narrow = p .1; rises = ascends-rises columns 0 reference k; rises′ = ascends-rises columns 0 row l; rest = q .0; there = q .1; end-is = refl })
-
--- what the page writer's 0 says: a width and rows that are allowed, the page's bits from the first on, and its bytes
-pub record PageWritten (most columns : ℕ) (changes ends : List ℕ) (w : Written) : Type 0 where
+-- what the page writer's 0 says: a width, rows and an output that are allowed, the page's bits from the first on, and its bytes
+pub record PageWritten (most columns : ℕ) (changes ends out : List ℕ) (w : Written) : Type 0 where
   pub wide : 0 < columns
   pub narrow : columns < 4294967295
   pub rises : Rows columns (rowsIn 0 changes ends)
+  pub short : length out ≤ mostBytes
   pub rest : List Bool
   pub there : w .bits ≡ pageBits most columns (rowsIn 0 changes ends) ++ rest
   pub end-is : w .end ≡ bytesTo (length (pageBits most columns (rowsIn 0 changes ends)))
 
 -- so it does
 pub page-written : (most columns : ℕ) → columns ≤ 4294967295 → (changes ends out : List ℕ) → writePage most columns changes ends out .number ≡ 0
-    → PageWritten most columns changes ends (writePage most columns changes ends out)
+    → PageWritten most columns changes ends out (writePage most columns changes ends out)
 unfolding writePage
-page-written most columns fits changes ends out =
-    tests (noLine columns) refl (ltb mostBytes (length out)) refl (endsRise (length changes) 0 ends) refl (allAscend columns (rowsIn 0 changes ends)) refl
-    (leb (length xs) (length (bitsOf out))) refl
-  where
-    xs : List Bool
-    xs = pageBits most columns (rowsIn 0 changes ends)
-
-    tests : (a : Bool) → noLine columns ≡ a → (b : Bool) → ltb mostBytes (length out) ≡ b → (c : Bool) → endsRise (length changes) 0 ends ≡ c
-        → (d : Bool) → allAscend columns (rowsIn 0 changes ends) ≡ d → (f : Bool) → leb (length xs) (length (bitsOf out)) ≡ f
-        → writePage most columns changes ends out .number ≡ 0 → PageWritten most columns changes ends (writePage most columns changes ends out)
-    tests true i b j c k d l f m e = absurd (let y : 6 ≡ 0 = rw (i, writePage) at e in omega arith)
-    tests false i true j c k d l f m e = absurd (let y : 7 ≡ 0 = rw (i, j, writePage) at e in omega arith)
-    tests false i false j false k d l f m e = absurd (let y : 8 ≡ 0 = rw (i, j, k, writePage) at e in omega arith)
-    tests false i false j true k false l f m e = absurd (let y : 8 ≡ 0 = rw (i, j, k, l, writePage) at e in omega arith)
-    tests false i false j true k true l false m e = absurd (let y : 9 ≡ 0 = rw (i, j, k, l, m, writePage) at e in omega arith)
-    tests false i false j true k true l true m e =
-        let p = allowed columns fits i in
-        let q = written-there 0 xs (bitsOf out) (omega arith) in
-        rw (i, j, k, l, m, writePage)
-        (record { wide = p .0; narrow = p .1; rises = ascend-rows columns (rowsIn 0 changes ends) l; rest = q .0; there = q .1; end-is = refl })
+page-written most columns fits changes ends out e =
+    let xs = pageBits most columns (rowsIn 0 changes ends) in
+    let k = wrote columns (endsRise (length changes) 0 ends && allAscend columns (rowsIn 0 changes ends)) xs (bytesTo (length xs)) out 0 e in
+    let p = allowed columns fits (k .line) in
+    let q = written-there 0 xs (bitsOf out) (omega arith) in
+    record {
+      wide = p .0;
+      narrow = p .1;
+      rises = ascend-rows columns (rowsIn 0 changes ends) (both-true (endsRise (length changes) 0 ends) (allAscend columns (rowsIn 0 changes ends)) (k .good-is) .1);
+      short = k .short;
+      rest = q .0;
+      there = ap (λ (w : Written). w .bits) (k .is) ∙ q .1;
+      end-is = ap (λ (w : Written). w .end) (k .is);
+    }

@@ -10,9 +10,9 @@ use Rattle.rules.specs.Lines.{lastColour, recorded, add, push, pushRun, 
 use Rattle.rules.specs.Eols.{zeroRun, readEols}
 use Rattle.rules.specs.Group4.{row4}
 use Rattle.rules.specs.Pages.{entries, pageStep, rowOf, readPage, ascendsFrom, decode}
-use Rattle.rules.specs.Write.{runCodes, codesBits, runBits, bits2D, lineBits, rowsBits, eolBits, eofb, pageBits, toByte, writtenAt, rowsIn, endsRise, allAscend, writePage}
+use Rattle.rules.specs.Write.{runCodes, codesBits, runBits, bits2D, lineBits, rowsBits, eolBits, eofb, pageBits, toByte, writtenAt, rowsIn, endsRise, allAscend, writes, writePage}
 use Rattle.rules.specs.Sheets.{sheets, sameBits, same, sameRows, whites, right, allRight}
 
 pub sheets-right : T (allRight sheets)
-unfolding run ends bit bitsFor bitsOf window codeBits whiteTerminating whiteMakeup blackTerminating blackMakeup commonMakeup terminatingOf makeupOf codesOf begins shared codeIn longestShared lookup runTake runStep readRun modeBits modes modeAmong modeByTable modeTake readMode lastColour recorded add push pushRun rightOfA0 fromB1 vertical apply code2D lineStep lineEnd readLine zeroRun readEols row4 entries pageStep rowOf readPage ascendsFrom decode runCodes codesBits runBits bits2D lineBits rowsBits eolBits eofb pageBits toByte writtenAt rowsIn endsRise allAscend writePage sheets sameBits same sameRows whites right allRight
+unfolding run ends bit bitsFor bitsOf window codeBits whiteTerminating whiteMakeup blackTerminating blackMakeup commonMakeup terminatingOf makeupOf codesOf begins shared codeIn longestShared lookup runTake runStep readRun modeBits modes modeAmong modeByTable modeTake readMode lastColour recorded add push pushRun rightOfA0 fromB1 vertical apply code2D lineStep lineEnd readLine zeroRun readEols row4 entries pageStep rowOf readPage ascendsFrom decode runCodes codesBits runBits bits2D lineBits rowsBits eolBits eofb pageBits toByte writtenAt rowsIn endsRise allAscend writes writePage sheets sameBits same sameRows whites right allRight
 sheets-right = tt

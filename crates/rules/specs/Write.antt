@@ -124,24 +124,29 @@ pub record Written : Type 0 where
 abbrev pub unwritten : ℕ → List ℕ → Written
 unwritten n out = record { number = n; end = 0; bits = bitsOf out }
 
--- 6, 7, 8 (reference and row), 9 (the bits do not fit; a start past the output) in this order, before any write
-unfoldable pub writeLine : ℕ → ℕ → List ℕ → List ℕ → List ℕ → ℕ → Written
-writeLine most columns reference row out at =
+-- Both writers, given their bits `xs`, whether the rows they are to write are `good`, and the `end` that a 0 gives: 6, 7 (output), 8 (rows), 9 (the
+-- bits do not fit from bit `at` on; a start past the output) in this order, before any write.
+unfoldable pub writes : ℕ → Bool → List Bool → ℕ → List ℕ → ℕ → Written
+writes columns good xs end out at =
     elim (noLine columns) [
       | true ↦ unwritten 6 out
       | false ↦ elim (ltb mostBytes (length out)) [
         | true ↦ unwritten 7 out
-        | false ↦ elim (ascends columns reference && ascends columns row) [
+        | false ↦ elim good [
           | false ↦ unwritten 8 out
-          | true ↦
-              let xs = lineBits most columns (two reference) row in
-              elim (leb (at + length xs) (length (bitsOf out))) [
-                | false ↦ unwritten 9 out
-                | true ↦ record { number = 0; end = at + length xs; bits = writtenAt at xs (bitsOf out) }
-              ]
+          | true ↦ elim (leb (at + length xs) (length (bitsOf out))) [
+            | false ↦ unwritten 9 out
+            | true ↦ record { number = 0; end = end; bits = writtenAt at xs (bitsOf out) }
+          ]
         ]
       ]
     ]
+
+-- 8 for a line: its reference or its row does not ascend; a 0 gives the bit after it
+unfoldable pub writeLine : ℕ → ℕ → List ℕ → List ℕ → List ℕ → ℕ → Written
+writeLine most columns reference row out at =
+    let xs = lineBits most columns (two reference) row in
+    writes columns (ascends columns reference && ascends columns row) xs (at + length xs) out at
 
 -- the rows of a store, by their ends
 unfoldable pub rowsIn : ℕ → List ℕ → List ℕ → List (List ℕ)
@@ -157,21 +162,8 @@ unfoldable pub allAscend : ℕ → List (List ℕ) → Bool
 allAscend width [] = true
 allAscend width (r ∷ rs) = ascends width r && allAscend width rs
 
--- as many rows as there are row ends; from byte 0 on
+-- as many rows as there are row ends; from byte 0 on; a 0 gives the page's bytes
 unfoldable pub writePage : ℕ → ℕ → List ℕ → List ℕ → List ℕ → Written
 writePage most columns changes ends out =
-    elim (noLine columns) [
-      | true ↦ unwritten 6 out
-      | false ↦ elim (ltb mostBytes (length out)) [
-        | true ↦ unwritten 7 out
-        | false ↦ elim (endsRise (length changes) 0 ends && allAscend columns (rowsIn 0 changes ends)) [
-          | false ↦ unwritten 8 out
-          | true ↦
-              let xs = pageBits most columns (rowsIn 0 changes ends) in
-              elim (leb (length xs) (length (bitsOf out))) [
-                | false ↦ unwritten 9 out
-                | true ↦ record { number = 0; end = bytesTo (length xs); bits = writtenAt 0 xs (bitsOf out) }
-              ]
-        ]
-      ]
-    ]
+    let xs = pageBits most columns (rowsIn 0 changes ends) in
+    writes columns (endsRise (length changes) 0 ends && allAscend columns (rowsIn 0 changes ends)) xs (bytesTo (length xs)) out 0

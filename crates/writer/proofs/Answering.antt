@@ -4,8 +4,7 @@ use mathlib.Core.Bool.{Bool, true, false, _&&_, true≢false}
 use mathlib.Core.List.{List}
 use Prim.Native.Nat.{ℕ, _+_, _*_, _≤_, _<_}
 use native.Mathlib.Omega.{arith}
-use native.Mathlib.Nat.{zero-add}
-use lib.Dec.{eqb, leb, ltb}
+use lib.Dec.{eqb, ltb}
 use lib.ListN.{length}
 use borrow.Author.Tests.{le-leb, lt-leb, le-ltb, ltb-false, ne-eqb, eqb-false}
 use Rattle.rules.specs.Bits.{bitsOf}
@@ -13,7 +12,7 @@ use Rattle.rules.specs.Codes.{whiteTerminating, blackTerminating, whiteMakeup, 
 use Rattle.rules.specs.Rows.{bytesTo}
 use Rattle.rules.specs.Pages as Page
 use Rattle.rules.specs.Pages.{noLine, mostBytes, ascends}
-use Rattle.rules.specs.Write.{mostMakeup, writtenAt, Written, unwritten, writeLine, writePage}
+use Rattle.rules.specs.Write.{mostMakeup, writtenAt, Written, unwritten, writes, writeLine, writePage}
 use Rattle.rules.proofs.Bits.{length-bitsOf}
 use Rattle.rules.proofs.Ascending.{ascends-rises, rises-ascends, rises-length}
 use Rattle.tables.specs.Tables.{rows}
@@ -27,42 +26,21 @@ use Rattle.writer.proofs.Turns.{line-few}
 
 -- ---- Both writers
 
--- 6, 7, 8 by its test, 9 where the bits end past the output, and then the bits are written
-unfoldable pub writing : ℕ → List ℕ → Bool → ℕ → ℕ → List Bool → ℕ → Written
-writing columns out good total at xs end =
-    elim (noLine columns) [
-      | true ↦ unwritten 6 out
-      | false ↦ elim (ltb mostBytes (length out)) [
-        | true ↦ unwritten 7 out
-        | false ↦ elim good [
-          | false ↦ unwritten 8 out
-          | true ↦ elim (leb total (length (bitsOf out))) [
-            | false ↦ unwritten 9 out
-            | true ↦ record { number = 0; end = end; bits = writtenAt at xs (bitsOf out) }
-          ]
-        ]
-      ]
-    ]
-
--- a definition that is so
+-- what a writer answers is `writes` of its bits
 pub record Writing (w : Written) (columns : ℕ) (out : List ℕ) (good : Bool) (at : ℕ) (xs : List Bool) (end : ℕ) : Type 0 where
-  pub total : ℕ
-  pub total-is : total ≡ at + length xs
-  pub is : w ≡ writing columns out good total at xs end
+  pub is : w ≡ writes columns good xs end out at
 
--- both writers' are
 pub line-writing : (columns : ℕ) (reference row out : List ℕ) (at : ℕ)
     → Writing (writeLine mostMakeup columns reference row out at)
     columns out (ascends columns reference && ascends columns row) at (lineOf columns reference row) (at + length (lineOf columns reference row))
-unfolding writing writeLine
-line-writing columns reference row out at = record { total = at + length (lineOf columns reference row); total-is = refl; is = refl }
+unfolding writeLine
+line-writing columns reference row out at = record { is = refl }
 
 pub page-writing : (columns : ℕ) (changes ends out : List ℕ)
     → Writing (writePage mostMakeup columns changes ends out)
     columns out (goodRows columns changes 0 ends) 0 (pageOf columns changes ends) (bytesTo (length (pageOf columns changes ends)))
-unfolding writing writePage
-page-writing columns changes ends out =
-    record { total = length (pageOf columns changes ends); total-is = sym (zero-add (length (pageOf columns changes ends))); is = refl }
+unfolding writePage
+page-writing columns changes ends out = record { is = refl }
 
 -- ---- The first tests
 
@@ -172,40 +150,40 @@ module _ {w : Written} {columns : ℕ} {out : List ℕ} {good : Bool} {at : ℕ}
 
   -- 6 and 7
   pub refused-first : (n : ℕ) → n ≡ firstTests columns (length out) → (n ≡ 0 → ⊥) → r ≡ answerOf (Page.refusal n) → Answers w out r out
-  unfolding writing
+  unfolding writes
   refused-first n e h f = tests (noLine columns) refl (ltb mostBytes (length out)) refl
     where
       same : {m : ℕ} → firstTests columns (length out) ≡ m → r ≡ answerOf (Page.refusal m)
       same q = f ∙ ap (λ (m : ℕ). answerOf (Page.refusal m)) (e ∙ q)
 
       tests : (a : Bool) → noLine columns ≡ a → (b : Bool) → ltb mostBytes (length out) ≡ b → Answers w out r out
-      tests true i b j = refuses 6 (W .is ∙ rw (i, writing)) (same (rw i)) refl
-      tests false i true j = refuses 7 (W .is ∙ rw (i, j, writing)) (same (rw (i, j))) refl
+      tests true i b j = refuses 6 (W .is ∙ rw (i, writes)) (same (rw i)) refl
+      tests false i true j = refuses 7 (W .is ∙ rw (i, j, writes)) (same (rw (i, j))) refl
       tests false i false j = absurd (h (e ∙ rw (i, j)))
 
   module _ (first : First columns (length out)) where
     -- 8
     pub refused-8 : good ≡ false → r ≡ answerOf (Page.refusal 8) → Answers w out r out
-    unfolding writing
-    refused-8 e f = refuses 8 (W .is ∙ rw (first .line, first .output, e, writing)) f refl
+    unfolding writes
+    refused-8 e f = refuses 8 (W .is ∙ rw (first .line, first .output, e, writes)) f refl
 
     module _ (e : good ≡ true) where
       -- 9
       pub refused-9 : {out′ : List ℕ} → 8 * length out < at + length xs → r ≡ answerOf (Page.refusal 9) → out′ ≡ out → Answers w out r out′
-      unfolding writing
+      unfolding writes
       refused-9 h f g =
           refuses 9 (W .is ∙ rw (
             first .line,
             first .output,
             e,
-            lt-leb (W .total) (length (bitsOf out)) (omega (arith, length-bitsOf out, W .total-is)),
-            writing,
+            lt-leb (at + length xs) (length (bitsOf out)) (omega (arith, length-bitsOf out)),
+            writes,
           )) f g
 
       -- 0
       pub answers-0 : {mid : List ℕ} {n : ℕ} {out′ : List ℕ} → at + length xs ≤ 8 * length out → mid ≡ out → Puts true at xs mid n out′ → r ≡ doneAt end
           → Answers w out r out′
-      unfolding writing inked
+      unfolding writes inked
       answers-0 {mid} {n} {out′} h m p f = rw done (record {
         answer = f;
         bits = p .bits ∙ ap (λ (l : List ℕ). writtenAt at xs (bitsOf l)) m;
@@ -214,4 +192,4 @@ module _ {w : Written} {columns : ℕ} {out : List ℕ} {good : Bool} {at : ℕ}
       })
         where
           done : w ≡ record { number = 0; end = end; bits = writtenAt at xs (bitsOf out) }
-          done = W .is ∙ rw (first .line, first .output, e, le-leb (W .total) (length (bitsOf out)) (omega (arith, length-bitsOf out, W .total-is)), writing)
+          done = W .is ∙ rw (first .line, first .output, e, le-leb (at + length xs) (length (bitsOf out)) (omega (arith, length-bitsOf out)), writes)
