@@ -6,33 +6,8 @@ use rows::DecodeSettings;
 use rows::EncodingMode;
 ghost use Prim.Native.Nat.{_≤_};
 
-// What is asked: the form (an encoding, or 3 for one line), the settings, and a line's first bit.
-struct Question {
-    form: u32,
-    columns: u32,
-    rows: u32,
-    end_of_block: bool,
-    end_of_line: bool,
-    rows_are_byte_aligned: bool,
-    strict: bool,
-    at: u64,
-}
-
 fn joined(high: u32, low: u32) -> u64 {
     high as u64 * 4294967296 + low as u64
-}
-
-fn question_of(n: &[u32; 13]) -> Question {
-    Question {
-        form: n[0],
-        columns: n[1],
-        rows: n[2],
-        end_of_block: n[3] == 1,
-        end_of_line: n[4] == 1,
-        rows_are_byte_aligned: n[5] == 1,
-        strict: n[6] == 1,
-        at: joined(n[7], n[8]),
-    }
 }
 
 fn encoding(form: u32) -> EncodingMode {
@@ -43,29 +18,37 @@ fn encoding(form: u32) -> EncodingMode {
     }
 }
 
-fn settings(q: Question) -> DecodeSettings {
+fn settings(n: &[u32; 13]) -> DecodeSettings {
     DecodeSettings {
-        columns: q.columns,
-        rows: q.rows,
-        end_of_block: q.end_of_block,
-        end_of_line: q.end_of_line,
-        rows_are_byte_aligned: q.rows_are_byte_aligned,
-        encoding: encoding(q.form),
-        strict: q.strict,
+        columns: n[1],
+        rows: n[2],
+        end_of_block: n[3] == 1,
+        end_of_line: n[4] == 1,
+        rows_are_byte_aligned: n[5] == 1,
+        encoding: encoding(n[0]),
+        strict: n[6] == 1,
     }
 }
 
+// A question's numbers are the form (an encoding, or 3 for one line), the settings, the two halves of a line's first bit, and four lengths.
 fn ask(
-    q: Question,
+    n: &[u32; 13],
     src: &[u8],
     reference: &[u32],
     changes: &mut [u32],
     ends: &mut [u32],
 ) -> Answer {
-    if q.form == 3 {
-        return context::read::read_line(src, q.at, q.columns, q.strict, reference, changes);
+    if n[0] == 3 {
+        return context::read::read_line(
+            src,
+            joined(n[7], n[8]),
+            n[1],
+            n[6] == 1,
+            reference,
+            changes,
+        );
     }
-    ccitt::decode(src, settings(q), changes, ends)
+    ccitt::decode(src, settings(n), changes, ends)
 }
 
 // The number, or `most`, which no question of the sample passes.
@@ -89,7 +72,7 @@ fn ask_within(
     let r = within(n[11], reference.len());
     let d = within(n[12], src.len());
     ask(
-        question_of(n),
+        n,
         &src[..d],
         &reference[..r],
         &mut changes[..c],

@@ -29,26 +29,23 @@ element-copy-out-within-4 c = search needs
 within-requires-4 : tie.Need-within-requires-4
 within-requires-4 c κs = search needs
 
-question-of-requires : tie.Need-question-of-requires
-question-of-requires c κs = search needs
-
 slice-aggregate-ask : tie.Need-slice-aggregate-ask
-slice-aggregate-ask c = sym (length-take-le (c .before .before .within4 .result) _ (c .before .before .within4 .ensures))
+slice-aggregate-ask c = sym (length-take-le (c .before .within4 .result) _ (c .before .within4 .ensures))
 
 slice-aggregate-ask-2 : tie.Need-slice-aggregate-ask-2
-slice-aggregate-ask-2 c = sym (length-take-le (c .before .before .before .before .before .within3 .result) _ (c .before .before .before .before .before .within3 .ensures))
+slice-aggregate-ask-2 c = sym (length-take-le (c .before .before .before .before .within3 .result) _ (c .before .before .before .before .within3 .ensures))
 
 slice-relend-prefix-ask : tie.Need-slice-relend-prefix-ask
 slice-relend-prefix-ask c = search needs
 
 slice-aggregate-ask-3 : tie.Need-slice-aggregate-ask-3
-slice-aggregate-ask-3 c = sym (length-take-le (c .before .before .before .before .before .before .before .before .before .before .within .result) _ (c .before .before .before .before .before .before .before .before .before .before .within .ensures))
+slice-aggregate-ask-3 c = sym (length-take-le (c .before .before .before .before .before .before .before .before .before .within .result) _ (c .before .before .before .before .before .before .before .before .before .within .ensures))
 
 slice-relend-prefix-ask-2 : tie.Need-slice-relend-prefix-ask-2
 slice-relend-prefix-ask-2 c = search needs
 
 slice-aggregate-ask-4 : tie.Need-slice-aggregate-ask-4
-slice-aggregate-ask-4 c = sym (length-take-le (c .before .before .before .before .before .before .before .before .before .within2 .result) _ (c .before .before .before .before .before .before .before .before .before .within2 .ensures))
+slice-aggregate-ask-4 c = sym (length-take-le (c .before .before .before .before .before .before .before .before .within2 .result) _ (c .before .before .before .before .before .before .before .before .within2 .ensures))
 
 ask-requires : tie.Need-ask-requires
 ask-requires c κs = search needs
@@ -74,7 +71,6 @@ ask-within-spec =
     within-requires-3
     element-copy-out-within-4
     within-requires-4
-    question-of-requires
     slice-aggregate-ask
     slice-aggregate-ask-2
     slice-relend-prefix-ask
