@@ -19,7 +19,7 @@ use Rattle.desk.specs.declared.settings.Parsed.the-variants.{Settings as found,
 use Rattle.desk.proofs.Standing.{begins-once, line-short}
 use Rattle.desk.proofs.Stored.{decode-held, rows-stored, can-list}
 use Rattle.io.specs.Counts.{Counts}
-use Rattle.listing.specs.Program.{mostData, listed, pageText, room, Asks, Answers}
+use Rattle.listing.specs.Program.{mostData, mostInput, listed, pageText, room, Asks, Answers, AnswersRead}
 
 -- ---- A page from its store
 
@@ -75,23 +75,20 @@ module _ {input text : List ℕ} where
 
 -- ---- The program reads no more of its input than it needs
 
--- a line has at most 32 bytes, and one byte more than the data may have shows that there is too much
-abbrev pub mostInput : ℕ
-mostInput = 16417
+-- So many bytes decide: an input that asks for a page is shorter, and so are its first bytes where they do.
+module _ (asked : ℕ) (enough : mostInput ≤ asked) where
+  short : (xs : List ℕ) (S : Settings) (src : List ℕ) → Asks xs S src → length xs < asked
+  short xs S src a = omega (arith, a .few, line-short S (a .begins .columns) (a .begins .rows), ap length (a .begins .text), length-append (settingsLine S) src)
 
-cut-asks : (input : List ℕ) (S : Settings) (src : List ℕ) → Asks input S src → take mostInput input ≡ input
-cut-asks input S src a =
-    take-all mostInput input
-    (omega (arith, a .few, line-short S (a .begins .columns) (a .begins .rows), ap length (a .begins .text), length-append (settingsLine S) src))
+  module _ (input text : List ℕ) where
+    whole : length input ≤ asked → take asked input ≡ input
+    whole h = take-all asked input h
 
-asks-cut : (input : List ℕ) (S : Settings) (src : List ℕ) → Asks (take mostInput input) S src → take mostInput input ≡ input
-asks-cut input S src a =
-    take-all mostInput input
-    (omega (arith, a .few, line-short S (a .begins .columns) (a .begins .rows), ap length (a .begins .text), length-append (settingsLine S) src, length-take mostInput input))
+    answers-cut : Answers (take asked input) text → Answers input text
+    answers-cut p = record {
+      page = λ S src a. p .page S src (subst (λ (l : List ℕ). Asks l S src) (sym (whole (omega (arith, short input S src a)))) a);
+      bad = λ n. p .bad (λ S src a. n S src (subst (λ (l : List ℕ). Asks l S src) (whole (omega (arith, short (take asked input) S src a, length-take asked input))) a));
+    }
 
--- what it prints for the bytes that it reads is right for all of them
-pub answers-cut : (input text : List ℕ) → Answers (take mostInput input) text → Answers input text
-answers-cut input text p = record {
-  page = λ S src a. p .page S src (subst (λ (l : List ℕ). Asks l S src) (sym (cut-asks input S src a)) a);
-  bad = λ n. p .bad (λ S src a. n S src (subst (λ (l : List ℕ). Asks l S src) (asks-cut input S src a) a));
-}
+  pub answers-read : {got text : List ℕ} → Answers got text → AnswersRead asked got text
+  answers-read {text = text} p input e = answers-cut input text (subst (λ (l : List ℕ). Answers l text) e p)

@@ -2,7 +2,7 @@
 use mathlib.Core.Path.{_≡_}
 use mathlib.Core.List.{List}
 use Prim.Native.Nat.{ℕ, _+_, _*_, _≤_}
-use lib.ListN.{length}
+use lib.ListN.{length, take}
 use Rattle.rules.specs.Rows.{Settings}
 use Rattle.rules.specs.Pages as Page
 use Rattle.rules.specs.Pages.{decode}
@@ -12,6 +12,10 @@ use Rattle.desk.specs.Sheet.{listingText, badInput}
 -- "then up to 16,384 data bytes; its store has 8,192 changes and 2,048 rows"
 abbrev pub mostData : ℕ
 mostData = 16384
+
+-- "Longer data" shows by one byte more than the longest line of settings, which has 32, and the data may have: so many bytes of an input decide
+abbrev pub mostInput : ℕ
+mostInput = 32 + mostData + 1
 
 abbrev pub listed : Settings → Page.Answer → List ℕ
 listed S a = listingText (S .columns) (a .number) (a .rows) (a .bytes)
@@ -32,3 +36,11 @@ pub record Asks (input : List ℕ) (S : Settings) (src : List ℕ) : Type 0 wher
 pub record Answers (input text : List ℕ) : Type 0 where
   pub page : (S : Settings) (src : List ℕ) → Asks input S src → text ≡ pageText S src
   pub bad : ((S : Settings) (src : List ℕ) → Asks input S src → ⊥) → text ≡ badInput
+
+-- the bytes that were read are an input's first, as many as the reader asked for, or all of them
+abbrev pub ReadFrom : List ℕ → ℕ → List ℕ → Type 0
+ReadFrom input asked got = got ≡ take asked input
+
+-- the text is right for every input of which these bytes were read
+abbrev pub AnswersRead : ℕ → List ℕ → List ℕ → Type 0
+AnswersRead asked got text = (input : List ℕ) → ReadFrom input asked got → Answers input text

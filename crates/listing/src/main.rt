@@ -6,7 +6,7 @@ ghost use lib.ListN.{length, take};
 ghost use Rattle.io.specs.Counts.{Counts};
 ghost use Rattle.rows.specs.Settings.{settingsOf};
 ghost use Rattle.desk.specs.Listed.{Prints};
-ghost use Rattle.listing.specs.Program.{room, pageText, Answers};
+ghost use Rattle.listing.specs.Program.{room, mostInput, pageText, Answers, AnswersRead};
 
 fn page(src: &[u8], settings: DecodeSettings, out: &mut [u8]) -> usize
     requires { ⌜ room ≤ length (now out) ⌝ }
@@ -34,12 +34,19 @@ fn text(input: &[u8], out: &mut [u8]) -> usize
     page(src, settings, out)
 }
 
-// The longest line has 32 bytes, and one byte more than the data may have shows that there is too much: what is read here decides
-// (proofs/Answering.antt, `answers-cut`).
+// What the program prints, once it has asked for as many bytes as `input` has and got the first `got` of them.
+fn answer(input: &[u8], got: usize, out: &mut [u8]) -> usize
+    requires { ⌜ (mostInput ≤ length (now input)) × (got ≤ length (now input)) × (room ≤ length (now out)) ⌝ }
+    ensures { λ r. ⌜ Counts r (now (out .exit)) ⌝ }
+    ensures { λ r. ⌜ AnswersRead (length (now (input .entry))) (take got (now (input .entry))) (take r (now (out .exit))) ⌝ }
+{
+    text(&input[..got], out)
+}
+
 fn main() {
     let mut input = [0u8; 16417];
     let got = io::read_full(libc::STDIN_FILENO, &mut input);
     let mut out = [0u8; 147456];
-    let n = text(&input[..got], &mut out);
+    let n = answer(&input, got, &mut out);
     io::write_all(libc::STDOUT_FILENO, &out[..n]);
 }
