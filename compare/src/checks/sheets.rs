@@ -1,5 +1,5 @@
-//! The sheets of document 01 that can be read: their answers stand here as the document has them, so
-//! the crate is held to them too.
+//! The sheets of document 01 that can be read, and the inputs of docs/DIFFERENCES.md where the crate parts
+//! from the standard: their answers stand here as the documents have them, so the crate is held to them too.
 
 use crate::call::{Answer, Ask, Room};
 use crate::check::{Case, Plan, Source};
@@ -90,6 +90,51 @@ const SHEETS: [Sheet; 20] = [
     },
 ];
 
+const fn two_d(rows: u32) -> Settings {
+    settings(Encoding::Group3TwoD, 8, rows, true)
+}
+
+const fn aligned(settings: Settings) -> Settings {
+    Settings { aligned: true, ..settings }
+}
+
+const fn wide(columns: u32) -> Settings {
+    settings(Encoding::Group3OneD, columns, 1, true)
+}
+
+/// In the order of docs/DIFFERENCES.md.
+#[rustfmt::skip]
+const PARTINGS: [Sheet; 25] = [
+    white(wide(128), &[0xDE, 0xCD, 0x40], answer(0, 1, 0, 0, 3), &[0]),
+    white(wide(2624), &[0xD8, 0x0F, 0x9A, 0x80], answer(0, 1, 0, 0, 4), &[0]),
+    white(one_d(1, true), &[0x00, 0xF0], answer(1, 0, 0, 0, 0), &[]),
+    white(group4(8, 1, true), &[0x03, 0xC0], answer(1, 0, 0, 0, 0), &[]),
+    white(one_d(1, true), &[0x80, 0xDF, 0x00], answer(0, 1, 0, 0, 3), &[0]),
+    white(group4(8, 1, true), &[0x26, 0xA1, 0xBC], answer(0, 1, 0, 0, 3), &[0]),
+    white(group4(8, 1, true), &[0x10], answer(0, 1, 0, 0, 1), &[0]),
+    white(group4(8, 1, true), &[0x33, 0x0D, 0xC0], answer(0, 1, 0, 0, 3), &[0]),
+    Sheet {
+        settings: group4(8, 2, true), src: &[0x2E, 0xA0, 0xE0], room: PLENTY,
+        answer: answer(0, 2, 3, 0, 3), changes: &[2, 3, 5], ends: &[2, 3],
+    },
+    white(group4(8, 1, true), &[0x00, 0x18], answer(0, 1, 0, 0, 2), &[0]),
+    white(with_end(group4(8, 0, true)), &[0xFF], answer(0, 8, 0, 0, 1), &[0; 8]),
+    white(group4(8, 0, true), &[0x80, 0x08, 0x00, 0x80], answer(1, 1, 0, 0, 0), &[0]),
+    white(aligned(group4(8, 2, true)), &[0x80, 0x80], answer(0, 2, 0, 0, 2), &[0; 2]),
+    white(with_end(group4(8, 0, true)), &[0x80, 0x08, 0x00, 0x80, 0xFF], answer(0, 1, 0, 0, 4), &[0]),
+    white(group4(8, 1, true), &[0xFF], answer(0, 1, 0, 0, 1), &[0]),
+    white(one_d(1, true), &[0x98], answer(0, 1, 0, 0, 1), &[0]),
+    white(with_end(one_d(2, true)), &[0x00, 0x19, 0x80, 0x08, 0x00, 0xCC], answer(0, 2, 0, 0, 6), &[0; 2]),
+    white(with_end(one_d(0, true)), &[0x00, 0x19, 0x80, 0x01], answer(0, 1, 0, 0, 4), &[0]),
+    white(with_end(one_d(0, true)), &[0x00, 0x19, 0x80, 0x08, 0x00, 0x80, 0x08, 0x00, 0x80, 0x08, 0x00, 0x80, 0x08], answer(0, 1, 0, 0, 13), &[0]),
+    white(with_end(one_d(0, true)), &[0x00, 0x19, 0x80, 0x08, 0x00, 0x80, 0x08, 0x00, 0x80, 0x08, 0x00, 0x80, 0xFF], answer(0, 1, 0, 0, 12), &[0]),
+    white(with_end(one_d(0, true)), &[0x00, 0x10, 0x01, 0x00, 0x10, 0x01, 0x00, 0x10, 0x01], answer(2, 0, 0, 0, 0), &[]),
+    white(aligned(one_d(2, true)), &[0x98, 0x98], answer(0, 2, 0, 0, 2), &[0; 2]),
+    white(one_d(1, true), &[0x00, 0x00, 0x00, 0x00, 0x01, 0x98], answer(0, 1, 0, 0, 6), &[0]),
+    white(two_d(0), &[0x55], answer(0, 4, 0, 0, 1), &[0; 4]),
+    white(with_end(two_d(0)), &[0x00, 0x1C, 0xC0, 0x04, 0x00, 0x40, 0x04, 0x00, 0x40, 0x04, 0x00, 0x40], answer(0, 1, 0, 0, 12), &[0]),
+];
+
 pub struct Sheets;
 
 impl Source for Sheets {
@@ -98,14 +143,14 @@ impl Source for Sheets {
     }
 
     fn count(&self) -> u64 {
-        (SHEETS.len() + LINES.len()) as u64
+        (SHEETS.len() + PARTINGS.len() + LINES.len()) as u64
     }
 
     fn case(&self, index: u64, random: &mut Random) -> Case {
         let fill = random.next() as u32;
-        match SHEETS.get(index as usize) {
+        match SHEETS.iter().chain(&PARTINGS).nth(index as usize) {
             Some(sheet) => page_sheet(sheet, fill),
-            None => line_sheet(index as usize - SHEETS.len(), fill),
+            None => line_sheet(index as usize - SHEETS.len() - PARTINGS.len(), fill),
         }
     }
 }

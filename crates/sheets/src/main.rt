@@ -1,6 +1,6 @@
-// The sheets on the wall that are run (the others are proved), and the inputs where the crate parts from the standard: what reading
-// each of them answers. A line has the sheet's name; number, rows, entries, loose entries and bytes; and the changes, those of kept
-// rows first.
+// The sheets on the wall that are run (the others are proved), and the inputs where the crate, and so this work, parts from the standard
+// (docs/DIFFERENCES.md): what reading each of them answers. A line has the sheet's name; number, rows, entries, loose entries and bytes;
+// and the changes, those of kept rows first.
 use error::Answer;
 use libc::STDOUT_FILENO;
 use rows::DecodeSettings;
@@ -133,47 +133,151 @@ fn group3_sheets() {
     );
 }
 
-fn group3_block() -> DecodeSettings {
+// Settings for an input that parts from the standard: it is read all the same, though strictly.
+fn strictly(
+    encoding: EncodingMode,
+    columns: u32,
+    rows: u32,
+    end_of_block: bool,
+    aligned: bool,
+) -> DecodeSettings {
     DecodeSettings {
-        columns: 8,
-        rows: 0,
-        end_of_block: true,
+        columns: columns,
+        rows: rows,
+        end_of_block: end_of_block,
         end_of_line: false,
-        rows_are_byte_aligned: false,
-        encoding: EncodingMode::Group3_1D,
+        rows_are_byte_aligned: aligned,
+        encoding: encoding,
         strict: true,
     }
 }
 
-// Where the crate, and so this work, parts from the standard (docs/DIFFERENCES.md).
-fn partings() {
-    let mut two = [0u32; 2];
-    let mut end = [0u32; 1];
-    sheet(
-        b"an EOL in Group 4",
-        b"\x00\x18",
-        group4(true),
-        &mut two,
-        &mut end,
+fn parting(name: &[u8], src: &[u8], settings: DecodeSettings) {
+    let mut changes = [0u32; 4];
+    let mut ends = [0u32; 8];
+    sheet(name, src, settings, &mut changes, &mut ends);
+}
+
+fn group4_parting(name: &[u8], src: &[u8], rows: u32, end_of_block: bool, aligned: bool) {
+    parting(
+        name,
+        src,
+        strictly(EncodingMode::Group4, 8, rows, end_of_block, aligned),
     );
-    sheet(
+}
+
+fn group3_parting(name: &[u8], src: &[u8], rows: u32, end_of_block: bool, aligned: bool) {
+    parting(
+        name,
+        src,
+        strictly(EncodingMode::Group3_1D, 8, rows, end_of_block, aligned),
+    );
+}
+
+fn group3_2d_parting(name: &[u8], src: &[u8], rows: u32, end_of_block: bool) {
+    parting(
+        name,
+        src,
+        strictly(EncodingMode::Group3_2D, 8, rows, end_of_block, false),
+    );
+}
+
+// Codes of runs and of lines.
+fn code_partings() {
+    parting(
+        b"64 and 64",
+        b"\xDE\xCD\x40",
+        strictly(EncodingMode::Group3_1D, 128, 1, false, false),
+    );
+    parting(
+        b"64 before 2560",
+        b"\xD8\x0F\x9A\x80",
+        strictly(EncodingMode::Group3_1D, 2624, 1, false, false),
+    );
+    group3_parting(b"extension in 1D", b"\x00\xF0", 1, false, false);
+    group4_parting(b"uncompressed mode", b"\x03\xC0", 1, false, false);
+    group3_parting(b"no black between", b"\x80\xDF\x00", 1, false, false);
+    group4_parting(
         b"two runs of nothing, strict",
         b"\x26\xA1\xBC",
-        group4(true),
-        &mut two,
-        &mut end,
+        1,
+        false,
+        false,
     );
-    sheet(
+    group4_parting(b"pass to the end", b"\x10", 1, false, false);
+    group4_parting(b"horizontal for V0", b"\x33\x0D\xC0", 1, false, false);
+    group4_parting(b"VR3 past b2", b"\x2E\xA0\xE0", 2, false, false);
+}
+
+// What stands between the lines of a Group 4 page, and at its end.
+fn group4_partings() {
+    group4_parting(b"an EOL in Group 4", b"\x00\x18", 1, false, false);
+    group4_parting(b"no EOFB", b"\xFF", 0, true, false);
+    group4_parting(
+        b"EOFB without end_of_block",
+        b"\x80\x08\x00\x80",
+        0,
+        false,
+        false,
+    );
+    group4_parting(b"aligned Group 4", b"\x80\x80", 2, false, true);
+    group4_parting(b"bits behind EOFB", b"\x80\x08\x00\x80\xFF", 0, true, false);
+    group4_parting(b"bits behind the rows", b"\xFF", 1, false, false);
+}
+
+// The same of a Group 3 page.
+fn group3_partings() {
+    group3_parting(b"no EOL", b"\x98", 1, false, false);
+    group3_parting(
+        b"two EOLs in a row",
+        b"\x00\x19\x80\x08\x00\xCC",
+        2,
+        true,
+        false,
+    );
+    group3_parting(b"no RTC", b"\x00\x19\x80\x01", 0, true, false);
+    group3_parting(
         b"seven EOLs as RTC",
         b"\x00\x19\x80\x08\x00\x80\x08\x00\x80\x08\x00\x80\x08",
-        group3_block(),
-        &mut two,
-        &mut end,
+        0,
+        true,
+        false,
+    );
+    group3_parting(
+        b"bits behind RTC",
+        b"\x00\x19\x80\x08\x00\x80\x08\x00\x80\x08\x00\x80\xFF",
+        0,
+        true,
+        false,
+    );
+    group3_parting(
+        b"RTC alone",
+        b"\x00\x10\x01\x00\x10\x01\x00\x10\x01",
+        0,
+        true,
+        false,
+    );
+    group3_parting(b"aligned Group 3", b"\x98\x98", 2, false, true);
+    group3_parting(
+        b"fill before the page",
+        b"\x00\x00\x00\x00\x01\x98",
+        1,
+        false,
+        false,
+    );
+    group3_2d_parting(b"2D lines alone", b"\x55", 0, false);
+    group3_2d_parting(
+        b"RTC without tags",
+        b"\x00\x1C\xC0\x04\x00\x40\x04\x00\x40\x04\x00\x40",
+        0,
+        true,
     );
 }
 
 fn main() {
     group4_sheets();
     group3_sheets();
-    partings();
+    code_partings();
+    group4_partings();
+    group3_partings();
 }
