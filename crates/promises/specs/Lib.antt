@@ -3,5 +3,8 @@ pub mod Demand1Line
 pub mod Demand1Write
 pub mod Demand2
 pub mod Demand3
+pub mod OneAnswer
 pub mod Pinned
+pub mod PinnedInside
+pub mod PinnedAround
 pub mod Beyond

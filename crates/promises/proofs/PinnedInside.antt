@@ -1,0 +1,142 @@
+-- The contracts of the inner functions settle their answers, but for what a buffer holds far ahead and from where the next search starts. Assumes nothing.
+use mathlib.Core.Path.{_≡_, refl, sym, _∙_, ap}
+use mathlib.Core.List.{List}
+use mathlib.Core.Option.{Option, none, some}
+use Prim.Native.Nat.{ℕ, zero, suc, _+_, _*_, _<_}
+use native.Mathlib.Omega.{arith}
+use lib.IntN.{pos, negsuc}
+use lib.ListN.{length, drop}
+use Rattle.rules.specs.Bits.{bitsOf, peek}
+use Rattle.rules.specs.Runs.{Res, ok, fault, Sum, sum, readRun}
+use Rattle.rules.specs.Modes as Rule
+use Rattle.rules.specs.Modes.{pass, horizontal, VR, VL, Moded}
+use Rattle.error.specs.Error.{numberOf}
+use Rattle.error.specs.declared.DecodeError.{DecodeError}
+use Rattle.error.specs.declared.DecodeError.the-variants.{UnexpectedEof, InvalidCode, Overflow}
+use Rattle.bit_reader.specs.Loaded.{Loaded, LoadedAt}
+use Rattle.bit_reader.specs.declared.buffer.Buffer.{Buffer}
+use Rattle.bit_reader.specs.declared.buffer.Fed.the-variants.{On, End}
+use Rattle.codes.specs.Eols.{eolsOf, skipOf}
+use Rattle.codes.specs.Modes.{modeOf}
+use Rattle.codes.specs.Runs.{runOf, LoadedAfter}
+use Rattle.codes.specs.declared.eol.Skip.{Skip}
+use Rattle.codes.specs.declared.eol.Skip.the-variants.{To, Nowhere}
+use Rattle.codes.specs.declared.mode.Mode.{Mode}
+use Rattle.codes.specs.declared.mode.Mode.the-variants as Code
+use Rattle.codes.specs.declared.mode.Mode.the-variants.{Pass, Horizontal, Vertical}
+use Rattle.codes.specs.declared.run.Run.{Run}
+use Rattle.codes.specs.declared.run.Run.the-variants.{Length, Bad}
+use Rattle.promises.specs.PinnedInside as Pinned
+use Rattle.promises.specs.PinnedInside.{Alike, AlikeRuns}
+use Rattle.promises.proofs.OneAnswer.{settled, settled-with, settled-by}
+
+-- ---- tables
+
+pub code-pinned : Pinned.CodePinned
+code-pinned c = settled (λ r g i. record { size = g .same-size i; word = g .same-word i })
+
+-- ---- bit_reader
+
+pub peek13-pinned : Pinned.Peek13Pinned
+peek13-pinned bs = settled (λ r g. g .value)
+
+pub top13-pinned : Pinned.Top13Pinned
+top13-pinned bytes b l = settled (λ r g. g .value bytes l)
+
+-- buffers that hold the same data at one bit
+alike : (bytes : List ℕ) (b c : Buffer) → Loaded bytes b → Loaded bytes c → b .at ≡ c .at → Alike b c
+alike bytes b c l m e =
+    record { place = e; top = λ r s g h. g .value bytes l ∙ ap (λ (at : ℕ). peek 13 (drop at (bitsOf bytes))) e ∙ sym (h .value bytes m) }
+
+pub load-pinned : Pinned.LoadPinned
+load-pinned bytes at b c g h = alike bytes b c (g .loaded) (h .loaded) (g .place ∙ sym (h .place))
+
+-- a buffer at a bit is inside the data
+not-behind : {A : Type 0} (bytes : List ℕ) (at next : ℕ) (b : Buffer) → LoadedAt bytes at b → at ≡ next → 8 * length bytes < next → A
+not-behind bytes at next b g e h = absurd (omega arith)
+
+pub feed-pinned : Pinned.FeedPinned
+feed-pinned bytes b c n (On x) (On y) e g h = alike bytes x y (g .loaded) (h .loaded) (g .place ∙ ap (λ (at : ℕ). at + n) e ∙ sym (h .place))
+feed-pinned bytes b c n (On x) End e g h = not-behind bytes (b .at + n) (c .at + n) x g (ap (λ (at : ℕ). at + n) e) h
+feed-pinned bytes b c n End (On y) e g h = not-behind bytes (c .at + n) (b .at + n) y h (ap (λ (at : ℕ). at + n) (sym e)) g
+feed-pinned bytes b c n End End e g h = tt
+
+-- ---- codes
+
+-- the error of a number
+abbrev errorFrom : ℕ → DecodeError
+errorFrom zero = InvalidCode
+errorFrom (suc zero) = InvalidCode
+errorFrom (suc (suc zero)) = UnexpectedEof
+errorFrom (suc (suc (suc n))) = Overflow
+
+error-back : (e : DecodeError) → errorFrom (numberOf e) ≡ e
+error-back InvalidCode = refl
+error-back UnexpectedEof = refl
+error-back Overflow = refl
+
+runs-alike : (bytes : List ℕ) (r s : Run) → LoadedAfter bytes r → LoadedAfter bytes s → runOf r ≡ runOf s → AlikeRuns r s
+runs-alike bytes (Length n b) (Length m c) l k e = let q : sum (b .at) n ≡ sum (c .at) m = cc in (ap (λ (t : Sum). t .total) q, alike bytes b c l k (ap (λ (t : Sum). t .at) q))
+runs-alike bytes (Length n b) (Bad f place) l k e = let z : _≡_ {A = ℕ} 0 1 = cc in omega arith
+runs-alike bytes (Bad f place) (Length m c) l k e = let z : _≡_ {A = ℕ} 0 1 = cc in omega arith
+runs-alike bytes (Bad f place) (Bad g other) l k e =
+    let q : numberOf f ≡ numberOf g = cc in (sym (error-back f) ∙ ap errorFrom q ∙ error-back g, cc)
+
+pub read-run-pinned : Pinned.ReadRunPinned
+read-run-pinned colour bytes b c r s e g h = runs-alike bytes r s (g .loaded) (h .loaded) (g .same ∙ ap (readRun colour (bitsOf bytes)) e ∙ sym (h .same))
+
+-- the answer that has a mode as its meaning; none has 0 to the left
+abbrev modeAt : ℕ → Rule.Mode → Mode
+modeAt next pass = Pass next
+modeAt next horizontal = Horizontal next
+modeAt next (VR k) = Vertical (pos k) next
+modeAt next (VL zero) = Pass next
+modeAt next (VL (suc k)) = Vertical (negsuc k) next
+
+abbrev modeFrom : Res Moded → Mode
+modeFrom (ok m) = modeAt (m .at) (m .mode)
+modeFrom (fault n place) = Code.Bad (errorFrom n)
+
+mode-back : (at : ℕ) (r : Mode) → modeFrom (modeOf at r) ≡ r
+mode-back at (Pass next) = refl
+mode-back at (Horizontal next) = refl
+mode-back at (Vertical (pos k) next) = refl
+mode-back at (Vertical (negsuc k) next) = refl
+mode-back at (Code.Bad e) = ap Code.Bad (error-back e)
+
+pub read-mode-pinned : Pinned.ReadModePinned
+read-mode-pinned bytes at = settled-by (modeOf at) modeFrom (mode-back at) _
+
+pub read-eols-pinned : Pinned.ReadEolsPinned
+read-eols-pinned bytes from most = settled-by eolsOf (λ e. record { count = e .count; at = e .at }) (λ r. refl) _
+
+abbrev skipFrom : Option ℕ → Skip
+skipFrom (some at) = To at
+skipFrom none = Nowhere
+
+skip-back : (r : Skip) → skipFrom (skipOf r) ≡ r
+skip-back (To at) = refl
+skip-back Nowhere = refl
+
+pub skip-to-eol-pinned : Pinned.SkipToEolPinned
+skip-to-eol-pinned bytes from = settled-by skipOf skipFrom skip-back _
+
+-- ---- context
+
+-- whatever bit the line stands at, and whatever place a fault would have
+pub push-pixels-pinned : Pinned.PushPixelsPinned
+push-pixels-pinned xs l count strict = settled-with (λ r ys g. (g 0 0 .answer, g 0 0 .store))
+
+pub find-pinned : Pinned.FindPinned
+find-pinned reference width position colour r s g h = (g .b1-is ∙ sym (h .b1-is), g .b2-is ∙ sym (h .b2-is))
+
+pub steps-pinned : Pinned.StepsPinned
+steps-pinned width xs w = settled-with (λ r ys g. (g .answer, g .store))
+
+pub line-pinned : Pinned.LinePinned
+line-pinned base width xs w = settled-with (λ r ys g. (g .answer, g .store))
+
+-- ---- group4 and group3
+
+pub row-pinned : Pinned.RowPinned
+row-pinned base xs w = settled-with (λ r ys g. (g .answer, g .store))

@@ -1,0 +1,44 @@
+-- Pinning the answers down, of what stands around the decoder: the functions for C, the lent line, and the desk's.
+use mathlib.Core.Bool.{Bool, false}
+use mathlib.Core.List.{List}
+use Prim.Native.Nat.{ℕ}
+use Rattle.rows.specs.declared.EncodingMode.{EncodingMode}
+use Rattle.rows.specs.declared.EncodingMode.the-variants.{Group4}
+use Rattle.ccitt.specs.Decode.{Decodes}
+use Rattle.context.specs.declared.line.Line.{Line}
+use Rattle.exports.specs.Exports.{settingsFor}
+use Rattle.lent.specs.Lent.{Lends}
+use Rattle.lent.specs.declared.Pushed.{Pushed}
+use Rattle.desk.specs.Line.{Says}
+use Rattle.desk.specs.Listed.{Prints}
+use Rattle.promises.specs.OneAnswer.{OneAnswer, OneWith, OneWithTwo}
+
+-- ---- exports: the settings are those that a function's parameters stand for. The others have the contracts of read_line and the writers.
+
+-- ccitt_decode_group4
+abbrev pub ForCGroup4Pinned : Type 0
+ForCGroup4Pinned =
+    (src : List ℕ) (columns rows : ℕ) (block aligned strict : Bool) (changes ends : List ℕ)
+    → OneWithTwo (Decodes src (settingsFor columns rows block false aligned Group4 strict) changes ends)
+
+-- ccitt_decode_group3_1d and ccitt_decode_group3_2d
+abbrev pub ForCGroup3Pinned : Type 0
+ForCGroup3Pinned =
+    (encoding : EncodingMode) (src : List ℕ) (columns rows : ℕ) (block line aligned strict : Bool) (changes ends : List ℕ)
+    → OneWithTwo (Decodes src (settingsFor columns rows block line aligned encoding strict) changes ends)
+
+-- ---- lent
+
+-- push_line and first_run, whose answer holds the line; push_pixels has its own in Pinned
+abbrev pub PushLinePinned : Type 0
+PushLinePinned = (xs : List ℕ) (l : Line) (count : ℕ) (strict : Bool) → OneWith (λ (r : Pushed) (ys : List ℕ). Lends xs l count strict (r .number) (r .line) ys)
+
+-- ---- desk
+
+-- parse: the settings and where the data begins, or that the bytes begin with no line of settings
+abbrev pub ParsePinned : Type 0
+ParsePinned = (bytes : List ℕ) → OneAnswer (Says bytes)
+
+-- list and bad_input: the text's length, and every byte of the array, also behind the text
+abbrev pub PrintsPinned : Type 0
+PrintsPinned = (before text : List ℕ) → OneWith (Prints before text)
