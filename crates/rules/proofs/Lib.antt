@@ -25,3 +25,6 @@ pub mod Writes
 pub mod RoundTrip
 pub mod Pages
 pub mod Store
+pub mod Within
+pub mod LessRoom
+pub mod Rooms

@@ -1,0 +1,411 @@
+-- What a smaller room gives: a page, and a line by itself, read into less room are those read into more, cut by the one rule `within`. And when 4 and 5 are given: no entry, or
+-- no row end, is left, and more of them would be filled; so with room for all that the bits can hold neither is ever given. Assumes nothing.
+use mathlib.Core.Path.{_≡_, refl, sym, ap, _∙_, subst}
+use mathlib.Core.Logic.{⊎-elim}
+use mathlib.Core.Bool.{Bool, true, false, cond}
+use mathlib.Core.List.{List, [], _∷_, _++_, append-assoc, append-nil}
+use Prim.Native.Nat.{ℕ, zero, suc, min, _+_, _-_, _*_, _≤_, _<_}
+use native.Mathlib.Omega.{arith}
+use lib.Dec.{eqb, leb, ltb}
+use lib.ListN.{length, take, length-append, drop-of-length-le}
+use borrow.Author.Tests.{ltb-true, ltb-false, leb-true, eqb-false}
+use Rattle.rules.specs.Machine.{Out, more, done, ends}
+use Rattle.rules.specs.Bits.{bitsOf}
+use Rattle.rules.specs.Lines.{Rules, Went, went, failed, two, readLine}
+use Rattle.rules.specs.Rows.{Encoding, group4, group3-1D, group3-2D, Settings, State, pageStart, RowOut, row, stop, rulesOf, finished}
+use Rattle.rules.specs.Group4.{eolsBefore, afterLine4, row4}
+use Rattle.rules.specs.Group3.{Tagging, untagged, tagged, line3, kept, afterLine3, row3}
+use Rattle.rules.specs.Pages.{Answer, Kept, entries, rowsLeft, pageOf, rowOf, readPage, mostBytes, tooWide, ascends, decode, oneLine, readOneLine}
+use Rattle.rules.proofs.Bits.{length-bitsOf}
+use Rattle.rules.proofs.Machine.{Falls, ends-more, ends-done, ends-ind, ends-stops}
+use Rattle.rules.proofs.PageBack.{entries-snoc}
+use Rattle.rules.proofs.Ascending.{rises-length}
+use Rattle.rules.proofs.Lines.{read-whole, read-broken, data-bound}
+use Rattle.rules.proofs.Eols.{eols-ahead, reaches}
+use Rattle.rules.proofs.Budget.{Budgeted, Budget, Due, Bytes, Starts, Sets, before-sets}
+use Rattle.rules.proofs.Rows.{row4-cases, row3-cases, mended-cases, line3-damaged}
+use Rattle.rules.proofs.Pages.{Does, Fitting, row-does, Held, held-start, held-next, read-answered, step, page-cases, page-kept, page-full, page-stopped, page-falls}
+use Rattle.rules.proofs.LessRoom.{Cut, same, short, line-cut, Fills, line-fills, changesIn, RowFills, row-fills, RowCut, row-cut, row-cut-cases}
+use Rattle.rules.proofs.Within.{four, five, withinFrom, within, within-all, within-loose, within-four, within-five, within-kept, Cuts, cuts, cuts-four, cuts-five}
+
+-- ---- A page with less room
+
+module _ (S : Settings) (wide : 0 < S .columns) (bs : List Bool) (bytes : Bytes bs) (store store′ places places′ : ℕ) (le : store ≤ store′) (le′ : places ≤ places′) where
+  abbrev small : Kept → Out Kept Answer
+  small = step (S .encoding) S wide bs bytes store places
+
+  abbrev large : Kept → Out Kept Answer
+  large = step (S .encoding) S wide bs bytes store′ places′
+
+  small-falls : Falls small (rowsLeft bs)
+  small-falls = page-falls (S .encoding) S wide bs bytes store places
+
+  abbrev rowIn : ℕ → Kept → RowOut
+  rowIn n k = rowOf (S .encoding) S bs (n - entries (k .rows)) (k .state)
+
+  -- from rows that are kept in both: the larger room's answer has them, and then others, and the smaller room cuts it
+  abbrev Cutting : Kept → Answer → Type 0
+  Cutting k a =
+      (rest : List (List ℕ)) × (a .rows ≡ k .rows ++ rest)
+      × (entries (k .rows) ≤ store → length (k .rows) ≤ places → ends small (rowsLeft bs) k ≡ done (withinFrom store places a (k .rows) rest))
+
+  module _ (k : Kept) where
+    abbrev left : ℕ
+    left = store - entries (k .rows)
+
+    -- the next row, by the room that is left for it
+    less : (o : RowOut) (G : Type 0) → rowIn store′ k ≡ o → (length (changesIn o) ≤ left → rowIn store k ≡ o → G)
+        → (left < length (changesIn o) → rowIn store k ≡ stop 4 0 0 (take left (changesIn o)) → G) → G
+    less o G e fits over =
+        row-cut-cases (λ u. rowIn store k ≡ u → G)
+        (subst (RowCut left (rowIn store k)) e (row-cut S bs left (store′ - entries (k .rows)) (omega arith) (S .encoding) (k .state))) fits over refl
+
+    abbrev Done : Answer → List (List ℕ) → Type 0
+    Done a rest = ends small (rowsLeft bs) k ≡ done (withinFrom store places a (k .rows) rest)
+
+    ends-with : (a b : Answer) → small k ≡ done b → a ≡ b → ends small (rowsLeft bs) k ≡ done a
+    ends-with a b e q = ends-done small (rowsLeft bs) small-falls k b e ∙ ap done (sym q)
+
+    -- the larger room has no row end left
+    full : (r : List ℕ) (next : State) → rowIn store′ k ≡ row r next → places′ ≤ length (k .rows) → Cutting k (five (k .rows) r)
+    full r next e l = (
+      [],
+      sym (append-nil (k .rows)),
+      λ h i. less (row r next) (Done (five (k .rows) r) []) e
+          (λ f q. ends-with _ (five (k .rows) r) (page-full (S .encoding) S wide bs bytes store places k r next q (omega arith)) (within-all store places (five (k .rows) r) (k .rows) f))
+          (λ f q. ends-with _ (four (k .rows) (take left r)) (page-stopped (S .encoding) S wide bs bytes store places k 4 0 0 (take left r) q) (within-loose store places (five (k .rows) r) (k .rows) f)),
+    )
+
+    -- the page ends in it
+    ended : (n place b : ℕ) (loose : List ℕ) → rowIn store′ k ≡ stop n place b loose → Cutting k (record { number = n; place = place; bytes = b; rows = k .rows; loose = loose })
+    ended n place b loose e = (
+      [],
+      sym (append-nil (k .rows)),
+      λ h i. less (stop n place b loose) (Done a []) e
+          (λ f q. ends-with _ a (page-stopped (S .encoding) S wide bs bytes store places k n place b loose q) (within-all store places a (k .rows) f))
+          (λ f q. ends-with _ (four (k .rows) (take left loose)) (page-stopped (S .encoding) S wide bs bytes store places k 4 0 0 (take left loose) q) (within-loose store places a (k .rows) f)),
+    )
+      where
+        a : Answer
+        a = record { number = n; place = place; bytes = b; rows = k .rows; loose = loose }
+
+    -- it keeps a row
+    keeps : (r : List ℕ) (next : State) (a : Answer) → rowIn store′ k ≡ row r next → Cutting (record { state = next; rows = k .rows ++ r ∷ [] }) a → Cutting k a
+    keeps r next a e (rest, x, f) = (
+      r ∷ rest,
+      x ∙ append-assoc (k .rows) (r ∷ []) rest,
+      λ h i. less (row r next) (Done a (r ∷ rest)) e
+          (λ g q. tests h g q (ltb (length (k .rows)) places) (ltb-true _ _) (ltb-false _ _))
+          (λ g q. ends-with _ (four (k .rows) (take left r)) (page-stopped (S .encoding) S wide bs bytes store places k 4 0 0 (take left r) q) (within-four store places a (k .rows) r rest g)),
+    )
+      where
+        tests : entries (k .rows) ≤ store → length r ≤ left → rowIn store k ≡ row r next → (b : Bool) → (b ≡ true → length (k .rows) < places) → (b ≡ false → places ≤ length (k .rows)) → Done a (r ∷ rest)
+        tests h g q true l m =
+            ends-more small (rowsLeft bs) small-falls k _ (page-kept (S .encoding) S wide bs bytes store places k r next q (l refl))
+            ∙ f (omega (arith, entries-snoc (k .rows) r)) (omega (arith, l refl, length-append (k .rows) (r ∷ [])))
+            ∙ ap done (sym (within-kept store places a (k .rows) r rest g (l refl)))
+        tests h g q false l m =
+            ends-with _ (five (k .rows) r) (page-full (S .encoding) S wide bs bytes store places k r next q (m refl)) (within-five store places a (k .rows) r rest g (m refl))
+
+  base : (k : Kept) (a : Answer) → large k ≡ done a → Cutting k a
+  base k a =
+      page-cases (S .encoding) S wide bs bytes store′ places′ k (λ o. o ≡ done a → Cutting k a)
+      (λ r next e l q. absurd (let z : _≡_ {A = ℕ} 0 1 = cc in omega arith))
+      (λ r next e l q. subst (Cutting k) (let g : five (k .rows) r ≡ a = cc in g) (full k r next e l))
+      (λ n p b loose e q. subst (Cutting k) (let g : record { number = n; place = p; bytes = b; rows = k .rows; loose = loose } ≡ a = cc in g) (ended k n p b loose e))
+
+  onward : (k j : Kept) (a : Answer) → large k ≡ more j → Cutting j a → Cutting k a
+  onward k j a =
+      page-cases (S .encoding) S wide bs bytes store′ places′ k (λ o. o ≡ more j → Cutting j a → Cutting k a)
+      (λ r next e l q c. keeps k r next a e (subst (λ (x : Kept). Cutting x a) (let g : j ≡ record { state = next; rows = k .rows ++ r ∷ [] } = cc in g) c))
+      (λ r next e l q c. absurd (let z : _≡_ {A = ℕ} 0 1 = cc in omega arith))
+      (λ n p b loose e q c. absurd (let z : _≡_ {A = ℕ} 0 1 = cc in omega arith))
+
+  pub page-within : readPage S bs store places ≡ within store places (readPage S bs store′ places′)
+  unfolding readPage entries
+  page-within =
+      let k : Kept = record { state = pageStart; rows = [] } in
+      let p = ends-stops large (rowsLeft bs) (page-falls (S .encoding) S wide bs bytes store′ places′) k in
+      let c = ends-ind large Cutting base onward (rowsLeft bs) k (p .0) (p .1) in
+      ap pageOf (c .2 (omega arith) (omega arith))
+      ∙ ap (withinFrom store places (p .0) []) (sym (c .1))
+      ∙ ap (λ (o : Out Kept Answer). within store places (pageOf o)) (sym (p .1))
+
+-- ---- The entries of a page
+
+-- no budget allows more entries than twice the bits
+budget-few : (bs : List Bool) (at n : ℕ) (b : Bool) → at ≤ length bs → Budgeted bs at n b → n ≤ 2 * length bs
+budget-few bs at n true h w = omega (arith, w .0, reaches bs at .inside)
+budget-few bs at n false h w = omega (arith, h, w)
+
+module _ (S : Settings) (wide : 0 < S .columns) (bs : List Bool) (bytes : Bytes bs) (room : ℕ) (st : State) (inside : st .at ≤ length bs) where
+  abbrev Does′ : RowOut → Type 0
+  Does′ = Does S bs room st
+
+  -- nor do a row's, or the loose ones', behind the entries before it
+  abbrev Few : RowOut → Type 0
+  Few o = (m : ℕ) → (st .count ≡ 0 → m ≡ 0) → Budget bs st m → m + length (changesIn o) ≤ 2 * length bs
+
+  row-few : (r : List ℕ) (next : State) → Does′ (row r next) → Few (row r next)
+  row-few r next d m z b = budget-few bs (next .at) (m + length r) (next .eols) (d .inside) (d .budget m z b)
+
+  none-few : (o : RowOut) → changesIn o ≡ [] → Few o
+  none-few o e m z w = omega (arith, ap length e, budget-few bs (st .at) m (st .eols) inside w)
+
+  row4-few : st .eols ≡ false → Does′ (row4 S bs room st) → Few (row4 S bs room st)
+  row4-few plain = row4-cases S bs room st (λ o. Does′ o → Few o) (λ e d. none-few (finished at4) refl) (λ e. cases)
+    where
+      at4 : ℕ
+      at4 = eolsBefore S bs st .at
+
+      cases : (w : Went) → readLine (rulesOf S room) (two (st .reference)) bs at4 ≡ w → Does′ (afterLine4 S bs st w) → Few (afterLine4 S bs st w)
+      cases (went l) e d = row-few (l .changes) _ d
+      cases (failed n p l) e d = λ m z b.
+          let a = eols-ahead (cond (S .endOfBlock) 2 (length bs)) bs (st .at) in
+          let f = read-broken (rulesOf S room) wide (two (st .reference)) bs at4 (length bs) (data-bound bs) (a .inside inside) n p l e in
+          let v : m ≤ st .at + (length bs - 1) = subst (Budgeted bs (st .at) m) plain b in
+          omega (arith, a .forward, f .line .few, f .line .inside)
+
+  row3-few : (t : Tagging) → Does′ (row3 S t bs room st) → Few (row3 S t bs room st)
+  row3-few t =
+      row3-cases S t bs room st (λ o. Does′ o → Few o) (λ at e d. none-few (finished at) refl) (λ at e d. none-few (stop 1 at 0 []) refl)
+      (λ at expected e. cases at expected (subst (Sets S t bs bytes st) e (before-sets S t bs bytes st)))
+    where
+      R : Rules
+      R = rulesOf S room
+
+      -- behind a line at which EOLs are expected the entries before it are no more than the bits
+      mended-few : (at : ℕ) (expected : Bool) → Starts bs st at expected → expected ≡ true → (w : Went) → Does′ (kept S t bs st expected at w) → Few (kept S t bs st expected at w)
+      mended-few at expected f q (went u) d = row-few (u .changes) _ d
+      mended-few at expected f q (failed n p u) d = λ m z b. let v : m ≤ at = subst (Due bs at m) q (f .due m z b) in omega (arith, d .short, f .inside inside)
+
+      due-few : (at m : ℕ) (b : Bool) → Due bs at m b → m ≤ at + length bs
+      due-few at m true d = omega (arith, d)
+      due-few at m false d = omega (arith, d)
+
+      cases : (at : ℕ) (expected : Bool) → Starts bs st at expected → (w : Went) → line3 S t bs R (st .reference) at t ≡ w
+          → Does′ (afterLine3 S t bs R st at expected w) → Few (afterLine3 S t bs R st at expected w)
+      cases at expected f (went l) e = λ d. row-few (l .changes) _ d
+      cases at expected f (failed n p l) e =
+          let g = line3-damaged S t bs R wide (st .reference) at (f .inside inside) n p l e in
+          let i = reaches bs at .inside in
+          mended-cases S t bs R st at expected n p l (λ o. Does′ o → Few o) (λ q s h w c. mended-few at expected f q w)
+          (λ d m z b. omega (arith, due-few at m expected (f .due m z b), g .line .few, g .line .inside))
+
+  any-few : (enc : Encoding) → Fitting enc (st .eols) → Does′ (rowOf enc S bs room st) → Few (rowOf enc S bs room st)
+  unfolding rowOf
+  any-few group4 f = row4-few f
+  any-few group3-1D f = row3-few untagged
+  any-few group3-2D f = row3-few tagged
+
+-- ---- When 4 and 5 are given
+
+module _ (S : Settings) (wide : 0 < S .columns) (bs : List Bool) (bytes : Bytes bs) (store places : ℕ) where
+  -- 4 only where no entry is left, 5 only where no row end is; and never more entries than twice the bits
+  pub record Used (a : Answer) : Type 0 where
+    pub four : a .number ≡ 4 → entries (a .rows) + length (a .loose) ≡ store
+    pub five : a .number ≡ 5 → length (a .rows) ≡ places
+    pub few : entries (a .rows) + length (a .loose) ≤ 2 * length bs
+
+  abbrev Held′ : Kept → Type 0
+  Held′ = Held (S .encoding) S wide bs bytes store places
+
+  abbrev rowFor : Kept → RowOut
+  rowFor k = rowOf (S .encoding) S bs (store - entries (k .rows)) (k .state)
+
+  used-last : (k : Kept) (a : Answer) → step (S .encoding) S wide bs bytes store places k ≡ done a → Held′ k → Used a
+  unfolding entries
+  used-last k a =
+      page-cases (S .encoding) S wide bs bytes store places k (λ o. o ≡ done a → Held′ k → Used a)
+      (λ r next e l q h. absurd (let z : _≡_ {A = ℕ} 0 1 = cc in omega arith))
+      (λ r next e l q h. subst Used (let g : record { number = 5; place = 0; bytes = 0; rows = k .rows; loose = r } ≡ a = cc in g)
+      (record { four = λ z. absurd (omega arith); five = λ z. omega (arith, h .placed); few = few-of h (row r next) e }))
+      (λ n p b loose e q h. subst Used (let g : record { number = n; place = p; bytes = b; rows = k .rows; loose = loose } ≡ a = cc in g)
+      (stopped h n p b loose e))
+    where
+      does : Held′ k → Does S bs (store - entries (k .rows)) (k .state) (rowFor k)
+      does h = row-does S wide bs bytes (store - entries (k .rows)) (k .state) (S .encoding) (h .fitting) (h .inside)
+
+      few-of : Held′ k → (o : RowOut) → rowFor k ≡ o → entries (k .rows) + length (changesIn o) ≤ 2 * length bs
+      few-of h o e =
+          subst (λ (u : RowOut). entries (k .rows) + length (changesIn u) ≤ 2 * length bs) e
+          (any-few S wide bs bytes (store - entries (k .rows)) (k .state) (h .inside) (S .encoding) (h .fitting) (does h) (entries (k .rows)) (λ z. ap entries (drop-of-length-le (k .rows) {i = 0} (omega (arith, h .counted)))) (h .budget))
+
+      stopped : Held′ k → (n p b : ℕ) (loose : List ℕ) → rowFor k ≡ stop n p b loose → Used (record { number = n; place = p; bytes = b; rows = k .rows; loose = loose })
+      stopped h n p b loose e =
+          let m = subst (Does S bs (store - entries (k .rows)) (k .state)) e (does h) in
+          let f = subst (RowFills (store - entries (k .rows))) e (row-fills S bs (store - entries (k .rows)) (S .encoding) (k .state)) in
+          record { four = λ z. omega (arith, f z, m .roomy, h .roomy); five = λ z. absurd (omega (arith, m .numbered)); few = few-of h (stop n p b loose) e }
+
+  pub page-used : Used (readPage S bs store places)
+  unfolding readPage
+  page-used =
+      let k : Kept = record { state = pageStart; rows = [] } in
+      let s = step (S .encoding) S wide bs bytes store places in
+      let p = ends-stops s (rowsLeft bs) (page-falls (S .encoding) S wide bs bytes store places) k in
+      subst (λ (o : Out Kept Answer). Used (pageOf o)) (sym (p .1))
+      (ends-ind s (λ k a. Held′ k → Used a) used-last (λ k j a e f h. f (held-next (S .encoding) S wide bs bytes store places k j h e)) (rowsLeft bs) k (p .0) (p .1) (held-start (S .encoding) S wide bs bytes store places))
+
+-- ---- The answers to bytes
+
+-- an answer with nothing in it, which is the same in any room
+abbrev nothing : ℕ → ℕ → Answer
+nothing n place = record { number = n; place = place; bytes = 0; rows = []; loose = [] }
+
+nothing-within : (store places n place : ℕ) → nothing n place ≡ within store places (nothing n place)
+nothing-within store places n place = sym (within-all store places (nothing n place) [] (omega arith))
+
+positive : (n : ℕ) → (n ≡ 0 → ⊥) → 0 < n
+positive zero z = absurd (z refl)
+positive (suc n) z = omega arith
+
+-- a refusal, whatever the room; or a page that is read
+decode-cases : (S : Settings) (bytes : List ℕ) (C : (ℕ → ℕ → Answer) → Type 0) → ((n : ℕ) → (n ≡ 4 → ⊥) → (n ≡ 5 → ⊥) → C (λ store places. nothing n 0))
+    → (0 < S .columns → C (readPage S (bitsOf bytes))) → C (decode S bytes)
+unfolding decode
+decode-cases S bytes C refused reads = tests (tooWide (S .columns)) refl (ltb mostBytes (length bytes)) refl (eqb (S .columns) 0) refl
+  where
+    tests : (a : Bool) → tooWide (S .columns) ≡ a → (b : Bool) → ltb mostBytes (length bytes) ≡ b → (c : Bool) → eqb (S .columns) 0 ≡ c → C (decode S bytes)
+    tests true e b f c g = rw (e, decode) (refused 6 (λ q. omega arith) (λ q. omega arith))
+    tests false e true f c g = rw (e, f, decode) (refused 7 (λ q. omega arith) (λ q. omega arith))
+    tests false e false f true g = rw (e, f, g, decode) (refused 0 (λ q. omega arith) (λ q. omega arith))
+    tests false e false f false g = rw (e, f, g, decode) (reads (positive (S .columns) (eqb-false (S .columns) 0 g)))
+
+whole-bytes : (bytes : List ℕ) → Bytes (bitsOf bytes)
+whole-bytes bytes = record { count = length bytes; whole = length-bitsOf bytes }
+
+-- 4 only where no entry is left, 5 only where no row end is; and what the data can hold at most
+pub record Spent (bytes : List ℕ) (store places : ℕ) (a : Answer) : Type 0 where
+  pub four : a .number ≡ 4 → entries (a .rows) + length (a .loose) ≡ store
+  pub five : a .number ≡ 5 → length (a .rows) ≡ places
+  pub few-entries : entries (a .rows) + length (a .loose) ≤ 16 * length bytes
+  pub few-rows : length (a .rows) ≤ 8 * length bytes + 1
+
+module _ (S : Settings) (bytes : List ℕ) where
+  -- What a smaller room gives is what a larger one gives, cut.
+  pub decode-within : (store store′ places places′ : ℕ) → store ≤ store′ → places ≤ places′ → decode S bytes store places ≡ within store places (decode S bytes store′ places′)
+  decode-within store store′ places places′ le le′ =
+      decode-cases S bytes (λ f. f store places ≡ within store places (f store′ places′)) (λ n p q. nothing-within store places n 0)
+      (λ wide. page-within S wide (bitsOf bytes) (whole-bytes bytes) store store′ places places′ le le′)
+
+  pub decode-spent : (store places : ℕ) → Spent bytes store places (decode S bytes store places)
+  unfolding entries
+  decode-spent store places =
+      decode-cases S bytes (λ f. Spent bytes store places (f store places))
+      (λ n p q. record { four = λ e. absurd (p e); five = λ e. absurd (q e); few-entries = omega arith; few-rows = omega arith })
+      (λ wide.
+      let u = page-used S wide (bitsOf bytes) (whole-bytes bytes) store places in
+      let a = read-answered (S .encoding) S wide (bitsOf bytes) (whole-bytes bytes) store places refl in
+      record { four = u .four; five = u .five; few-entries = omega (arith, u .few, length-bitsOf bytes); few-rows = omega (arith, a .few-rows, length-bitsOf bytes) })
+
+  module _ (store store′ places places′ : ℕ) (le : store ≤ store′) (le′ : places ≤ places′) where
+    -- the smaller answer, by cases
+    pub decode-cuts : Cuts store places (decode S bytes store′ places′) (decode S bytes store places)
+    decode-cuts = subst (Cuts store places (decode S bytes store′ places′)) (sym (decode-within store store′ places places′ le le′)) (cuts store places (decode S bytes store′ places′))
+
+    -- after 4, a longer array of changes takes more of them,
+    pub four-wants : store < store′ → decode S bytes store places .number ≡ 4 → store < entries (decode S bytes store′ places′ .rows) + length (decode S bytes store′ places′ .loose)
+    four-wants h q =
+        ⊎-elim (λ e. omega (arith, decode-spent store′ places′ .four (sym (ap (λ (x : Answer). x .number) e) ∙ q))) (λ l. l)
+        (cuts-four decode-cuts q)
+
+    -- and after 5 a longer array of ends more rows.
+    pub five-wants : places < places′ → decode S bytes store places .number ≡ 5 → places < length (decode S bytes store′ places′ .rows)
+    five-wants h q =
+        ⊎-elim (λ e. omega (arith, decode-spent store′ places′ .five (sym (ap (λ (x : Answer). x .number) e) ∙ q))) (λ l. l)
+        (cuts-five decode-cuts q)
+
+  -- So with room for all that the data can hold neither is given: one entry, or one end, more would be filled.
+  pub four-never : (store places : ℕ) → 16 * length bytes ≤ store → decode S bytes store places .number ≡ 4 → ⊥
+  four-never store places h q = omega (arith, four-wants store (suc store) places places (omega arith) (omega arith) (omega arith) q, decode-spent (suc store) places .few-entries)
+
+  pub five-never : (store places : ℕ) → 8 * length bytes + 1 ≤ places → decode S bytes store places .number ≡ 5 → ⊥
+  five-never store places h q = omega (arith, five-wants store store places (suc places) (omega arith) (omega arith) (omega arith) q, decode-spent store (suc places) .few-rows)
+
+-- ---- One line
+
+-- a line read whole is one row, so it is cut as a page is that has one row end
+line-within : {small : ℕ} {v w : Went} → Cut small v w → oneLine v ≡ within small 1 (oneLine w)
+unfolding entries
+line-within {small} (same {w = went l} h) =
+    sym (within-kept small 1 (oneLine (went l)) [] (l .changes) [] (omega arith) (omega arith) ∙ within-all small 1 (oneLine (went l)) (l .changes ∷ []) (omega arith))
+line-within {small} (same {w = failed n place l} h) = sym (within-all small 1 (oneLine (failed n place l)) [] (omega arith))
+line-within {small} (short {w = went l} h e) =
+    ap (four []) (e ∙ ap (λ (n : ℕ). take n (l .changes)) (let q : small ≡ small - 0 = omega arith in q)) ∙ sym (within-four small 1 (oneLine (went l)) [] (l .changes) [] (omega arith))
+line-within {small} (short {w = failed n place l} h e) =
+    ap (four []) (e ∙ ap (λ (n : ℕ). take n (l .changes)) (let q : small ≡ small - 0 = omega arith in q)) ∙ sym (within-loose small 1 (oneLine (failed n place l)) [] (omega arith))
+
+module _ (bytes : List ℕ) (at columns : ℕ) (strict : Bool) (reference : List ℕ) where
+  abbrev R : ℕ → Rules
+  R room = record { width = columns; strict = strict; room = room }
+
+  -- an answer with nothing in it, whatever the room; or a line that is read
+  one-cases : (C : (ℕ → Answer) → Type 0) → ((n place : ℕ) → (n ≡ 4 → ⊥) → (n ≡ 5 → ⊥) → C (λ room. nothing n place))
+      → (0 < columns → at ≤ length (bitsOf bytes) → C (λ room. oneLine (readLine (R room) (two reference) (bitsOf bytes) at)))
+      → C (readOneLine bytes at columns strict reference)
+  unfolding readOneLine
+  one-cases C empty reads = tests (eqb columns 0) refl (tooWide columns) refl (ltb mostBytes (length bytes)) refl (ascends columns reference) refl (leb at (length (bitsOf bytes))) refl
+    where
+      tests : (a : Bool) → eqb columns 0 ≡ a → (b : Bool) → tooWide columns ≡ b → (c : Bool) → ltb mostBytes (length bytes) ≡ c → (d : Bool) → ascends columns reference ≡ d
+          → (e : Bool) → leb at (length (bitsOf bytes)) ≡ e → C (readOneLine bytes at columns strict reference)
+      tests true p b q c r d s e t = rw (p, readOneLine) (empty 6 0 (λ z. omega arith) (λ z. omega arith))
+      tests false p true q c r d s e t = rw (p, q, readOneLine) (empty 6 0 (λ z. omega arith) (λ z. omega arith))
+      tests false p false q true r d s e t = rw (p, q, r, readOneLine) (empty 7 0 (λ z. omega arith) (λ z. omega arith))
+      tests false p false q false r false s e t = rw (p, q, r, s, readOneLine) (empty 8 0 (λ z. omega arith) (λ z. omega arith))
+      tests false p false q false r true s false t = rw (p, q, r, s, t, readOneLine) (empty 2 (length (bitsOf bytes)) (λ z. omega arith) (λ z. omega arith))
+      tests false p false q false r true s true t =
+          rw (p, q, r, s, t, readOneLine) (reads (positive columns (eqb-false columns 0 p)) (leb-true at (length (bitsOf bytes)) t))
+
+  -- What a smaller array gives is what a larger one gives, cut.
+  pub one-within : (small large : ℕ) → small ≤ large → readOneLine bytes at columns strict reference small ≡ within small 1 (readOneLine bytes at columns strict reference large)
+  one-within small large le =
+      one-cases (λ f. f small ≡ within small 1 (f large)) (λ n place p q. nothing-within small 1 n place)
+      (λ wide i. line-within (line-cut columns strict small large le (two reference) (bitsOf bytes) at))
+
+  -- 4 only where no entry is left, 5 never; one row at most; no more changes than columns, nor than the bits from the line's first on
+  pub record LineSpent (room : ℕ) (a : Answer) : Type 0 where
+    pub four : a .number ≡ 4 → entries (a .rows) + length (a .loose) ≡ room
+    pub five : a .number ≡ 5 → ⊥
+    pub one-row : length (a .rows) ≤ 1
+    pub few : entries (a .rows) + length (a .loose) ≤ min columns (8 * length bytes - at)
+
+  pub one-spent : (room : ℕ) → LineSpent room (readOneLine bytes at columns strict reference room)
+  unfolding entries
+  one-spent room =
+      one-cases (λ f. LineSpent room (f room))
+      (λ n place p q. record { four = λ e. absurd (p e); five = q; one-row = omega arith; few = omega arith })
+      (λ wide i. cases wide i (readLine (R room) (two reference) (bitsOf bytes) at) refl (line-fills columns strict room (two reference) (bitsOf bytes) at))
+    where
+      cases : 0 < columns → at ≤ length (bitsOf bytes) → (w : Went) → readLine (R room) (two reference) (bitsOf bytes) at ≡ w → Fills room w → LineSpent room (oneLine w)
+      cases wide i (went l) e f =
+          let g = read-whole (R room) wide (two reference) (bitsOf bytes) at l e in
+          record {
+            four = λ z. absurd (omega arith);
+            five = λ z. omega arith;
+            one-row = omega arith;
+            few = omega (arith, g .few, g .inside, length-bitsOf bytes, rises-length (omega arith) (g .rising));
+          }
+      cases wide i (failed n place l) e f =
+          let g = read-broken (R room) wide (two reference) (bitsOf bytes) at (length (bitsOf bytes)) (data-bound (bitsOf bytes)) i n place l e in
+          record {
+            four = λ z. omega (arith, f z, g .line .roomy);
+            five = λ z. omega (arith, g .numbered);
+            one-row = omega arith;
+            few = omega (arith, g .line .few, g .line .inside, g .line .fits, length-bitsOf bytes, rises-length (omega arith) (g .line .rising));
+          }
+
+  module _ (small large : ℕ) (le : small ≤ large) where
+    -- the smaller answer, by cases
+    pub one-cuts : Cuts small 1 (readOneLine bytes at columns strict reference large) (readOneLine bytes at columns strict reference small)
+    one-cuts = subst (Cuts small 1 (readOneLine bytes at columns strict reference large)) (sym (one-within small large le)) (cuts small 1 (readOneLine bytes at columns strict reference large))
+
+    -- after 4, a longer array takes more changes
+    pub one-wants : small < large → readOneLine bytes at columns strict reference small .number ≡ 4
+        → small < entries (readOneLine bytes at columns strict reference large .rows) + length (readOneLine bytes at columns strict reference large .loose)
+    one-wants h q =
+        ⊎-elim (λ e. omega (arith, one-spent large .four (sym (ap (λ (x : Answer). x .number) e) ∙ q))) (λ l. l)
+        (cuts-four one-cuts q)
+
+  -- So with room for as many changes as columns, or as bits from the line's first on, it is never 4.
+  pub one-never : (room : ℕ) → min columns (8 * length bytes - at) ≤ room → readOneLine bytes at columns strict reference room .number ≡ 4 → ⊥
+  one-never room h q = omega (arith, one-wants room (suc room) (omega arith) (omega arith) q, one-spent (suc room) .few)
