@@ -1,6 +1,7 @@
 pub mod Demand1
 pub mod Demand1Line
 pub mod Demand1Write
+pub mod Rooms
 pub mod Demand2
 pub mod Demand3
 pub mod OneAnswer

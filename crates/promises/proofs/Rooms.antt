@@ -1,0 +1,221 @@
+-- The answers 4 and 5 are as demanded: what the contracts say of a smaller and a larger room is what the rules' laws say of them. Assumes nothing.
+use mathlib.Core.Path.{_≡_, refl, sym, ap, ap₂, _∙_, subst}
+use mathlib.Core.Bool.{Bool}
+use mathlib.Core.List.{List, [], _∷_, _++_, append-assoc}
+use Prim.Native.Nat.{ℕ, _+_, _≤_}
+use native.Mathlib.Omega.{arith}
+use lib.ListN.{length, take, drop, getD, length-append}
+use lib.Seq.{take-at, drop-at, take-take}
+use Rattle.rules.specs.Pages as Page
+use Rattle.rules.specs.Pages.{entries, joined, endsFrom, overlaid, changesAfter, endsAfter, decode, readOneLine}
+use Rattle.rules.proofs.Store.{length-joined}
+use Rattle.rules.proofs.Within as W
+use Rattle.rules.proofs.Within.{within, cuts-front, front-joined, front-ends, unplaced, unplaced-within}
+use Rattle.rules.proofs.Rooms.{decode-within, decode-cuts, decode-spent, four-wants, five-wants, four-never, five-never, one-within, one-cuts, one-spent, one-wants, one-never}
+use Rattle.error.specs.declared.Answer.{Answer}
+use Rattle.rows.specs.declared.DecodeSettings.{DecodeSettings}
+use Rattle.rows.specs.Settings.{settingsOf}
+use Rattle.ccitt.specs.Decode.{Gives}
+use Rattle.promises.specs.Rooms.{Call, rowsOf, looseOf, handed, Front, FourFills, FiveFills, FourGoesOn, FiveGoesOn, SmallerRoom, SmallerRoomIsFront, RoomEnough, LineCall, asCall, LineReading, LineFourFills, LineFourGoesOn, SmallerLine, SmallerLineIsFront, LineRoomEnough}
+use Rattle.promises.proofs.Demand1.{changes-front, ends-front, in-store}
+
+-- ---- What a call handed over
+
+-- a call that gives an answer of the rules
+abbrev Answered : Page.Answer → Call → Type 0
+Answered a c = Gives a (c .changes) (c .ends) (c .answer) (c .changes′) (c .ends′)
+
+module _ (a : Page.Answer) (c : Call) (given : Answered a c) where
+  number-is : c .answer .number ≡ a .number
+  number-is = ap (λ (x : Answer). x .number) (given .answer)
+
+  rows-count : c .answer .rows ≡ length (a .rows)
+  rows-count = ap (λ (x : Answer). x .rows) (given .answer)
+
+  entries-count : c .answer .entries ≡ entries (a .rows)
+  entries-count = ap (λ (x : Answer). x .entries) (given .answer)
+
+  loose-count : c .answer .loose ≡ length (a .loose)
+  loose-count = ap (λ (x : Answer). x .loose) (given .answer)
+
+  rows-are : rowsOf c ≡ a .rows
+  rows-are = in-store a (c .changes) (c .ends) (c .answer) (c .changes′) (c .ends′) given
+
+  loose-are : looseOf c ≡ a .loose
+  unfolding changesAfter overlaid
+  loose-are =
+      ap (λ (l : List ℕ). take (c .answer .loose) (drop (c .answer .entries) l)) (given .changes ∙ append-assoc (joined (a .rows)) (a .loose) _)
+      ∙ ap (take (c .answer .loose)) (drop-at (joined (a .rows)) (a .loose ++ _) (c .answer .entries) (length-joined (a .rows) ∙ sym entries-count))
+      ∙ take-at (a .loose) _ (c .answer .loose) (sym loose-count)
+
+  handed-is : handed c ≡ unplaced a
+  handed-is =
+      let n = number-is in
+      let b = ap (λ (x : Answer). x .bytes) (given .answer) in
+      let r = rows-are in
+      let l = loose-are in
+      cc
+
+  -- everything that was stored
+  stored-length : length (joined (a .rows) ++ a .loose) ≡ c .answer .entries + c .answer .loose
+  stored-length = length-append (joined (a .rows)) (a .loose) ∙ ap₂ (λ (x y : ℕ). x + y) (length-joined (a .rows) ∙ sym entries-count) (sym loose-count)
+
+  stored-is : take (c .answer .entries + c .answer .loose) (c .changes′) ≡ joined (a .rows) ++ a .loose
+  stored-is = changes-front a (c .changes) (c .ends) (c .answer) (c .changes′) (c .ends′) given
+
+  ends-are : take (c .answer .rows) (c .ends′) ≡ endsFrom 0 (a .rows)
+  ends-are = ends-front a (c .changes) (c .ends) (c .answer) (c .changes′) (c .ends′) given
+
+-- ---- Two rooms
+
+-- a smaller call, whose answer keeps a front of the larger one's
+module _ (a b : Page.Answer) (small large : Call) (given : Answered a small) (later : Answered b large) (f : W.Front b a) where
+  abbrev n : ℕ
+  n = small .answer .entries + small .answer .loose
+
+  rest : (more : List ℕ) × (joined (b .rows) ++ b .loose ≡ (joined (a .rows) ++ a .loose) ++ more)
+  rest = front-joined f
+
+  fewer : n ≤ large .answer .entries + large .answer .loose
+  fewer = omega (arith, stored-length a small given, stored-length b large later, ap length (rest .1), length-append (joined (a .rows) ++ a .loose) (rest .0))
+
+  fewer-rows : small .answer .rows ≤ large .answer .rows
+  fewer-rows = omega (arith, rows-count a small given, rows-count b large later, f .fewer)
+
+  is-front : Front small large
+  is-front = record {
+    fewer-rows = fewer-rows;
+    fewer-entries = fewer;
+    rows = rows-are a small given ∙ f .rows ∙ ap₂ (λ (k : ℕ) (l : List (List ℕ)). take k l) (sym (rows-count a small given)) (sym (rows-are b large later));
+    loose = loose-are a small given ∙ f .loose ∙ ap₂ (λ (k : ℕ) (l : List ℕ). take k l) (sym (loose-count a small given)) next;
+    changes =
+        stored-is a small given
+        ∙ sym
+        (sym (take-take n (large .answer .entries + large .answer .loose) (large .changes′) fewer) ∙ ap (take n) (stored-is b large later ∙ rest .1)
+        ∙ take-at (joined (a .rows) ++ a .loose) (rest .0) n (stored-length a small given));
+    ends =
+        ends-are a small given
+        ∙ sym
+        (sym (take-take (small .answer .rows) (large .answer .rows) (large .ends′) fewer-rows)
+        ∙ ap₂ (λ (k : ℕ) (l : List ℕ). take k l) (rows-count a small given) (ends-are b large later) ∙ front-ends f);
+  }
+    where
+      next : getD (b .rows) (length (a .rows)) (b .loose) ≡ getD (rowsOf large) (small .answer .rows) (looseOf large)
+      next =
+          ap (λ (k : ℕ). getD (b .rows) k (b .loose)) (sym (rows-count a small given))
+          ∙ ap₂ (λ (l : List (List ℕ)) (x : List ℕ). getD l (small .answer .rows) x) (sym (rows-are b large later)) (sym (loose-are b large later))
+
+-- what is given is given with the bit at fault left out too
+unplaced-gives : (a : Page.Answer) (c : Call) → Answered a c → Answered (unplaced a) c
+unfolding changesAfter endsAfter
+unplaced-gives a c g = record { answer = g .answer; changes = g .changes; ends = g .ends }
+
+-- and a smaller call, whose answer is the larger one's cut, gives what `within` makes of what the larger one handed over
+cut-gives : (store places : ℕ) (a b : Page.Answer) (small large : Call) → Answered a small → Answered b large → a ≡ within store places b
+    → Answered (within store places (handed large)) small
+cut-gives store places a b small large given later e =
+    subst (λ (x : Page.Answer). Answered x small)
+    (ap unplaced e ∙ sym (unplaced-within store places b) ∙ ap (within store places) (sym (handed-is b large later)))
+    (unplaced-gives a small given)
+
+-- ---- The page form
+
+module _ (bytes : List ℕ) (settings : DecodeSettings) where
+  abbrev answerIn : Call → Page.Answer
+  answerIn c = decode (settingsOf settings) bytes (length (c .changes)) (length (c .ends))
+
+pub four-fills : FourFills
+four-fills bytes settings c g q =
+    let a = answerIn bytes settings c in
+    let s = decode-spent (settingsOf settings) bytes (length (c .changes)) (length (c .ends)) in
+    omega (arith, s .four (sym (number-is a c g) ∙ q), entries-count a c g, loose-count a c g)
+
+pub five-fills : FiveFills
+five-fills bytes settings c g q =
+    let a = answerIn bytes settings c in
+    let s = decode-spent (settingsOf settings) bytes (length (c .changes)) (length (c .ends)) in
+    rows-count a c g ∙ s .five (sym (number-is a c g) ∙ q)
+
+pub four-goes-on : FourGoesOn
+four-goes-on bytes settings small large t h q =
+    let a = answerIn bytes settings small in
+    let b = answerIn bytes settings large in
+    omega (arith, four-wants (settingsOf settings) bytes (length (small .changes)) (length (large .changes)) (length (small .ends)) (length (large .ends)) (t .changes) (t .ends) h (sym (number-is a small (t .first)) ∙ q), entries-count b large (t .second), loose-count b large (t .second))
+
+pub five-goes-on : FiveGoesOn
+five-goes-on bytes settings small large t h q =
+    let a = answerIn bytes settings small in
+    let b = answerIn bytes settings large in
+    omega (arith, five-wants (settingsOf settings) bytes (length (small .changes)) (length (large .changes)) (length (small .ends)) (length (large .ends)) (t .changes) (t .ends) h (sym (number-is a small (t .first)) ∙ q), rows-count b large (t .second))
+
+pub smaller-room : SmallerRoom
+smaller-room bytes settings small large t =
+    cut-gives (length (small .changes)) (length (small .ends)) (answerIn bytes settings small) (answerIn bytes settings large) small large (t .first) (t .second)
+    (decode-within (settingsOf settings) bytes (length (small .changes)) (length (large .changes)) (length (small .ends)) (length (large .ends)) (t .changes) (t .ends))
+
+pub smaller-room-is-front : SmallerRoomIsFront
+smaller-room-is-front bytes settings small large t =
+    is-front (answerIn bytes settings small) (answerIn bytes settings large) small large (t .first) (t .second)
+    (cuts-front (decode-cuts (settingsOf settings) bytes (length (small .changes)) (length (large .changes)) (length (small .ends)) (length (large .ends)) (t .changes) (t .ends)))
+
+pub room-enough : RoomEnough
+room-enough bytes settings c g =
+    let a = answerIn bytes settings c in (
+      (λ h q. four-never (settingsOf settings) bytes (length (c .changes)) (length (c .ends)) h (sym (number-is a c g) ∙ q)),
+      λ h q. five-never (settingsOf settings) bytes (length (c .changes)) (length (c .ends)) h (sym (number-is a c g) ∙ q),
+    )
+
+-- ---- One line
+
+module _ (bytes : List ℕ) (at columns : ℕ) (strict : Bool) (reference : List ℕ) where
+  abbrev lineIn : LineCall → Page.Answer
+  lineIn c = readOneLine bytes at columns strict reference (length (c .changes))
+
+  -- at most one row, with the end that counts its entries
+  one-end : (rows : List (List ℕ)) → length rows ≤ 1 → entries rows ∷ [] ≡ overlaid (endsFrom 0 rows) (0 ∷ [])
+  unfolding entries endsFrom overlaid
+  one-end [] h = refl
+  one-end (r ∷ []) h = ap (λ (n : ℕ). n ∷ []) (let q : length r + 0 ≡ 0 + length r = omega arith in q)
+  one-end (r ∷ s ∷ rows) h = absurd (omega arith)
+
+  -- a line's call is answered as a page's that is lent one row end
+  line-gives : (c : LineCall) → LineReading bytes at columns strict reference c → Answered (lineIn c) (asCall c)
+  unfolding endsAfter
+  line-gives c g = record {
+    answer = g .answer;
+    changes = g .store;
+    ends = ap (λ (x : Answer). x .entries ∷ []) (g .answer) ∙ one-end (lineIn c .rows) (one-spent bytes at columns strict reference (length (c .changes)) .one-row);
+  }
+
+pub line-four-fills : LineFourFills
+line-four-fills bytes at columns strict reference c g =
+    let a = lineIn bytes at columns strict reference c in
+    let d = line-gives bytes at columns strict reference c g in
+    let s = one-spent bytes at columns strict reference (length (c .changes)) in
+    ((λ q. omega (arith, s .four (sym (number-is a (asCall c) d) ∙ q), entries-count a (asCall c) d, loose-count a (asCall c) d)), λ q. s .five (sym (number-is a (asCall c) d) ∙ q))
+
+pub line-four-goes-on : LineFourGoesOn
+line-four-goes-on bytes at columns strict reference small large t h q =
+    let a = lineIn bytes at columns strict reference small in
+    let b = lineIn bytes at columns strict reference large in
+    let d = line-gives bytes at columns strict reference small (t .first) in
+    let e = line-gives bytes at columns strict reference large (t .second) in
+    omega (arith, one-wants bytes at columns strict reference (length (small .changes)) (length (large .changes)) (t .changes) h (sym (number-is a (asCall small) d) ∙ q), entries-count b (asCall large) e, loose-count b (asCall large) e)
+
+pub smaller-line : SmallerLine
+smaller-line bytes at columns strict reference small large t =
+    let g = cut-gives (length (small .changes)) 1 (lineIn bytes at columns strict reference small) (lineIn bytes at columns strict reference large) (asCall small) (asCall large)
+    (line-gives bytes at columns strict reference small (t .first)) (line-gives bytes at columns strict reference large (t .second))
+    (one-within bytes at columns strict reference (length (small .changes)) (length (large .changes)) (t .changes)) in
+    (g .answer, g .changes)
+
+pub smaller-line-is-front : SmallerLineIsFront
+smaller-line-is-front bytes at columns strict reference small large t =
+    is-front (lineIn bytes at columns strict reference small) (lineIn bytes at columns strict reference large) (asCall small) (asCall large)
+    (line-gives bytes at columns strict reference small (t .first)) (line-gives bytes at columns strict reference large (t .second))
+    (cuts-front (one-cuts bytes at columns strict reference (length (small .changes)) (length (large .changes)) (t .changes)))
+
+pub line-room-enough : LineRoomEnough
+line-room-enough bytes at columns strict reference c g h q =
+    let d = line-gives bytes at columns strict reference c g in
+    one-never bytes at columns strict reference (length (c .changes)) h (sym (number-is (lineIn bytes at columns strict reference c) (asCall c) d) ∙ q)

@@ -1,0 +1,152 @@
+-- Demand 1, the answers 4 and 5 and the room they speak of: when they are given, what a smaller room gives of what a larger one would, and how much room is enough.
+-- A statement is about whatever answers and arrays a function's contract permits, of one call or of two on the same data.
+use mathlib.Core.Path.{_≡_}
+use mathlib.Core.Bool.{Bool}
+use mathlib.Core.List.{List, [], _∷_}
+use Prim.Native.Nat.{ℕ, _+_, _-_, _*_, _≤_, _<_, min}
+use lib.ListN.{length, take, drop, getD}
+use Rattle.rules.specs.Pages as Page
+use Rattle.rules.specs.Pages.{changesAfter}
+use Rattle.rules.specs.Write.{rowsIn}
+use Rattle.rules.proofs.Within.{within}
+use Rattle.error.specs.Error.{answerOf}
+use Rattle.error.specs.declared.Answer.{Answer}
+use Rattle.rows.specs.declared.DecodeSettings.{DecodeSettings}
+use Rattle.context.specs.OneLine.{ReadOne}
+use Rattle.ccitt.specs.Decode.{Gives, Decodes}
+
+-- ---- A call, and what it handed over
+
+-- the arrays that were lent, the answer, and the arrays after it
+pub record Call : Type 0 where
+  pub changes : List ℕ
+  pub ends : List ℕ
+  pub answer : Answer
+  pub changes′ : List ℕ
+  pub ends′ : List ℕ
+
+-- the rows, as they lie in the store by their ends
+abbrev pub rowsOf : Call → List (List ℕ)
+rowsOf c = rowsIn 0 (c .changes′) (take (c .answer .rows) (c .ends′))
+
+-- "the unfinished row's changes so far lie behind them as the loose entries"
+abbrev pub looseOf : Call → List ℕ
+looseOf c = take (c .answer .loose) (drop (c .answer .entries) (c .changes′))
+
+-- the same as an answer of the rules; the bit at fault is not handed over
+abbrev pub handed : Call → Page.Answer
+handed c = record { number = c .answer .number; place = 0; bytes = c .answer .bytes; rows = rowsOf c; loose = looseOf c }
+
+-- What a smaller room stored is the front of what a larger one did: the rows are the first of its rows; the loose entries are the front of the row that follows them there,
+-- or of the loose entries where none follows; and so the entries and the ends that were stored are the first of its entries and ends.
+pub record Front (small large : Call) : Type 0 where
+  pub fewer-rows : small .answer .rows ≤ large .answer .rows
+  pub fewer-entries : small .answer .entries + small .answer .loose ≤ large .answer .entries + large .answer .loose
+  pub rows : rowsOf small ≡ take (small .answer .rows) (rowsOf large)
+  pub loose : looseOf small ≡ take (small .answer .loose) (getD (rowsOf large) (small .answer .rows) (looseOf large))
+  pub changes : take (small .answer .entries + small .answer .loose) (small .changes′) ≡ take (small .answer .entries + small .answer .loose) (large .changes′)
+  pub ends : take (small .answer .rows) (small .ends′) ≡ take (small .answer .rows) (large .ends′)
+
+-- ---- The page form
+
+-- a call of `decode` on these bytes with these settings
+abbrev pub Reading : List ℕ → DecodeSettings → Call → Type 0
+Reading bytes settings c = Decodes bytes settings (c .changes) (c .ends) (c .answer) (c .changes′) (c .ends′)
+
+-- 4 is given only where no entry is left,
+abbrev pub FourFills : Type 0
+FourFills =
+    (bytes : List ℕ) (settings : DecodeSettings) (c : Call) → Reading bytes settings c
+    → c .answer .number ≡ 4 → c .answer .entries + c .answer .loose ≡ length (c .changes)
+
+-- and 5 only where no row end is.
+abbrev pub FiveFills : Type 0
+FiveFills = (bytes : List ℕ) (settings : DecodeSettings) (c : Call) → Reading bytes settings c → c .answer .number ≡ 5 → c .answer .rows ≡ length (c .ends)
+
+-- two calls on the same, the second with arrays that are no shorter
+pub record Roomier (bytes : List ℕ) (settings : DecodeSettings) (small large : Call) : Type 0 where
+  pub first : Reading bytes settings small
+  pub second : Reading bytes settings large
+  pub changes : length (small .changes) ≤ length (large .changes)
+  pub ends : length (small .ends) ≤ length (large .ends)
+
+-- After 4 a change was to be recorded: a longer array of changes takes more of them.
+abbrev pub FourGoesOn : Type 0
+FourGoesOn =
+    (bytes : List ℕ) (settings : DecodeSettings) (small large : Call) → Roomier bytes settings small large → length (small .changes) < length (large .changes)
+    → small .answer .number ≡ 4 → length (small .changes) < large .answer .entries + large .answer .loose
+
+-- After 5 a row was complete: a longer array of ends takes more rows.
+abbrev pub FiveGoesOn : Type 0
+FiveGoesOn =
+    (bytes : List ℕ) (settings : DecodeSettings) (small large : Call) → Roomier bytes settings small large → length (small .ends) < length (large .ends)
+    → small .answer .number ≡ 5 → length (small .ends) < large .answer .rows
+
+-- The smaller room's answer and arrays are, to the last entry, what `within` makes of what the larger one handed over: 4 at the first row whose changes do not all fit, with those
+-- that fit loose; 5 at the first row for which no end is left, with that row loose; 4 where the loose entries do not all fit; and else the same answer.
+abbrev pub SmallerRoom : Type 0
+SmallerRoom =
+    (bytes : List ℕ) (settings : DecodeSettings) (small large : Call) → Roomier bytes settings small large
+    → Gives (within (length (small .changes)) (length (small .ends)) (handed large)) (small .changes) (small .ends) (small .answer) (small .changes′) (small .ends′)
+
+abbrev pub SmallerRoomIsFront : Type 0
+SmallerRoomIsFront = (bytes : List ℕ) (settings : DecodeSettings) (small large : Call) → Roomier bytes settings small large → Front small large
+
+-- With 16 entries for each byte of the data 4 is never given, and with 8 row ends for each byte and one more 5 is never given.
+abbrev pub RoomEnough : Type 0
+RoomEnough =
+    (bytes : List ℕ) (settings : DecodeSettings) (c : Call) → Reading bytes settings c
+    → (16 * length bytes ≤ length (c .changes) → c .answer .number ≡ 4 → ⊥) × (8 * length bytes + 1 ≤ length (c .ends) → c .answer .number ≡ 5 → ⊥)
+
+-- ---- One line
+
+-- the array that was lent, the answer, and the array after it
+pub record LineCall : Type 0 where
+  pub changes : List ℕ
+  pub answer : Answer
+  pub changes′ : List ℕ
+
+-- "A line read whole counts as one kept row": it ends behind its entries
+abbrev pub asCall : LineCall → Call
+asCall c = record { changes = c .changes; ends = 0 ∷ []; answer = c .answer; changes′ = c .changes′; ends′ = c .answer .entries ∷ [] }
+
+module _ (bytes : List ℕ) (at columns : ℕ) (strict : Bool) (reference : List ℕ) where
+  -- a call of `read_line` on these
+  abbrev pub LineReading : LineCall → Type 0
+  LineReading c = ReadOne bytes at columns strict reference (c .changes) (c .answer) (c .changes′)
+
+  -- two calls on the same, the second with an array that is no shorter
+  pub record LineRoomier (small large : LineCall) : Type 0 where
+    pub first : LineReading small
+    pub second : LineReading large
+    pub changes : length (small .changes) ≤ length (large .changes)
+
+-- 4 is given only where no entry is left; 5 is never given,
+abbrev pub LineFourFills : Type 0
+LineFourFills =
+    (bytes : List ℕ) (at columns : ℕ) (strict : Bool) (reference : List ℕ) (c : LineCall) → LineReading bytes at columns strict reference c
+    → (c .answer .number ≡ 4 → c .answer .entries + c .answer .loose ≡ length (c .changes)) × (c .answer .number ≡ 5 → ⊥)
+
+-- and after 4 a longer array takes more changes.
+abbrev pub LineFourGoesOn : Type 0
+LineFourGoesOn =
+    (bytes : List ℕ) (at columns : ℕ) (strict : Bool) (reference : List ℕ) (small large : LineCall) → LineRoomier bytes at columns strict reference small large
+    → length (small .changes) < length (large .changes) → small .answer .number ≡ 4 → length (small .changes) < large .answer .entries + large .answer .loose
+
+-- The smaller array's answer, and every entry, are what `within` makes of what the larger one handed over: the line in one row, where it was read whole.
+abbrev pub SmallerLine : Type 0
+SmallerLine =
+    (bytes : List ℕ) (at columns : ℕ) (strict : Bool) (reference : List ℕ) (small large : LineCall) → LineRoomier bytes at columns strict reference small large
+    → (small .answer ≡ answerOf (within (length (small .changes)) 1 (handed (asCall large))))
+    × (small .changes′ ≡ changesAfter (within (length (small .changes)) 1 (handed (asCall large))) (small .changes))
+
+abbrev pub SmallerLineIsFront : Type 0
+SmallerLineIsFront =
+    (bytes : List ℕ) (at columns : ℕ) (strict : Bool) (reference : List ℕ) (small large : LineCall) → LineRoomier bytes at columns strict reference small large
+    → Front (asCall small) (asCall large)
+
+-- With an entry for each column, or for each bit of the data from the line's first on, 4 is never given.
+abbrev pub LineRoomEnough : Type 0
+LineRoomEnough =
+    (bytes : List ℕ) (at columns : ℕ) (strict : Bool) (reference : List ℕ) (c : LineCall) → LineReading bytes at columns strict reference c
+    → min columns (8 * length bytes - at) ≤ length (c .changes) → c .answer .number ≡ 4 → ⊥
