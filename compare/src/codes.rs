@@ -24,10 +24,10 @@ impl Colour {
     }
 }
 
-/// The longest run that was recorded, and the longest make-up code of T.4.
+/// The longest run that was recorded, and the longest make-up code of T.4, which the writers repeat.
 pub const LONGEST: u32 = 2560;
-/// The longest make-up code that document 01's first version writes.
-pub const LONGEST_WRITTEN: u32 = 1728;
+/// The longest make-up code that each colour has of its own; other writers use none above it.
+pub const LONGEST_OWN: u32 = 1728;
 
 /// EOL without fill.
 pub const EOL: &str = "000000000001";

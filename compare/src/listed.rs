@@ -53,7 +53,7 @@ pub fn write(folder: &str) -> io::Result<()> {
 #[cfg(test)]
 mod tests {
     use super::{COUNT, ListedPage};
-    use crate::codes::{Colour, LONGEST, LONGEST_WRITTEN};
+    use crate::codes::{Colour, LONGEST, LONGEST_OWN};
     use crate::encoder::{Step, steps};
 
     /// The runs of a colour that the pages have a code for.
@@ -76,7 +76,7 @@ mod tests {
     fn both_colours_have_long_runs() {
         for colour in [Colour::White, Colour::Black] {
             let runs = runs(colour);
-            for (low, high) in [(LONGEST_WRITTEN + 1, LONGEST), (LONGEST + 1, 2 * LONGEST_WRITTEN), (2 * LONGEST_WRITTEN, u32::MAX)] {
+            for (low, high) in [(LONGEST_OWN + 1, LONGEST), (LONGEST + 1, 2 * LONGEST - 1), (2 * LONGEST, u32::MAX)] {
                 assert!(runs.iter().any(|&run| (low..=high).contains(&run)), "no {colour:?} run from {low} to {high}");
             }
         }

@@ -2,7 +2,7 @@
 //! missing and extra EOLs, ends of every kind, alignment.
 
 use crate::bits::Bits;
-use crate::codes::{EOL, LONGEST, LONGEST_WRITTEN};
+use crate::codes::{EOL, LONGEST, LONGEST_OWN};
 use crate::encoder::{put_line_1d, put_line_2d};
 use crate::random::Random;
 use crate::rows::{WIDTHS, random_rows};
@@ -78,7 +78,7 @@ fn with_tail(random: &mut Random, bits: Bits) -> Vec<u8> {
 }
 
 fn group4(random: &mut Random, settings: &Settings, rows: &[Vec<u32>]) -> Bits {
-    let longest = random.pick(&[LONGEST, LONGEST_WRITTEN]);
+    let longest = random.pick(&[LONGEST, LONGEST_OWN]);
     let stray_eols = random.chance(10);
     let mut bits = Bits::default();
     let mut reference: &[u32] = &[];
@@ -100,7 +100,7 @@ fn group4(random: &mut Random, settings: &Settings, rows: &[Vec<u32>]) -> Bits {
 
 fn group3(random: &mut Random, settings: &Settings, rows: &[Vec<u32>]) -> Bits {
     let sloppy = random.chance(30);
-    let longest = random.pick(&[LONGEST, LONGEST_WRITTEN]);
+    let longest = random.pick(&[LONGEST, LONGEST_OWN]);
     // of every k lines the first is a 1D line
     let k = random.range(1, 4) as usize;
     let two_d = settings.encoding == Encoding::Group3TwoD;

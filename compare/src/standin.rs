@@ -4,7 +4,7 @@
 use crate::bits::Bits;
 use crate::call::{Answer, Ask, BYTE_MARGIN, Call, Form, Replies, Room};
 use crate::checks::writers::encoded;
-use crate::codes::LONGEST_WRITTEN;
+use crate::codes::LONGEST;
 use crate::encoder::put_line_2d;
 use crate::ours::Ours;
 use crate::settings::Encoding;
@@ -241,7 +241,7 @@ impl Standin {
             return encoded(columns, &self.rows(ask).expect("it was not refused"));
         }
         let mut bits = Bits::default();
-        put_line_2d(&mut bits, columns, &ask.first, &ask.second, LONGEST_WRITTEN);
+        put_line_2d(&mut bits, columns, &ask.first, &ask.second, LONGEST);
         bits
     }
 }

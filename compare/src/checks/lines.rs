@@ -4,7 +4,7 @@
 use crate::bits::{Bits, bit_at};
 use crate::call::Ask;
 use crate::check::{Case, Source};
-use crate::codes::{LONGEST, LONGEST_WRITTEN};
+use crate::codes::{LONGEST, LONGEST_OWN};
 use crate::damage::damage;
 use crate::encoder::put_line_2d;
 use crate::random::Random;
@@ -40,7 +40,7 @@ impl Source for Lines {
 }
 
 fn longest(random: &mut Random) -> u32 {
-    random.pick(&[LONGEST, LONGEST_WRITTEN])
+    random.pick(&[LONGEST, LONGEST_OWN])
 }
 
 /// A line of the encoder with any bits before and behind it: read strictly, it must give its row and

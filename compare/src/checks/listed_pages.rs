@@ -1,4 +1,4 @@
-//! Written pages, against what another fax decoder read from them (recorded/written.txt).
+//! Written pages, against what another fax program read from them and writes for their rows (recorded/written.txt).
 
 use super::writers::written_page;
 use crate::check::{Case, Source};
@@ -8,7 +8,8 @@ use crate::random::Random;
 use crate::sha256::digest;
 
 /// The list's pages, with the recorded lines in their order. A line has the page's number, columns and
-/// rows, the digest of its bytes, and that of the pixels which the other decoder read.
+/// rows, the digest of its bytes, that of the pixels which the other decoder read, and that of the bytes
+/// which the other encoder writes.
 pub struct ListedPages(pub Vec<String>);
 
 impl ListedPages {
@@ -20,7 +21,7 @@ impl ListedPages {
 
 impl Source for ListedPages {
     fn name(&self) -> String {
-        "written pages by another decoder".to_string()
+        "written pages by another decoder and encoder".to_string()
     }
 
     /// A page without a line counts too, and fails.
@@ -30,11 +31,15 @@ impl Source for ListedPages {
 
     fn case(&self, index: u64, random: &mut Random) -> Case {
         let page = ListedPage::of(index as usize);
-        let (made, read) = self.0.get(index as usize).and_then(|line| line.rsplit_once(' ')).unwrap_or_default();
-        let anew = format!("{index} {} {} {}", page.columns, page.rows.len(), digest(&page.bytes()));
+        let line = self.0.get(index as usize).map_or("", String::as_str);
+        let (line, written) = line.rsplit_once(' ').unwrap_or_default();
+        let (made, read) = line.rsplit_once(' ').unwrap_or_default();
+        let bytes = digest(&page.bytes());
+        let anew = format!("{index} {} {} {bytes}", page.columns, page.rows.len());
         written_page(random, page.columns, &page.rows)
             .require(made == anew, || format!("{}: this is not the page that was recorded", page.file_name()))
             .require(read == digest(&packed(page.columns, &page.rows)), || format!("{}: libtiff read other rows", page.file_name()))
+            .require(written == bytes, || format!("{}: libtiff writes other bytes", page.file_name()))
     }
 }
 
@@ -51,7 +56,9 @@ mod tests {
     /// A line with a wrong number of rows or a wrong digest fails its own page and no other.
     #[test]
     fn a_wrong_record_is_caught() {
-        for (word, complaint) in [(2, "is not the page"), (3, "is not the page"), (4, "libtiff read other rows")] {
+        for (word, complaint) in
+            [(2, "is not the page"), (3, "is not the page"), (4, "libtiff read other rows"), (5, "libtiff writes other bytes")]
+        {
             let mut pages = ListedPages::recorded();
             let mut words: Vec<String> = pages.0[17].split(' ').map(str::to_string).collect();
             let last = words[word].pop();

@@ -5,7 +5,7 @@ use crate::bits::Bits;
 use crate::call::{Answer, Ask, BYTE_MARGIN, Room, pattern_byte};
 use crate::check::{Case, Plan, Source};
 use crate::checks::sheets;
-use crate::codes::{EOL, LONGEST_WRITTEN};
+use crate::codes::{EOL, LONGEST};
 use crate::encoder::put_line_2d;
 use crate::random::Random;
 use crate::rows::{WIDTHS, flattened, random_row, random_rows};
@@ -37,7 +37,7 @@ impl Source for WrittenLines {
         let reference = random_row(random, columns, &before);
         let row = random_row(random, columns, &reference);
         let mut line = Bits::default();
-        put_line_2d(&mut line, columns, &reference, &row, LONGEST_WRITTEN);
+        put_line_2d(&mut line, columns, &reference, &row, LONGEST);
         line_case(random, columns, reference, row, &line)
     }
 }
@@ -126,7 +126,7 @@ pub fn encoded(columns: u32, rows: &[Vec<u32>]) -> Bits {
     let mut bits = Bits::default();
     let mut reference: &[u32] = &[];
     for row in rows {
-        put_line_2d(&mut bits, columns, reference, row, LONGEST_WRITTEN);
+        put_line_2d(&mut bits, columns, reference, row, LONGEST);
         reference = row;
     }
     bits.code(EOL);

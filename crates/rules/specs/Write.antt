@@ -12,9 +12,9 @@ use Rattle.rules.specs.Lines.{headOr, tail, Kind, one, two, b1, b2}
 use Rattle.rules.specs.Rows.{bytesTo}
 use Rattle.rules.specs.Pages.{mostBytes, noLine, ascends}
 
--- "runs use make-up codes up to 1728 only"
+-- runs use make-up codes up to 2560, which is 40 times 64 (A6; 01's first version went up to 1728)
 abbrev pub mostMakeup : ℕ
-mostMakeup = 27
+mostMakeup = 40
 
 -- ---- A run
 
@@ -29,7 +29,7 @@ abbrev pub wholes : Colour → ℕ → List Code
 wholes colour zero = []
 wholes colour (suc m) = makeup colour (suc m) ∷ []
 
--- "A longer run repeats 1728 while at least 1728 remains, then the make-up for the whole 64s left, if any, then the terminating code."
+-- "A run repeats 2560 while at least 2560 remains, then takes the make-up for the whole 64s left, if any, then the terminating code." (A6)
 unfoldable pub runCodes : ℕ → Colour → ℕ → List Code
 runCodes most colour n =
     replicate (n / (64 * most)) (makeup colour most) ++ (wholes colour (n % (64 * most) / 64) ++ terminating colour (n % 64) ∷ [])
