@@ -1,2 +1,3 @@
 pub mod Window
 pub mod Cursor
+pub mod Clear

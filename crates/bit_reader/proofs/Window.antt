@@ -11,7 +11,8 @@ use lib.Seq.{drop-drop}
 use Rattle.rules.specs.Bits.{bitsOf, peek}
 use Rattle.rules.proofs.Bits.{peek-add, peek-high, peek-low, peek-lt, peek-byte}
 use Rattle.bit_reader.specs.Word.{eightAt}
-use Rattle.bit_reader.specs.Loaded.{onTop}
+use Rattle.bit_reader.specs.Loaded.{onTop, Loaded}
+use Rattle.bit_reader.specs.declared.buffer.Buffer.{Buffer}
 use Rattle.bit_reader.proofs.Cursor.{drop-in-byte}
 
 -- ---- A part of a word
@@ -66,6 +67,17 @@ top-at at bs =
     ap (λ (x : ℕ). x * 2 ^ (at % 8) % 2 ^ 64) (sym (mul-one (peek 64 (drop (at / 8 * 8) bs))))
     ∙ top-shift (at % 8) 64 (drop (at / 8 * 8) bs) (omega arith) (omega arith)
     ∙ ap (onTop (64 - at % 8)) (drop-in-byte at bs)
+
+-- a buffer of them, n bits on: up to its limit a shift is all
+pub fed : {bytes : List ℕ} {b : Buffer} (n : ℕ) → Loaded bytes b → n ≤ 15 → b .at + n ≤ b .limit → Loaded bytes (record { at = b .at + n; limit = b .limit; bits = b .bits * 2 ^ n % 2 ^ 64 })
+fed {bytes} {b} n h few up = record {
+  live = h .live - n;
+  most = omega (arith, h .most);
+  holds = rw (h .holds, top-shift n (h .live) (drop (b .at) (bitsOf bytes)) (omega (arith, h .enough)) (h .most), drop-drop n (b .at) (bitsOf bytes));
+  enough = omega (arith, h .enough);
+  reached = up;
+  inside = h .inside;
+}
 
 -- ---- Bytes
 

@@ -1,3 +1,4 @@
 pub mod Word
 pub mod Cursor
 pub mod Loaded
+pub mod Zeros

@@ -1,6 +1,7 @@
 // The bit reader of bit_reader.rs. The cursor is the offset of a bit in the data, a number that callers carry.
 pub mod buffer;
 mod word;
+pub mod zeros;
 
 ghost use mathlib.Core.Path.{_≡_};
 ghost use Prim.Native.Nat.{_*_, _/_, _<_, _≤_};

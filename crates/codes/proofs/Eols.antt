@@ -1,91 +1,96 @@
--- EOLs, one bit at a time: zeros up to a one, the EOLs from a bit on, and the search for the next. Assumes nothing.
+-- EOLs: zeros up to a one, the EOLs from a bit on, and the search for the next, by eleven bits. Assumes nothing.
 use mathlib.Core.Path.{_≡_, refl, sym, ap, _∙_}
 use mathlib.Core.Bool.{Bool, true, false}
-use mathlib.Core.List.{List, _∷_}
+use mathlib.Core.List.{List}
 use mathlib.Core.Option.{Option, none, some}
-use Prim.Native.Nat.{ℕ, zero, suc, _+_, _-_, _*_, _≤_, _<_}
+use Prim.Native.Nat.{ℕ, zero, suc, _+_, _-_, _*_, _/_, _%_, _^_, _≤_, _<_}
 use native.Mathlib.Omega.{arith}
-use native.Mathlib.Numerals.{add-one, one-add}
+use native.Mathlib.Numerals.{one-add}
 use native.Mathlib.Nat.{zero-add, add-zero, add-assoc}
+use lib.Count as Count
 use lib.Dec.{ltb}
-use lib.ListN.{length, getD, drop, drop-of-length-le}
-use lib.Seq.{drop-cons}
+use lib.ListN.{length, drop, length-drop}
+use lib.Pow.{shr-shr}
+use lib.Seq.{drop-drop}
 use borrow.Author.Tests.{lt-ltb, le-ltb, ltb-true, ltb-false}
-use Rattle.rules.specs.Bits.{bitsOf, peek}
+use Rattle.rules.specs.Bits.{bitsOf, peek, leadingZeros}
 use Rattle.rules.specs.Eols.{zeroRun, eolAfter, Eols, eolsTo, readEols, skip, skipToEol}
-use Rattle.rules.proofs.Bits.{length-bitsOf}
-use Rattle.rules.proofs.Eols.{EolAt, skip-here}
+use Rattle.rules.proofs.Bits.{length-bitsOf, pow-two, peek-lt, peek-high, peek-low, peek-one}
+use Rattle.rules.proofs.Eols.{EolAt, skip-here, zeros-inside}
+use Rattle.bit_reader.specs.Loaded.{Loaded, LoadedAt}
+use Rattle.bit_reader.specs.Zeros.{oneOrEnd}
+use Rattle.bit_reader.specs.declared.buffer.Buffer.{Buffer}
+use Rattle.bit_reader.proofs.Window.{top-first}
+use Rattle.bit_reader.proofs.Clear.{behind, only-zeros, zeros-few, some-one, zeros-of-number, past-end}
 
 -- ---- Zeros up to a one
 
--- what is found behind so many zeros
-abbrev behind : ℕ → Option ℕ → Option ℕ
-behind z none = none
-behind z (some y) = some (z + y)
-
--- from `at` to `next` stand `zeros` zeros
-pub record Zeros (bytes : List ℕ) (at zeros next : ℕ) : Type 0 where
-  pub far : next ≡ at + zeros
-  pub inside : next ≤ 8 * length bytes
-  pub found : zeroRun (drop at (bitsOf bytes)) ≡ behind zeros (zeroRun (drop next (bitsOf bytes)))
-
--- and then a one, before `after`
+-- from `at` stand `zeros` zeros and then a one, before `after`
 pub record Closed (bytes : List ℕ) (at zeros after : ℕ) : Type 0 where
   pub far : after ≡ at + suc zeros
   pub inside : after ≤ 8 * length bytes
   pub found : zeroRun (drop at (bitsOf bytes)) ≡ some zeros
 
--- before any bit is read
-pub no-zeros : {bytes : List ℕ} {at : ℕ} → at ≤ 8 * length bytes → Zeros bytes at 0 at
-no-zeros {bytes} {at} h = record { far = omega arith; inside = h; found = cases (zeroRun (drop at (bitsOf bytes))) }
-  where
-    cases : (o : Option ℕ) → o ≡ behind 0 o
-    cases none = refl
-    cases (some y) = ap some (sym (zero-add y))
+module _ (bytes : List ℕ) (at : ℕ) where
+  abbrev bs : List Bool
+  bs = bitsOf bytes
 
--- no one stands past the end
-past-end : (i : ℕ) (bs : List Bool) → length bs ≤ i → zeroRun (drop i bs) ≡ none
-unfolding zeroRun
-past-end i bs h = ap zeroRun (drop-of-length-le bs h)
+  -- the one that closes zeros is inside the data
+  pub closing : {zeros : ℕ} → zeroRun (drop at bs) ≡ some zeros → Closed bytes at zeros (at + suc zeros)
+  closing {zeros} e = record {
+    far = refl;
+    inside = omega (arith, zeros-inside (drop at bs) zeros e, length-drop at bs, length-bitsOf bytes);
+    found = e;
+  }
 
-module _ {bytes : List ℕ} {at zeros next : ℕ} (z : Zeros bytes at zeros next) where
-  -- at the end no one can close them
-  pub unclosed : 8 * length bytes ≤ next → zeroRun (drop at (bitsOf bytes)) ≡ none
-  unclosed h = z .found ∙ ap (behind zeros) (past-end next (bitsOf bytes) (omega (arith, length-bitsOf bytes)))
-
-  -- with the next bit
-  module _ {b : ℕ} (h : next < 8 * length bytes) (next-bit : b ≡ peek 1 (drop next (bitsOf bytes))) where
-    abbrev bs : List Bool
-    bs = bitsOf bytes
-
-    split : drop next bs ≡ getD bs next false ∷ drop (suc next) bs
-    split = drop-cons bs next false (omega (arith, length-bitsOf bytes))
-
-    -- a one closes them
-    pub one : b ≡ 1 → Closed bytes at zeros (next + 1)
-    unfolding peek zeroRun
-    one e = record { far = omega (arith, z .far); inside = omega arith; found = z .found ∙ cases (getD bs next false) split (sym next-bit ∙ e) }
+  -- by the first one
+  module _ {r : ℕ} (first : r ≡ oneOrEnd (8 * length bytes) at (zeroRun (drop at bs))) where
+    pub unclosed : 8 * length bytes ≤ r → zeroRun (drop at bs) ≡ none
+    unclosed h = cases (zeroRun (drop at bs)) refl first
       where
-        cases : (b : Bool) → drop next bs ≡ b ∷ drop (suc next) bs → peek 1 (drop next bs) ≡ 1 → behind zeros (zeroRun (drop next bs)) ≡ some zeros
-        cases true q k = rw q (ap some (add-zero zeros))
-        cases false q k = absurd (omega (arith, sym (ap (peek 1) q) ∙ k))
+        cases : (o : Option ℕ) → zeroRun (drop at bs) ≡ o → r ≡ oneOrEnd (8 * length bytes) at o → zeroRun (drop at bs) ≡ none
+        cases none e q = e
+        cases (some z) e q = absurd (omega (arith, q, closing e .inside))
 
-    -- a zero is one of them
-    pub another : (b ≡ 1 → ⊥) → Zeros bytes at (zeros + 1) (next + 1)
-    unfolding peek zeroRun
-    another e = record {
-      far = omega (arith, z .far);
-      inside = omega arith;
-      found = z .found ∙ cases (getD bs next false) split ∙ ap (λ (n : ℕ). behind (zeros + 1) (zeroRun (drop n bs))) (sym (add-one next));
-    }
+    pub closed : r < 8 * length bytes → Closed bytes at (r - at) (r + 1)
+    closed h = cases (zeroRun (drop at bs)) refl first
       where
-        counts : (o : Option ℕ) → behind zeros (elim o as (λ _. Option ℕ) [ none ↦ none | some y ↦ some (suc y) ]) ≡ behind (zeros + 1) o
-        counts none = refl
-        counts (some y) = ap some (omega arith)
+        cases : (o : Option ℕ) → zeroRun (drop at bs) ≡ o → r ≡ oneOrEnd (8 * length bytes) at o → Closed bytes at (r - at) (r + 1)
+        cases none e q = absurd (omega (arith, q))
+        cases (some z) e q =
+            let n : z ≡ r - at = omega (arith, q) in
+            record { far = omega (arith, q); inside = omega arith; found = e ∙ ap some n }
 
-        cases : (b : Bool) → drop next bs ≡ b ∷ drop (suc next) bs → behind zeros (zeroRun (drop next bs)) ≡ behind (zeros + 1) (zeroRun (drop (suc next) bs))
-        cases true q = absurd (e (next-bit ∙ ap (peek 1) q))
-        cases false q = rw q (counts (zeroRun (drop (suc next) bs)))
+  -- n zeros, of the data or past it, are some of those that a one closes
+  pub many : (n : ℕ) {zeros after : ℕ} → peek n (drop at bs) ≡ 0 → Closed bytes at zeros after → n ≤ zeros
+  many n {zeros} e k = cases (zeroRun (drop n (drop at bs))) (sym (only-zeros n (drop at bs) e) ∙ k .found)
+    where
+      cases : (o : Option ℕ) → behind n o ≡ some zeros → n ≤ zeros
+      cases none q = absurd (let y : _≡_ {A = ℕ} 0 1 = cc in omega arith)
+      cases (some y) q = let z : n + y ≡ zeros = cc in omega arith
+
+  -- by the next twelve bits, out of 32
+  module _ {w : ℕ} (window : w ≡ peek 32 (drop at bs)) where
+    twelve : w / 2 ^ 20 ≡ peek 12 (drop at bs)
+    twelve = rw window (peek-high 12 20 (drop at bs))
+
+    -- a one among the first eleven
+    pub early : 1 < w / 2 ^ 20 → (z : ℕ) × Closed bytes at z (at + suc z) × (z < 11)
+    early h =
+        let p : 0 < peek 11 (drop at bs) = omega (arith, twelve, peek-one 11 (drop at bs), peek-lt 1 (drop 11 (drop at bs))) in
+        (leadingZeros 11 (drop at bs), closing (some-one 11 (drop at bs) p), zeros-few 11 (drop at bs) p)
+
+    -- the twelfth is the first one
+    pub plain-eol : w / 2 ^ 20 ≡ 1 → Closed bytes at 11 (at + 12)
+    unfolding Count.leadingZeros
+    plain-eol e =
+        let q : peek 12 (drop at bs) ≡ 1 = sym twelve ∙ e in
+        closing
+        (some-one 12 (drop at bs) (omega (arith, q))
+        ∙ ap some (zeros-of-number 12 (drop at bs) ∙ ap (Count.leadingZeros 12) q))
+
+    pub twelve-zeros : w / 2 ^ 20 ≡ 0 → peek 12 (drop at bs) ≡ 0
+    twelve-zeros e = sym twelve ∙ e
 
 -- ---- The EOLs from a bit on
 
@@ -219,3 +224,93 @@ module _ {bytes : List ℕ} {from at : ℕ} (s : Searching bytes from at) where
           ∙ fuel (bitsOf bytes) (8 * length bytes - 1) (length (bitsOf bytes)) (at + suc zeros) (omega (arith, length-bitsOf bytes)) (omega arith)
           ∙ ap (skip (length (bitsOf bytes)) (bitsOf bytes)) (sym (k .far));
     }
+
+-- ---- The search, by eleven bits
+
+-- the lowest digit of a number that is set
+record Lowest (m v t : ℕ) : Type 0 where
+  below : t < m
+  odd : v / 2 ^ t % 2 ≡ 1
+
+lowest : (w m v : ℕ) → m ≤ w → 0 < v → v < 2 ^ m → Lowest m v (Count.trailingZeros w v)
+unfolding Count.trailingZeros
+lowest w zero v h p l = absurd (omega arith)
+lowest zero (suc m) v h p l = absurd (omega arith)
+lowest (suc w) (suc m) v h p l = cases (λ q. lowest w m (v / 2) (omega arith) q (omega (arith, pow-two m))) (v % 2) refl
+  where
+    cases : (0 < v / 2 → Lowest m (v / 2) (Count.trailingZeros w (v / 2))) → (d : ℕ) → v % 2 ≡ d → Lowest (suc m) v (Count.under d (Count.trailingZeros w (v / 2)))
+    cases ih zero e =
+        let k = ih (omega arith) in
+        let t = Count.trailingZeros w (v / 2) in
+        let n : 1 + t ≡ suc t = omega arith in
+        record { below = omega (arith, k .below); odd = ap (λ (i : ℕ). v / 2 ^ i % 2) (sym n) ∙ ap (λ (x : ℕ). x % 2) (sym (shr-shr v 1 t)) ∙ k .odd }
+    cases ih (suc d) e = record { below = omega arith; odd = omega arith }
+
+-- the last one among n bits
+last-one : (n v : ℕ) (ds : List Bool) → v ≡ peek n ds → n ≤ 64 → 0 < v → let t = Count.trailingZeros 64 v in (t < n) × (peek 1 (drop (n - suc t) ds) ≡ 1)
+last-one n v ds e h p =
+    let t = Count.trailingZeros 64 v in
+    let k = lowest 64 n v h p (rw e (peek-lt n ds)) in
+    let m : (n - suc t + 1) + t ≡ n = omega (arith, k .below) in (
+      k .below,
+      sym (peek-low (n - suc t) 1 ds)
+          ∙ ap (λ (x : ℕ). x % 2) (sym (peek-high (n - suc t + 1) t ds) ∙ ap (λ (x : ℕ). peek x ds / 2 ^ t) m ∙ ap (λ (x : ℕ). x / 2 ^ t) (sym e))
+          ∙ k .odd,
+    )
+
+-- past a one that stands among the next eleven bits: those before it close no EOL either
+past : (n k : ℕ) {bytes : List ℕ} {from at : ℕ} → Searching bytes from at → k < n → n ≤ 11 → peek 1 (drop (at + k) (bitsOf bytes)) ≡ 1 → Searching bytes from (at + suc k)
+past zero k s l h e = absurd (omega arith)
+past (suc n) k {bytes} {from} {at} s l h e = step (λ k′ at′ s′ l′. past n k′ s′ l′ (omega arith)) z (k - z) (omega (arith, few)) (on s (closing bytes at (some-one (suc k) ds p)) (omega (arith, few)))
+  where
+    ds : List Bool
+    ds = drop at (bitsOf bytes)
+
+    p : 0 < peek (suc k) ds
+    p = omega (arith, peek-one k ds, ap (peek 1) (drop-drop k at (bitsOf bytes)), e)
+
+    z : ℕ
+    z = leadingZeros (suc k) ds
+
+    few : z < suc k
+    few = zeros-few (suc k) ds p
+
+    -- the first one is it, or stands before it
+    step : ((k′ at′ : ℕ) → Searching bytes from at′ → k′ < n → peek 1 (drop (at′ + k′) (bitsOf bytes)) ≡ 1 → Searching bytes from (at′ + suc k′))
+        → (z d : ℕ) → z + d ≡ k → Searching bytes from (at + suc z) → Searching bytes from (at + suc k)
+    step ih z zero q s′ = let m : z ≡ k = omega arith in rw (← m) s′
+    step ih z (suc d) q s′ =
+        let m : at + suc z + d ≡ at + k = omega arith in
+        let t : at + suc z + suc d ≡ at + suc k = omega arith in
+        rw (← t) (ih d (at + suc z) s′ (omega arith) (ap (λ (x : ℕ). peek 1 (drop x (bitsOf bytes))) m ∙ e))
+
+-- the parts of a buffer, as the search holds them
+abbrev pub held : ℕ → ℕ → ℕ → Buffer
+held limit at bits = record { at = at; limit = limit; bits = bits }
+
+pub loaded : {bytes : List ℕ} {at : ℕ} {b : Buffer} → LoadedAt bytes at b → Loaded bytes (held (b .limit) at (b .bits))
+loaded l = rw (l .place) at (l .loaded)
+
+module _ {bytes : List ℕ} {b : Buffer} (l : Loaded bytes b) where
+  eleven : b .bits / 2 ^ 53 ≡ peek 11 (drop (b .at) (bitsOf bytes))
+  eleven = rw (l .holds) (top-first 11 (l .live) (drop (b .at) (bitsOf bytes)) (omega (arith, l .enough, l .reached)) (l .most))
+
+  -- no one among eleven
+  pub eleven-zeros : b .bits / 2 ^ 53 ≡ 0 → peek 11 (drop (b .at) (bitsOf bytes)) ≡ 0
+  eleven-zeros e = sym eleven ∙ e
+
+  -- the search goes on behind the last one of them
+  module _ (p : 0 < b .bits / 2 ^ 53) where
+    abbrev t : ℕ
+    t = Count.trailingZeros 64 (b .bits / 2 ^ 53)
+
+    last : (t < 11) × (peek 1 (drop (11 - suc t) (drop (b .at) (bitsOf bytes))) ≡ 1)
+    last = last-one 11 (b .bits / 2 ^ 53) (drop (b .at) (bitsOf bytes)) eleven (omega arith) p
+
+    pub few : t < 11
+    few = last .0
+
+    pub behind-last : {from : ℕ} → Searching bytes from (b .at) → Searching bytes from (b .at + (11 - t))
+    behind-last s =
+        let n : b .at + suc (11 - suc t) ≡ b .at + (11 - t) = omega (arith, few) in
+        rw (← n) (past 11 (11 - suc t) s (omega arith) (omega arith) (ap (peek 1) (sym (drop-drop (11 - suc t) (b .at) (bitsOf bytes))) ∙ last .1))

@@ -18,37 +18,15 @@ use mir.ValLaws.{toZ-ofZ}
 use Rattle.rules.specs.Bits.{bit, bitsOf, peek, firstBit, leadingZeros}
 use Rattle.rules.specs.Runs.{Res, ok, fault}
 use Rattle.rules.specs.Modes.{Mode, VR, VL, ModeIn, known, unknown, Moded, moded, modeFor, modeByZeros, modeTake, readMode}
-use Rattle.rules.proofs.Bits.{pow-two, peek-lt, peek-nil, peek-high, peek-low, length-bitsOf}
+use Rattle.rules.proofs.Bits.{peek-high, peek-low, length-bitsOf}
 use Rattle.rules.proofs.Modes.{modes-agree}
 use Rattle.bit_reader.specs.Cursor.{movedBy}
 use Rattle.bit_reader.specs.declared.Moved.{Moved}
 use Rattle.bit_reader.specs.declared.Moved.the-variants.{To, End}
+use Rattle.bit_reader.proofs.Clear.{zeros-of-number}
 use Rattle.codes.specs.Modes.{offsetMode}
 
 -- ---- Leading zeros, in windows of any width
-
--- n digits: zeros, and then m more, of which the first is set
-record Digits (n zeros number : ℕ) : Type 0 where
-  m : ℕ
-  all : zeros + m ≡ n
-  below : number < 2 ^ m
-  above : 2 ^ m ≤ 2 * number + 1
-
--- a zero before them
-zero-before : {n zeros x : ℕ} (y : ℕ) → y ≡ x → Digits n zeros x → Digits (suc n) (suc zeros) y
-zero-before y e d = record { m = d .m; all = omega (arith, d .all); below = omega (arith, d .below); above = omega (arith, d .above) }
-
--- those of a window
-digits : (n : ℕ) (bs : List Bool) → Digits n (leadingZeros n bs) (peek n bs)
-unfolding leadingZeros peek
-digits zero bs = record { m = 0; all = omega arith; below = omega arith; above = omega arith }
-digits (suc n) [] = zero-before 0 (sym (peek-nil n)) (digits n [])
-digits (suc n) (false ∷ bs) = zero-before _ (omega arith) (digits n bs)
-digits (suc n) (true ∷ bs) = record { m = suc n; all = omega arith; below = omega (arith, peek-lt n bs, pow-two n); above = omega (arith, pow-two n) }
-
--- counted in the bits, or in their number
-zeros-of-number : (n : ℕ) (bs : List Bool) → leadingZeros n bs ≡ Count.leadingZeros n (peek n bs)
-zeros-of-number n bs = let d = digits n bs in Count.leading-unique n (peek n bs) (leadingZeros n bs) (d .m) (d .all) (d .below) (d .above)
 
 -- the bit after i others, in a window that has it
 bit-of-number : (i rest : ℕ) (bs : List Bool) → firstBit (drop i bs) ≡ bit rest (peek (i + 1 + rest) bs)

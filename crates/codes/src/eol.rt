@@ -19,24 +19,24 @@ pub fn read_eols(src: &[u8], from: usize, max: usize) -> Eols
     let end = 8 * src.len();
     let mut count: usize = 0;
     let mut at = from;
-    'eols: while count < max {
-        let mut zeros: usize = 0;
-        let mut next = at;
-        loop {
-            if next >= end {
-                break 'eols;
-            }
-            let b = bit_reader::bit(src, next);
-            next += 1;
-            if b == 1 {
-                break;
-            }
-            zeros += 1;
+    while count < max {
+        let ahead = bit_reader::peek(src, at) >> 20;
+        // A one among the next eleven bits: no EOL begins here.
+        if 1 < ahead {
+            break;
         }
-        if zeros < 11 {
-            break 'eols;
+        // Eleven zeros and a one: an EOL without fill. The next code need not wait for a count.
+        if ahead == 1 {
+            at += 12;
+            count += 1;
+            continue;
         }
-        at = next;
+        // Twelve zeros, of the data or past it.
+        let one = bit_reader::zeros::first_one(src, at);
+        if one >= end {
+            break;
+        }
+        at = one + 1;
         count += 1;
     }
     Eols { count, at }
@@ -60,23 +60,25 @@ pub fn skip_to_eol(src: &[u8], from: usize) -> Skip
     requires { ⌜ Loading (now src) from ⌝ }
     ensures { λ r. ⌜ skipOf r ≡ skipToEol (bitsOf (now (src .entry))) from ⌝ }
 {
-    let end = 8 * src.len();
     let mut at = from;
     'search: loop {
-        let mut zeros: usize = 0;
-        let mut next = at;
-        while next < end {
-            let b = bit_reader::bit(src, next);
-            next += 1;
-            if b == 1 {
-                if zeros < 11 {
-                    at = next;
-                    continue 'search;
-                }
+        let b = bit_reader::buffer::load(src, at);
+        let limit = b.limit;
+        let mut bits = b.bits;
+        // Up to the limit the next eleven bits are there.
+        while at <= limit {
+            let ahead = bits >> 53;
+            if ahead == 0 {
                 break 'search;
             }
-            zeros += 1;
+            // No one among them closes eleven zeros, so the last of them is the one to begin behind.
+            let n = 11 - u64::trailing_zeros(ahead) as usize;
+            at += n;
+            bits = bits << n;
         }
+    }
+    // Eleven zeros, of the data or past it: an EOL where a one closes them.
+    if bit_reader::zeros::first_one(src, at) >= 8 * src.len() {
         return Skip::Nowhere;
     }
     Skip::To(at)

@@ -1,12 +1,7 @@
 -- `bit_reader::buffer::feed` meets its contract: up to the limit a shift takes bits off the buffer. Assumes nothing.
 use mathlib.Core.Path.{refl}
-use Prim.Native.Nat.{_-_}
 use native.Mathlib.Omega.{arith}
-use denote.Ref.{now}
-use lib.ListN.{drop}
-use lib.Seq.{drop-drop}
-use Rattle.rules.specs.Bits.{bitsOf}
-use Rattle.bit_reader.proofs.Window.{top-shift}
+use Rattle.bit_reader.proofs.Window.{fed}
 use borrow.Author.Needs.{needs}
 use Rattle.bit_reader.proofs.buffer.feed.Statement.{statement}
 use Rattle.bit_reader.proofs.buffer.feed.Tie as tie
@@ -20,22 +15,7 @@ shl-t7 c = search needs
 returns : tie.Need-returns
 returns c =
     let s = c .before .before .before .before .before in
-    let b = s .args .b in
-    let n = s .args .n in
-    let h = s .pre .loaded in
-    let bs = bitsOf (now (s .args .src)) in
-    record {
-      place = refl;
-      loaded =
-          record {
-            live = h .live - n;
-            most = omega arith;
-            holds = rw (h .holds, top-shift n (h .live) (drop (b .at) bs) (omega arith) (h .most), drop-drop n (b .at) bs);
-            enough = omega arith;
-            reached = omega arith;
-            inside = omega arith;
-          };
-    }
+    record { place = refl; loaded = fed (s .args .n) (s .pre .loaded) (omega arith) (omega arith) }
 
 mul-if2 : tie.Need-mul-if2
 mul-if2 c = search needs

@@ -1,77 +1,74 @@
--- `codes::eol::read_eols` meets its contract. The outer loop's invariant: the EOLs counted so far stand before `at`; the inner loop's: only zeros
--- stand from there to `next`. The measures are the EOLs and the bits left. Assumes nothing.
-use Prim.Native.Nat.{_+_, _-_, _*_}
+-- `codes::eol::read_eols` meets its contract. The invariant: the EOLs counted so far stand before `at`. The measure is the EOLs left. Assumes nothing.
+use Prim.Native.Nat.{_-_}
 use native.Mathlib.Omega.{arith}
-use lib.ListN.{length}
 use denote.Ref.{now}
-use Rattle.codes.proofs.Eols.{Zeros, Closed, no-zeros, unclosed, one, another, Counted, none-yet, enough, no-one, no-eol, eol}
+use borrow.Author.Needs.{needs}
+use Rattle.codes.proofs.Eols.{unclosed, closed, many, early, plain-eol, twelve-zeros, Counted, none-yet, enough, no-one, no-eol, eol}
 use Rattle.codes.proofs.eol.read_eols.Statement.{statement}
 use Rattle.codes.proofs.eol.read_eols.Tie as tie
 
 abbrev Inv-loop : tie.InvT-loop
-Inv-loop src from max end count at zeros₀ next₀ zeros next = Zeros src at zeros next
+Inv-loop src from max end count₀ at₀ count at = Counted src max from count at
 
 abbrev μ-loop : tie.MeasureT-loop
-μ-loop src from max end count at zeros₀ next₀ zeros next = 8 * length src - next
+μ-loop src from max end count₀ at₀ count at = max - count
 
-abbrev Inv-eols : tie.InvT-eols
-Inv-eols src from max end count₀ at₀ count at = Counted src max from count at
+mul-end : tie.Need-mul-end Inv-loop μ-loop
+mul-end c = search needs
 
-abbrev μ-eols : tie.MeasureT-eols
-μ-eols src from max end count₀ at₀ count at = max - count
+loop-holds : tie.Need-loop-holds Inv-loop μ-loop
+loop-holds c = none-yet (c .before .args .max) (c .before .pre .inside)
 
-mul-end : tie.Need-mul-end Inv-loop μ-loop Inv-eols μ-eols
-mul-end c = omega arith
+peek-requires : tie.Need-peek-requires Inv-loop μ-loop
+peek-requires c κs = search needs
 
-eols-holds : tie.Need-eols-holds Inv-loop μ-loop Inv-eols μ-eols
-eols-holds c = none-yet (c .before .args .max) (c .before .pre .inside)
+add-at : tie.Need-add-at Inv-loop μ-loop
+add-at c = search needs
 
-loop-holds : tie.Need-loop-holds Inv-loop μ-loop Inv-eols μ-eols
-loop-holds c = no-zeros (c .before .eols .inv .inside)
+add-count : tie.Need-add-count Inv-loop μ-loop
+add-count c = search needs
 
-bit-requires : tie.Need-bit-requires Inv-loop μ-loop Inv-eols μ-eols
-bit-requires c κs = c .loop-test .left
+loop-less : tie.Need-loop-less Inv-loop μ-loop
+loop-less c = search needs
 
-add-next : tie.Need-add-next Inv-loop μ-loop Inv-eols μ-eols
-add-next c = omega arith
+loop-again : tie.Need-loop-again Inv-loop μ-loop
+loop-again c =
+    let k = c .before .before .before .before in
+    eol (k .loop .inv) (c .before .before .before .loop-test .taken) (plain-eol (now (k .before .before .args .src)) (k .loop .at) (c .before .before .peek .ensures) (c .if2 .taken)) (omega arith)
 
-add-zeros : tie.Need-add-zeros Inv-loop μ-loop Inv-eols μ-eols
-add-zeros c = omega (arith, c .before .before .before .loop .inv .far)
+first-one-requires : tie.Need-first-one-requires Inv-loop μ-loop
+first-one-requires c κs = search needs
 
-loop-less : tie.Need-loop-less Inv-loop μ-loop Inv-eols μ-eols
-loop-less c = omega arith
+add-at-2 : tie.Need-add-at-2 Inv-loop μ-loop
+add-at-2 c = search needs
 
-loop-again : tie.Need-loop-again Inv-loop μ-loop Inv-eols μ-eols
-loop-again c = another (c .before .before .before .loop .inv) (c .before .before .loop-test .left) (c .before .bit .ensures) (c .if1 .left)
+add-count-2 : tie.Need-add-count-2 Inv-loop μ-loop
+add-count-2 c = search needs
 
-add-count : tie.Need-add-count Inv-loop μ-loop Inv-eols μ-eols
-add-count c = omega arith
+loop-less-2 : tie.Need-loop-less-2 Inv-loop μ-loop
+loop-less-2 c = search needs
 
-eols-less : tie.Need-eols-less Inv-loop μ-loop Inv-eols μ-eols
-eols-less c = omega arith
+loop-again-2 : tie.Need-loop-again-2 Inv-loop μ-loop
+loop-again-2 c =
+    let k = c .before .before .before .before .before .before in
+    let src = now (k .before .before .args .src) in
+    let one = closed src (k .loop .at) (c .before .first-one .ensures) (c .if3 .left) in
+    let zeros = twelve-zeros src (k .loop .at) (c .before .before .before .before .peek .ensures) (omega (arith, c .before .before .before .if1 .left, c .before .before .if2 .left)) in
+    eol (k .loop .inv) (c .before .before .before .before .before .loop-test .taken) one (omega (arith, many src (k .loop .at) 12 zeros one))
 
--- the one that closes the zeros
-closed : (c : tie.Then1 Inv-loop μ-loop Inv-eols μ-eols) →
-    let l = c .before .before .before .loop in
-    Closed (now (c .before .before .before .before .before .before .before .args .src))
-    (c .before .before .before .before .before .eols .at) (l .zeros) (l .next + 1)
-closed c = one (c .before .before .before .loop .inv) (c .before .before .loop-test .left) (c .before .bit .ensures) (c .if1 .taken)
+returns : tie.Need-returns Inv-loop μ-loop
+returns c = enough (c .before .loop .inv) (c .loop-test .left)
 
-eols-again : tie.Need-eols-again Inv-loop μ-loop Inv-eols μ-eols
-eols-again c =
-    eol (c .before .before .before .before .before .before .eols .inv) (c .before .before .before .before .before .eols-test .taken)
-    (closed (c .before)) (c .if2 .left)
+returns-2 : tie.Need-returns-2 Inv-loop μ-loop
+returns-2 c =
+    let k = c .before .before .before in
+    let one = early (now (k .before .before .args .src)) (k .loop .at) (c .before .peek .ensures) (c .if1 .taken) in
+    no-eol (k .loop .inv) (c .before .before .loop-test .taken) (one .1) (one .2)
 
-returns : tie.Need-returns Inv-loop μ-loop Inv-eols μ-eols
-returns c = enough (c .before .eols .inv) (c .eols-test .left)
-
-returns-2 : tie.Need-returns-2 Inv-loop μ-loop Inv-eols μ-eols
-returns-2 c = no-one (c .before .before .before .eols .inv) (c .before .before .eols-test .taken) (unclosed (c .before .loop .inv) (c .loop-test .taken))
-
-returns-3 : tie.Need-returns-3 Inv-loop μ-loop Inv-eols μ-eols
+returns-3 : tie.Need-returns-3 Inv-loop μ-loop
 returns-3 c =
-    no-eol (c .before .before .before .before .before .before .eols .inv) (c .before .before .before .before .before .eols-test .taken)
-    (closed (c .before)) (c .if2 .taken)
+    let k = c .before .before .before .before .before .before in
+    no-one (k .loop .inv) (c .before .before .before .before .before .loop-test .taken) (unclosed (now (k .before .before .args .src)) (k .loop .at) (c .before .first-one .ensures) (c .if3 .taken))
 
 pub read-eols-spec : {M : Type 1} → statement M
 read-eols-spec =
@@ -79,19 +76,18 @@ read-eols-spec =
     (tie.spec
     Inv-loop
     μ-loop
-    Inv-eols
-    μ-eols
     mul-end
-    eols-holds
     loop-holds
-    bit-requires
-    add-next
-    add-zeros
+    peek-requires
+    add-at
+    add-count
     loop-less
     loop-again
-    add-count
-    eols-less
-    eols-again
+    first-one-requires
+    add-at-2
+    add-count-2
+    loop-less-2
+    loop-again-2
     returns
     returns-2
     returns-3)
