@@ -2,29 +2,30 @@
 use mathlib.Core.Path.{_≡_, refl, sym, ap, _∙_}
 use mathlib.Core.Bool.{Bool, true, false, cond, not, _&&_, _||_}
 use mathlib.Core.List.{List, []}
-use mathlib.Core.Option.{none, some}
-use Prim.Native.Nat.{ℕ, _*_, _≤_, _<_}
+use mathlib.Core.Option.{Option, none, some}
+use Prim.Native.Nat.{ℕ, suc, _+_, _*_, _≤_, _<_}
 use native.Mathlib.Omega.{arith}
 use lib.Dec.{eqb, leb, ltb}
-use lib.ListN.{length}
-use borrow.Author.Tests.{lt-ltb, le-ltb}
-use Rattle.rules.specs.Bits.{bitsOf}
+use lib.ListN.{length, drop}
+use borrow.Author.Tests.{lt-ltb, le-ltb, ltb-false, eqb-true}
+use Rattle.rules.specs.Bits.{bitsOf, peek}
 use Rattle.rules.specs.Eols as Rule
-use Rattle.rules.specs.Eols.{eolsTo, allEols, skipToEol}
+use Rattle.rules.specs.Eols.{zeroRun, eolAfter, eolsTo, allEols, skipToEol}
 use Rattle.rules.specs.Rows.{Settings, alignedIf}
 use Rattle.rules.specs.Group3.{Tagging, eols3, line-at, end-at, no-eol-at, leading, judged, searched, missing, lacking, checked, checkEob}
 use Rattle.rules.proofs.Bits.{length-bitsOf}
-use Rattle.rules.proofs.Eols.{eols3-ahead, skip-finds, eol-inside}
+use Rattle.rules.proofs.Eols.{EolAt, eols3-ahead, eols3-read, skip-finds, eol-inside}
 use Rattle.rules.proofs.Budget.{Bytes, aligned-ahead}
 use Rattle.bit_reader.specs.Loaded.{Loading}
 use Rattle.codes.specs.declared.eol.Eols.{Eols}
 use Rattle.codes.specs.Eols.{eolsOf}
+use Rattle.codes.proofs.Eols.{closing, many, search-from, nowhere}
 use Rattle.rows.specs.declared.DecodeSettings.{DecodeSettings}
 use Rattle.rows.specs.declared.State.{State}
 use Rattle.rows.specs.Settings.{settingsOf}
 use Rattle.rows.specs.Between.{stateOf}
 use Rattle.group3.specs.Tags.{taggingOf}
-use Rattle.group3.specs.Ahead.{alignedFrom, BeforeIn, judgedIn, missingIn, beforeIn}
+use Rattle.group3.specs.Ahead.{alignedFrom, NoEolAt, BeforeIn, judgedIn, missingIn, beforeIn}
 
 -- ---- Bits of the data
 
@@ -86,6 +87,44 @@ lacks-done false b d f q = refl
 pub lacks : (z b d f : Bool) → z ≡ true → b ≡ true → d ≡ false → not f ≡ ((z && b) && not (d || f))
 lacks z b d f p q r = rw (p, q, r)
 
+-- and where it is, no EOL was read
+lacks-count : (z b d f : Bool) → true ≡ ((z && b) && not (d || f)) → z ≡ true
+lacks-count true b d f q = refl
+lacks-count false b d f q = sym q
+
+-- where none was read, none stands
+none-stands : {bytes : List ℕ} {at : ℕ} → Loading bytes at → (t : Tagging) (e : Eols) → eolsOf e ≡ eols3 (bitsOf bytes) t at → e .count ≡ 0 → NoEolAt bytes (e .at)
+none-stands {bytes} {at} h t e q n = record { loading = eols-loading h t e q; no-eol = cases (zeroRun (drop (e .at) bs)) refl }
+  where
+    bs : List Bool
+    bs = bitsOf bytes
+
+    count : eols3 bs t at .count ≡ 0
+    count = sym (ap (λ (e : Rule.Eols). e .count) q) ∙ n
+
+    here : e .at ≡ at
+    here = ap (λ (e : Rule.Eols). e .at) q ∙ eols3-ahead bs t at .none-read count
+
+    cases : (o : Option ℕ) → zeroRun (drop (e .at) bs) ≡ o → eolAfter (e .at) o ≡ none
+    cases none r = refl
+    cases (some z) r = few (ltb z 11) refl
+      where
+        few : (b : Bool) → ltb z 11 ≡ b → cond b none (some (e .at + suc z)) ≡ none
+        few true k = refl
+        few false k =
+            let there : EolAt bs at = record { zeros = z; run = rw here at r; many = ltb-false z 11 k } in
+            absurd (omega (arith, count, eols3-read bs t at there))
+
+-- and eleven zeros are the last of the data
+pub none-left : {bytes : List ℕ} {at : ℕ} → NoEolAt bytes at → peek 11 (drop at (bitsOf bytes)) ≡ 0 → none ≡ skipToEol (bitsOf bytes) at
+none-left {bytes} {at} h zeros = nowhere (search-from (h .loading .inside)) (cases (zeroRun (drop at (bitsOf bytes))) refl)
+  where
+    cases : (o : Option ℕ) → zeroRun (drop at (bitsOf bytes)) ≡ o → zeroRun (drop at (bitsOf bytes)) ≡ none
+    cases none e = e
+    cases (some z) e =
+        let eol : eolAfter at (zeroRun (drop at (bitsOf bytes))) ≡ some (at + suc z) = rw (e, le-ltb z 11 (many bytes at 11 zeros (closing bytes at e))) in
+        absurd (let no = h .no-eol in let y : _≡_ {A = ℕ} 0 1 = cc in omega arith)
+
 -- ---- The judgement
 
 module _ (settings : DecodeSettings) (bytes : List ℕ) where
@@ -146,6 +185,10 @@ module _ (settings : DecodeSettings) (bytes : List ℕ) where
     module _ (from : ℕ) (f : from ≡ alignedFrom settings st) (p : eolsOf e ≡ eols3 bs t from) where
       whole : (b : Bool) → b ≡ lacking S t bs rowsDone (stateOf [] st) (eolsOf e) → checked S t bs rowsDone (stateOf [] st) (eolsOf e) b ≡ beforeIn settings bytes st false
       whole b q = ap (checked S t bs rowsDone (stateOf [] st) (eolsOf e)) q ∙ ap (checkEob S t bs (stateOf [] st) rowsDone) (p ∙ ap (eols3 bs t) f)
+
+      -- an EOL that is lacking does not stand where it is looked for
+      pub lacking-there : Loading bytes from → true ≡ lacking S t bs rowsDone (stateOf [] st) (eolsOf e) → NoEolAt bytes (e .at)
+      lacking-there h q = none-stands h t e p (eqb-true (e .count) 0 (lacks-count (eqb (e .count) 0) (st .eols) rowsDone (leb (length bs) (e .at)) q))
 
       pub before-lacking : true ≡ lacking S t bs rowsDone (stateOf [] st) (eolsOf e) → (r : BeforeIn settings bytes) → r ≡ missingIn settings bytes (e .at) → r ≡ beforeIn settings bytes st false
       before-lacking q r h = h ∙ whole true q

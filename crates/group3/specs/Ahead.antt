@@ -2,11 +2,15 @@
 use mathlib.Core.Path.{_≡_}
 use mathlib.Core.Bool.{Bool, not, _&&_}
 use mathlib.Core.List.{List, []}
+use mathlib.Core.Option.{none}
 use Prim.Native.Nat.{ℕ}
+use lib.ListN.{drop}
 use Rattle.rules.specs.Bits.{bitsOf}
+use Rattle.rules.specs.Eols.{zeroRun, eolAfter}
 use Rattle.rules.specs.Rows.{Settings, alignedIf}
 use Rattle.rules.specs.Group3 as Rule
 use Rattle.rules.specs.Group3.{Tagging, line-at, end-at, no-eol-at, judged, missing, lacking, before}
+use Rattle.bit_reader.specs.Loaded.{Loading}
 use Rattle.codes.specs.declared.eol.Eols.{Eols}
 use Rattle.codes.specs.Eols.{eolsOf}
 use Rattle.rows.specs.declared.DecodeSettings.{DecodeSettings}
@@ -20,6 +24,11 @@ use Rattle.group3.specs.Tags.{taggingOf}
 -- "Without EOLs, we need to align first"
 abbrev pub alignedFrom : DecodeSettings → State → ℕ
 alignedFrom s st = alignedIf (s .«rows_are_byte_aligned» && not (st .eols)) (st .at)
+
+-- what `next_eol` asks: a bit of the data at which no EOL begins
+pub record NoEolAt (bytes : List ℕ) (at : ℕ) : Type 0 where
+  pub loading : Loading bytes at
+  pub no-eol : eolAfter at (zeroRun (drop at (bitsOf bytes))) ≡ none
 
 -- an EOL is lacking after the row, whatever the settings
 abbrev pub Lacks : List ℕ → Bool → State → Eols → Bool → Type 0

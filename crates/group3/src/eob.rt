@@ -9,9 +9,12 @@ ghost use mathlib.Core.Path.{_≡_};
 ghost use mathlib.Core.Bool.{false, _&&_};
 ghost use Prim.Native.Nat.{_≤_};
 ghost use lib.Dec.{eqb, leb};
+ghost use Rattle.rules.specs.Bits.{bitsOf};
+ghost use Rattle.rules.specs.Eols.{skipToEol};
 ghost use Rattle.bit_reader.specs.Cursor.{mostBits};
 ghost use Rattle.bit_reader.specs.Loaded.{Loading};
-ghost use Rattle.group3.specs.Ahead.{alignedFrom, Lacks, beforeOf, judgedIn, missingIn, beforeIn};
+ghost use Rattle.codes.specs.Eols.{skipOf};
+ghost use Rattle.group3.specs.Ahead.{alignedFrom, NoEolAt, Lacks, beforeOf, judgedIn, missingIn, beforeIn};
 
 // A line at a bit, with EOLs expected or not; the page's end, at a bit; or an EOL that is missing, at a bit.
 pub enum Before {
@@ -63,15 +66,27 @@ fn judge(
     Before::Line(at, expected)
 }
 
+// The next EOL from a bit at which none begins. Where eleven zeros stand there all the same, no one is left to close them, and they
+// need not be counted once more.
+fn next_eol(src: &[u8], at: usize) -> Skip
+    requires { ⌜ NoEolAt (now src) at ⌝ }
+    ensures { λ r. ⌜ skipOf r ≡ skipToEol (bitsOf (now (src .entry))) at ⌝ }
+{
+    if bit_reader::peek(src, at) >> 21 == 0 {
+        return Skip::Nowhere;
+    }
+    eol::skip_to_eol(src, at)
+}
+
 // The line had more data than expected, and the rest is skipped. With no EOL left, no more are expected.
 fn skip_rest(src: &[u8], settings: DecodeSettings, at: usize) -> Before
-    requires { ⌜ Loading (now src) at ⌝ }
+    requires { ⌜ NoEolAt (now src) at ⌝ }
     ensures { λ r. ⌜ beforeOf settings (now (src .entry)) r ≡ missingIn settings (now (src .entry)) at ⌝ }
 {
     if settings.strict {
         return Before::NoEol(at);
     }
-    match eol::skip_to_eol(src, at) {
+    match next_eol(src, at) {
         Skip::To(next) => {
             let eols = eols::read_eols(src, settings, next);
             judge(src, settings, false, true, eols)

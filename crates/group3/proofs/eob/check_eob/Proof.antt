@@ -5,7 +5,7 @@ use denote.Ref.{now}
 use Rattle.bit_reader.specs.Loaded.{Loading}
 use Rattle.rows.specs.Settings.{settingsOf}
 use Rattle.group3.specs.Tags.{taggingOf}
-use Rattle.group3.proofs.Judging.{aligned-loading, eols-loading, before-lacking, before-judged}
+use Rattle.group3.proofs.Judging.{aligned-loading, lacking-there, before-lacking, before-judged}
 use Rattle.group3.proofs.eob.check_eob.Statement.{statement}
 use Rattle.group3.proofs.eob.check_eob.Tie as tie
 
@@ -28,7 +28,9 @@ lacks-eol-requires c κs = search needs
 skip-rest-requires : tie.Need-skip-rest-requires
 skip-rest-requires c κs =
     let read = c .before .before .before .before in
-    eols-loading (from (read .before)) (taggingOf (read .before .before .before .args .settings .encoding)) (read .read-eols .result) (read .read-eols .ensures)
+    let a = read .before .before .before .args in
+    lacking-there (a .settings) (now (a .src)) (a .state) (read .read-eols .result) (read .before .align .result) (read .before .align .ensures) (read .read-eols .ensures) (from (read .before))
+    (sym (c .if1 .taken) ∙ c .before .lacks-eol .ensures (settingsOf (a .settings)) (taggingOf (a .settings .encoding)))
 
 returns : tie.Need-returns
 returns c =

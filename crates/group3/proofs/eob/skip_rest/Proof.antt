@@ -10,14 +10,14 @@ use Rattle.group3.proofs.eob.skip_rest.Tie as tie
 returns : tie.Need-returns
 returns c = let a = c .before .before .args in missing-strict (a .settings) (now (a .src)) (a .at) (c .if1 .taken)
 
-skip-to-eol-requires : tie.Need-skip-to-eol-requires
-skip-to-eol-requires c κs = search needs
+next-eol-requires : tie.Need-next-eol-requires
+next-eol-requires c κs = search needs
 
 enum-known-next : tie.Need-enum-known-next
 enum-known-next c = search needs
 
 read-eols-requires : tie.Need-read-eols-requires
-read-eols-requires c κs = found-loading (c .before .before .before .before .before .before .pre) _ (sym (ap skipOf (c .before .next .given .1)) ∙ c .before .before .before .skip-to-eol .ensures)
+read-eols-requires c κs = found-loading (c .before .before .before .before .before .before .pre .loading) _ (sym (ap skipOf (c .before .next .given .1)) ∙ c .before .before .before .next-eol .ensures)
 
 judge-requires : tie.Need-judge-requires
 judge-requires c κs = search needs
@@ -31,13 +31,13 @@ judge-requires-2 c κs = search needs
 returns-2 : tie.Need-returns-2
 returns-2 c =
     let a = c .before .before .before .before .before .before .before .before .args in
-    missing-found (a .settings) (now (a .src)) (a .at) (c .before .before .before .before .before .before .if1 .left) _ _ (sym (ap skipOf (c .before .before .before .next .given .1)) ∙ c .before .before .before .before .before .skip-to-eol .ensures)
+    missing-found (a .settings) (now (a .src)) (a .at) (c .before .before .before .before .before .before .if1 .left) _ _ (sym (ap skipOf (c .before .before .before .next .given .1)) ∙ c .before .before .before .before .before .next-eol .ensures)
     (c .before .read-eols .result) (c .before .read-eols .ensures) (c .judge .ensures)
 
 returns-3 : tie.Need-returns-3
 returns-3 c =
     let a = c .before .before .before .before .before .before .args in
-    missing-none (a .settings) (now (a .src)) (a .at) (c .before .before .before .before .if1 .left) _ (sym (ap skipOf (c .before .enum-told .given .1)) ∙ c .before .before .before .skip-to-eol .ensures)
+    missing-none (a .settings) (now (a .src)) (a .at) (c .before .before .before .before .if1 .left) _ (sym (ap skipOf (c .before .enum-told .given .1)) ∙ c .before .before .before .next-eol .ensures)
     (c .judge2 .ensures)
 
 pub skip-rest-spec : {M : Type 1} → statement M
@@ -45,7 +45,7 @@ skip-rest-spec =
     tie.close
     (tie.spec
     returns
-    skip-to-eol-requires
+    next-eol-requires
     enum-known-next
     read-eols-requires
     judge-requires
