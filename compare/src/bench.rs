@@ -1,8 +1,10 @@
-//! Times on full pages: of the page form against the crate's, and of the page writer against libtiff's.
+//! Times on full pages and on long fill: of the page form against the crate's, and of the page writer against libtiff's.
 //! Only a library that is linked in can be timed: under an emulator a time says nothing.
 
 use std::io;
 
+#[cfg(feature = "linked")]
+mod fill;
 #[cfg(feature = "linked")]
 mod readers;
 #[cfg(feature = "linked")]

@@ -9,22 +9,24 @@ use std::io;
 #[cfg(feature = "libtiff")]
 pub mod libtiff;
 
+// The answer goes through a pointer before the other arguments, as x86-64 has it for a struct of that size. So declared, a library
+// that was compiled for another processor is called alike.
 #[rustfmt::skip]
 unsafe extern "C" {
-    fn ccitt_decode_group4(src: *const u8, src_len: usize, columns: u32, rows: u32, end_of_block: bool, rows_are_byte_aligned: bool, strict: bool,
-        changes: *mut u32, changes_len: usize, ends: *mut u32, ends_len: usize) -> Answer;
-    fn ccitt_decode_group3_1d(src: *const u8, src_len: usize, columns: u32, rows: u32, end_of_block: bool, end_of_line: bool, rows_are_byte_aligned: bool, strict: bool,
-        changes: *mut u32, changes_len: usize, ends: *mut u32, ends_len: usize) -> Answer;
-    fn ccitt_decode_group3_2d(src: *const u8, src_len: usize, columns: u32, rows: u32, end_of_block: bool, end_of_line: bool, rows_are_byte_aligned: bool, strict: bool,
-        changes: *mut u32, changes_len: usize, ends: *mut u32, ends_len: usize) -> Answer;
-    fn ccitt_read_line(src: *const u8, src_len: usize, at: u64, columns: u32, strict: bool,
-        reference: *const u32, reference_len: usize, changes: *mut u32, changes_len: usize) -> Answer;
+    fn ccitt_decode_group4(answer: *mut Answer, src: *const u8, src_len: usize, columns: u32, rows: u32, end_of_block: bool, rows_are_byte_aligned: bool, strict: bool,
+        changes: *mut u32, changes_len: usize, ends: *mut u32, ends_len: usize) -> *mut Answer;
+    fn ccitt_decode_group3_1d(answer: *mut Answer, src: *const u8, src_len: usize, columns: u32, rows: u32, end_of_block: bool, end_of_line: bool, rows_are_byte_aligned: bool, strict: bool,
+        changes: *mut u32, changes_len: usize, ends: *mut u32, ends_len: usize) -> *mut Answer;
+    fn ccitt_decode_group3_2d(answer: *mut Answer, src: *const u8, src_len: usize, columns: u32, rows: u32, end_of_block: bool, end_of_line: bool, rows_are_byte_aligned: bool, strict: bool,
+        changes: *mut u32, changes_len: usize, ends: *mut u32, ends_len: usize) -> *mut Answer;
+    fn ccitt_read_line(answer: *mut Answer, src: *const u8, src_len: usize, at: u64, columns: u32, strict: bool,
+        reference: *const u32, reference_len: usize, changes: *mut u32, changes_len: usize) -> *mut Answer;
     #[cfg(feature = "writers")]
-    fn ccitt_write_line(columns: u32, reference: *const u32, reference_len: usize, row: *const u32, row_len: usize,
-        out: *mut u8, out_len: usize, at: u64) -> Answer;
+    fn ccitt_write_line(answer: *mut Answer, columns: u32, reference: *const u32, reference_len: usize, row: *const u32, row_len: usize,
+        out: *mut u8, out_len: usize, at: u64) -> *mut Answer;
     #[cfg(feature = "writers")]
-    fn ccitt_write_page(columns: u32, changes: *const u32, changes_len: usize, ends: *const u32, ends_len: usize,
-        out: *mut u8, out_len: usize) -> Answer;
+    fn ccitt_write_page(answer: *mut Answer, columns: u32, changes: *const u32, changes_len: usize, ends: *const u32, ends_len: usize,
+        out: *mut u8, out_len: usize) -> *mut Answer;
 }
 
 pub struct Linked;
@@ -86,27 +88,31 @@ fn read_from(call: &Call, src: &[u8], changes: &mut [u32], ends: &mut [u32]) -> 
 /// The page form.
 #[rustfmt::skip]
 pub fn page(s: &Settings, src: &[u8], changes: &mut [u32], ends: &mut [u32]) -> Answer {
-    // SAFETY: each pointer stands with the length of its slice, and the two lent arrays are apart.
+    let mut answer = Answer::default();
+    // SAFETY: each pointer stands with the length of its slice, and the two lent arrays and the answer are apart.
     unsafe {
         match s.encoding {
-            Encoding::Group4 => ccitt_decode_group4(src.as_ptr(), src.len(), s.columns, s.rows, s.end_of_block, s.aligned, s.strict,
+            Encoding::Group4 => ccitt_decode_group4(&mut answer, src.as_ptr(), src.len(), s.columns, s.rows, s.end_of_block, s.aligned, s.strict,
                 changes.as_mut_ptr(), changes.len(), ends.as_mut_ptr(), ends.len()),
-            Encoding::Group3OneD => ccitt_decode_group3_1d(src.as_ptr(), src.len(), s.columns, s.rows, s.end_of_block, s.end_of_line, s.aligned, s.strict,
+            Encoding::Group3OneD => ccitt_decode_group3_1d(&mut answer, src.as_ptr(), src.len(), s.columns, s.rows, s.end_of_block, s.end_of_line, s.aligned, s.strict,
                 changes.as_mut_ptr(), changes.len(), ends.as_mut_ptr(), ends.len()),
-            Encoding::Group3TwoD => ccitt_decode_group3_2d(src.as_ptr(), src.len(), s.columns, s.rows, s.end_of_block, s.end_of_line, s.aligned, s.strict,
+            Encoding::Group3TwoD => ccitt_decode_group3_2d(&mut answer, src.as_ptr(), src.len(), s.columns, s.rows, s.end_of_block, s.end_of_line, s.aligned, s.strict,
                 changes.as_mut_ptr(), changes.len(), ends.as_mut_ptr(), ends.len()),
         }
-    }
+    };
+    answer
 }
 
 #[rustfmt::skip]
 fn read_line(call: &Call, src: &[u8], changes: &mut [u32]) -> Answer {
     let ask = call.ask;
-    // SAFETY: each pointer stands with the length of its slice.
+    let mut answer = Answer::default();
+    // SAFETY: each pointer stands with the length of its slice, and the answer is apart.
     unsafe {
-        ccitt_read_line(src.as_ptr(), src.len(), ask.at, ask.settings.columns, ask.settings.strict,
+        ccitt_read_line(&mut answer, src.as_ptr(), src.len(), ask.at, ask.settings.columns, ask.settings.strict,
             ask.first.as_ptr(), ask.first.len(), changes.as_mut_ptr(), changes.len())
-    }
+    };
+    answer
 }
 
 fn write(call: &Call, bytes: &mut [u8]) -> Answer {
@@ -132,21 +138,25 @@ fn write_to(call: &Call, out: &mut [u8]) -> Answer {
     if ask.form == Form::WritePage {
         return write_page(ask.settings.columns, &ask.first, &ask.second, out);
     }
-    // SAFETY: each pointer stands with the length of its slice.
+    let mut answer = Answer::default();
+    // SAFETY: each pointer stands with the length of its slice, and the answer is apart.
     unsafe {
-        ccitt_write_line(ask.settings.columns, ask.first.as_ptr(), ask.first.len(),
+        ccitt_write_line(&mut answer, ask.settings.columns, ask.first.as_ptr(), ask.first.len(),
             ask.second.as_ptr(), ask.second.len(), out.as_mut_ptr(), out.len(), ask.at)
-    }
+    };
+    answer
 }
 
 /// The page writer.
 #[cfg(feature = "writers")]
 #[rustfmt::skip]
 pub fn write_page(columns: u32, changes: &[u32], ends: &[u32], out: &mut [u8]) -> Answer {
-    // SAFETY: each pointer stands with the length of its slice.
+    let mut answer = Answer::default();
+    // SAFETY: each pointer stands with the length of its slice, and the answer is apart.
     unsafe {
-        ccitt_write_page(columns, changes.as_ptr(), changes.len(), ends.as_ptr(), ends.len(), out.as_mut_ptr(), out.len())
-    }
+        ccitt_write_page(&mut answer, columns, changes.as_ptr(), changes.len(), ends.as_ptr(), ends.len(), out.as_mut_ptr(), out.len())
+    };
+    answer
 }
 
 #[cfg(not(feature = "writers"))]

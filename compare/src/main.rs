@@ -35,7 +35,8 @@ use check::{Source, Tally};
 use checks::other_decoder::{self, OtherDecoder};
 use checks::random_pages::{Kind, RandomPages};
 use checks::{
-    codes::Codes, exhaustive::Exhaustive, limits, lines::Lines, listed_pages::ListedPages, long_runs::LongRuns, sheets::Sheets, writers,
+    codes::Codes, exhaustive::Exhaustive, fill::Fill, limits, lines::Lines, listed_pages::ListedPages, long_runs::LongRuns, sheets::Sheets,
+    writers,
 };
 use ours::Ours;
 use settings::{ENCODINGS, Encoding};
@@ -108,6 +109,7 @@ fn sources(more: u64, writes: bool) -> Vec<Box<dyn Source>> {
         Box::new(limits::LineLimits),
         Box::new(Codes),
         Box::new(LongRuns),
+        Box::new(Fill),
         Box::new(random(Kind::Short, 164_000)),
         Box::new(random(Kind::Words, 150_000)),
         Box::new(random(Kind::Encoded, 100_000)),

@@ -1,14 +1,31 @@
 //! The page form against the crate's.
 
+use super::fill;
 use super::timing::{RUNS, report};
 use crate::checks::other_decoder::Text;
 use crate::linked;
-use crate::settings::Encoding;
+use crate::settings::{Encoding, Settings};
+use crate::truth::Outcome;
 use std::time::{Duration, Instant};
 
 /// More than any of the pages needs.
 const CHANGES: usize = 1 << 20;
-const ENDS: usize = 1 << 13;
+const ENDS: usize = 1 << 15;
+
+/// A page, and the answer and rows that both must give.
+pub struct Page {
+    settings: Settings,
+    src: Vec<u8>,
+    number: u32,
+    rows: usize,
+}
+
+impl Page {
+    pub fn of(settings: Settings, src: Vec<u8>) -> Self {
+        let outcome = Outcome::of_page(&settings, &src, 0);
+        Page { settings, src, number: outcome.number, rows: outcome.ends.len() }
+    }
+}
 
 /// The arrays that both are given, cleared before each run.
 struct Store {
@@ -41,38 +58,43 @@ impl hayro_ccitt::Decoder for Sink<'_> {
     }
 }
 
-pub fn run(pages: &[Text]) {
+pub fn run(texts: &[Text]) {
     let mut store = Store { changes: vec![0; CHANGES], ends: vec![0; ENDS] };
     println!("median of {RUNS} runs, release builds, arrays cleared before each; the crate's sink copies rows into one array");
+    let pages: Vec<Page> = texts.iter().map(|text| Page::of(text.settings, text.src.clone())).collect();
     for encoding in [Encoding::Group4, Encoding::Group3OneD] {
-        let some: Vec<&Text> = pages.iter().filter(|page| page.settings.encoding == encoding).collect();
+        let some: Vec<&Page> = pages.iter().filter(|page| page.settings.encoding == encoding).collect();
         compare(&format!("{} pages, {encoding:?}", some.len()), &some, &mut store);
     }
-    let all: Vec<&Text> = pages.iter().collect();
+    let all: Vec<&Page> = pages.iter().collect();
     compare(&format!("all {} pages", all.len()), &all, &mut store);
+    println!("fill, likewise, in Group 3 1D pages with EOLs");
+    for (name, page) in fill::pages() {
+        compare(&name, &[&page], &mut store);
+    }
 }
 
-fn compare(name: &str, pages: &[&Text], store: &mut Store) {
+fn compare(name: &str, pages: &[&Page], store: &mut Store) {
     let ours = |store: &mut Store| pages.iter().map(|page| time_ours(page, store)).sum();
     let theirs = |store: &mut Store| pages.iter().map(|page| time_crate(page, store)).sum();
     report(name, store, ours, "the crate", theirs);
 }
 
-fn time_ours(page: &Text, store: &mut Store) -> Duration {
+fn time_ours(page: &Page, store: &mut Store) -> Duration {
     let store = store.cleared();
     let began = Instant::now();
     let answer = linked::page(&page.settings, &page.src, &mut store.changes, &mut store.ends);
     let took = began.elapsed();
-    assert!(answer.number == 0 && answer.rows > 0, "{} is read whole", page.name);
+    assert!(answer.number == page.number && answer.rows as usize == page.rows, "ours answers as the crate does");
     took
 }
 
-fn time_crate(page: &Text, store: &mut Store) -> Duration {
+fn time_crate(page: &Page, store: &mut Store) -> Duration {
     let mut sink = Sink { store: store.cleared(), entries: 0, rows: 0 };
     let mut context = hayro_ccitt::DecoderContext::new(page.settings.for_crate());
     let began = Instant::now();
     let bytes = hayro_ccitt::decode(&page.src, &mut sink, &mut context);
     let took = began.elapsed();
-    assert!(bytes.is_ok() && sink.rows > 0, "{} is read whole", page.name);
+    assert!(bytes.is_ok() == (page.number == 0) && sink.rows == page.rows, "the crate answers alike each time");
     took
 }
