@@ -14,21 +14,21 @@ void free(void *memory);
 void exit(int status);
 
 struct Answer {
-    u32 number, rows, entries, loose;
-    u64 bytes;
+    u32 number;
+    u64 rows, entries, loose, bytes;
 };
 
 struct Answer ccitt_decode_group4(const u8 *src, u64 src_len, u32 columns, u32 rows, _Bool end_of_block, _Bool rows_are_byte_aligned, _Bool strict,
-    u32 *changes, u64 changes_len, u32 *ends, u64 ends_len);
+    u32 *changes, u64 changes_len, u64 *ends, u64 ends_len);
 struct Answer ccitt_decode_group3_1d(const u8 *src, u64 src_len, u32 columns, u32 rows, _Bool end_of_block, _Bool end_of_line, _Bool rows_are_byte_aligned, _Bool strict,
-    u32 *changes, u64 changes_len, u32 *ends, u64 ends_len);
+    u32 *changes, u64 changes_len, u64 *ends, u64 ends_len);
 struct Answer ccitt_decode_group3_2d(const u8 *src, u64 src_len, u32 columns, u32 rows, _Bool end_of_block, _Bool end_of_line, _Bool rows_are_byte_aligned, _Bool strict,
-    u32 *changes, u64 changes_len, u32 *ends, u64 ends_len);
+    u32 *changes, u64 changes_len, u64 *ends, u64 ends_len);
 struct Answer ccitt_read_line(const u8 *src, u64 src_len, u64 at, u32 columns, _Bool strict,
     const u32 *reference, u64 reference_len, u32 *changes, u64 changes_len);
 #ifdef WRITERS
 struct Answer ccitt_write_line(u32 columns, const u32 *reference, u64 reference_len, const u32 *row, u64 row_len, u8 *out, u64 out_len, u64 at);
-struct Answer ccitt_write_page(u32 columns, const u32 *changes, u64 changes_len, const u32 *ends, u64 ends_len, u8 *out, u64 out_len);
+struct Answer ccitt_write_page(u32 columns, const u32 *changes, u64 changes_len, const u64 *ends, u64 ends_len, u8 *out, u64 out_len);
 #define HAS_WRITERS 1
 #else
 #define HAS_WRITERS 0
@@ -40,7 +40,7 @@ enum { MARGIN = 2, BYTE_MARGIN = 8 };
 struct Call {
     u32 form, flags, columns, rows;
     u64 at, tail;
-    u32 src_len, first_len, second_len, changes, ends, out, fill, unused;
+    u32 src_len, first_len, second_len, changes, ends, out, fill, lead;
 };
 
 struct Batch {
@@ -86,7 +86,7 @@ static void *zeroed(u64 size) {
 
 static u32 pattern(u32 fill, u64 index) { return ((u32)index + 1) * 0x9E3779B1u ^ fill; }
 
-static struct Answer read_from(const struct Call *c, const u8 *src, u64 src_len, const u32 *first, u32 *changes, u32 *ends) {
+static struct Answer read_from(const struct Call *c, const u8 *src, u64 src_len, const u32 *first, u32 *changes, u64 *ends) {
     _Bool eob = c->flags & 1, eol = c->flags >> 1 & 1, aligned = c->flags >> 2 & 1, strict = c->flags >> 3 & 1;
     switch (c->form) {
     case 0: return ccitt_decode_group4(src, src_len, c->columns, c->rows, eob, aligned, strict, changes, c->changes, ends, c->ends);
@@ -96,21 +96,42 @@ static struct Answer read_from(const struct Call *c, const u8 *src, u64 src_len,
     }
 }
 
-// A reader's call. The tail is zeroed memory, which costs nothing until it is looked at.
-static struct Answer do_read(const struct Call *c, const u8 *src, const u32 *first, u32 *words) {
-    u32 *changes = words + MARGIN, *ends = changes + c->changes + MARGIN;
-    if (!c->tail) return read_from(c, src, c->src_len, first, changes, ends);
-    u8 *all = zeroed(c->src_len + c->tail);
-    copy(all, src, c->src_len);
-    struct Answer answer = read_from(c, all, c->src_len + c->tail, first, changes, ends);
+// Row ends have 64 bits, and the words that are compared 32. What an end holds before the call: its high half shows a write of
+// the low half alone. After it, an end that was not written is the word as it was, and one of more than 32 bits another word.
+static u64 widened(u32 word) { return (u64)~word << 32 | word; }
+
+static u32 narrowed(u32 before, u64 end) { return end == widened(before) ? before : end >> 32 ? ~before : (u32)end; }
+
+// Lead and tail are zeroed memory, which costs nothing until it is looked at.
+static struct Answer read_around(const struct Call *c, const u8 *src, const u32 *first, u32 *changes, u64 *ends) {
+    if (!c->lead && !c->tail) return read_from(c, src, c->src_len, first, changes, ends);
+    u64 size = c->tail + c->src_len + c->lead;
+    u8 *all = zeroed(size);
+    copy(all + c->lead, src, c->src_len);
+    struct Answer answer = read_from(c, all, size, first, changes, ends);
     free(all);
+    return answer;
+}
+
+// A reader's call.
+static struct Answer do_read(const struct Call *c, const u8 *src, const u32 *first, u32 *words) {
+    u32 *changes = words + MARGIN, *back = changes + c->changes;
+    u64 count = (u64)c->ends + 2 * MARGIN, *wide = memory(8 * count);
+    for (u64 i = 0; i < count; i++) wide[i] = widened(back[i]);
+    struct Answer answer = read_around(c, src, first, changes, wide + MARGIN);
+    for (u64 i = 0; i < count; i++) back[i] = narrowed(back[i], wide[i]);
+    free(wide);
     return answer;
 }
 
 static struct Answer write_to(const struct Call *c, const u32 *first, const u32 *second, u8 *out, u64 out_len) {
 #ifdef WRITERS
     if (c->form == 4) return ccitt_write_line(c->columns, first, c->first_len, second, c->second_len, out, out_len, c->at);
-    return ccitt_write_page(c->columns, first, c->first_len, second, c->second_len, out, out_len);
+    u64 *ends = memory(8ul * c->second_len);
+    for (u64 i = 0; i < c->second_len; i++) ends[i] = second[i];
+    struct Answer answer = ccitt_write_page(c->columns, first, c->first_len, ends, c->second_len, out, out_len);
+    free(ends);
+    return answer;
 #else
     (void)c, (void)first, (void)second, (void)out, (void)out_len;
     return (struct Answer){ ~0u, 0, 0, 0, 0 };

@@ -6,6 +6,8 @@ use std::time::{SystemTime, UNIX_EPOCH};
 pub enum Mode {
     Compare,
     Bench,
+    /// Reads the pages that 32 bits do not count.
+    Huge,
     /// Writes a sample of the crate's answers into a folder, for the program that replays them.
     Sample(String),
     /// Writes the listed pages into a folder, where another decoder can read them.
@@ -22,7 +24,7 @@ pub struct Arguments {
     pub mode: Mode,
 }
 
-pub const USAGE: &str = "usage: compare/run [--seed N] [--more N] [--only TEXT] [bench | sample DIR | pages DIR | test]";
+pub const USAGE: &str = "usage: compare/run [--seed N] [--more N] [--only TEXT] [bench | huge | sample DIR | pages DIR | test]";
 
 /// Reads the words; without a seed, the clock gives one.
 pub fn parse(mut words: impl Iterator<Item = String>) -> Option<Arguments> {
@@ -33,6 +35,7 @@ pub fn parse(mut words: impl Iterator<Item = String>) -> Option<Arguments> {
             "--more" => arguments.more = words.next()?.parse().ok().filter(|&more| more > 0)?,
             "--only" => arguments.only = words.next()?,
             "bench" if arguments.mode == Mode::Compare => arguments.mode = Mode::Bench,
+            "huge" if arguments.mode == Mode::Compare => arguments.mode = Mode::Huge,
             "sample" if arguments.mode == Mode::Compare => arguments.mode = Mode::Sample(words.next()?),
             "pages" if arguments.mode == Mode::Compare => arguments.mode = Mode::Pages(words.next()?),
             _ => return None,

@@ -7,9 +7,9 @@ use crate::settings::{Encoding, Settings};
 #[derive(Clone, Copy, Debug, Default, PartialEq, Eq)]
 pub struct Answer {
     pub number: u32,
-    pub rows: u32,
-    pub entries: u32,
-    pub loose: u32,
+    pub rows: u64,
+    pub entries: u64,
+    pub loose: u64,
     pub bytes: u64,
 }
 
@@ -34,8 +34,10 @@ pub struct Ask {
     pub form: Form,
     pub settings: Settings,
     pub src: Vec<u8>,
+    /// So many zero bytes stand before `src`: how rows lie far behind without sending what is before them.
+    pub lead: usize,
     /// So many zero bytes follow `src`, or the output of a writer: how limit 7 is reached without
-    /// sending a quarter of a gigabyte.
+    /// sending four gigabytes.
     pub tail: usize,
     /// The bit at which a line starts.
     pub at: u64,
@@ -47,11 +49,20 @@ pub struct Ask {
 
 impl Ask {
     pub fn page(settings: Settings, src: Vec<u8>) -> Self {
-        Ask { form: Form::Page(settings.encoding), settings, src, tail: 0, at: 0, first: Vec::new(), second: Vec::new() }
+        Ask { form: Form::Page(settings.encoding), settings, src, lead: 0, tail: 0, at: 0, first: Vec::new(), second: Vec::new() }
     }
 
     pub fn read_line(columns: u32, strict: bool, src: Vec<u8>, at: u64, reference: Vec<u32>) -> Self {
-        Ask { form: Form::ReadLine, settings: Settings::of_line(columns, strict), src, tail: 0, at, first: reference, second: Vec::new() }
+        Ask {
+            form: Form::ReadLine,
+            settings: Settings::of_line(columns, strict),
+            src,
+            lead: 0,
+            tail: 0,
+            at,
+            first: reference,
+            second: Vec::new(),
+        }
     }
 
     pub fn write_line(columns: u32, reference: Vec<u32>, row: Vec<u32>, at: u64) -> Self {
@@ -59,6 +70,7 @@ impl Ask {
             form: Form::WriteLine,
             settings: Settings::of_line(columns, true),
             src: Vec::new(),
+            lead: 0,
             tail: 0,
             at,
             first: reference,
@@ -71,12 +83,27 @@ impl Ask {
             form: Form::WritePage,
             settings: Settings::of_line(columns, true),
             src: Vec::new(),
+            lead: 0,
             tail: 0,
             at: 0,
             first: changes,
             second: ends,
         }
     }
+}
+
+impl Ask {
+    /// The data, with the zeros around it.
+    pub fn data(&self) -> Vec<u8> {
+        with_zeros(self.lead, &self.src, self.tail)
+    }
+}
+
+/// Bytes with so many zeros before and behind them. Zeroed memory is not touched before it is written, so the zeros cost nothing.
+pub fn with_zeros(lead: usize, src: &[u8], tail: usize) -> Vec<u8> {
+    let mut long = vec![0; lead + src.len() + tail];
+    long[lead..lead + src.len()].copy_from_slice(src);
+    long
 }
 
 /// How much is lent: changes and row ends to a reader, bytes to a writer.

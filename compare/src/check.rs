@@ -208,7 +208,8 @@ fn size_of_ask(ask: &Ask) -> usize {
 
 fn describe(index: u64, ask: &Ask, plan: &Plan, text: &str) -> String {
     let mut out = format!("  input {index}: {:?}, {}\n", ask.form, ask.settings);
-    let _ = writeln!(out, "  data ({} bytes, {} zero bytes behind them): {}", ask.src.len(), ask.tail, hex(&ask.src));
+    let _ =
+        writeln!(out, "  data ({} zero bytes, {} bytes, {} zero bytes behind them): {}", ask.lead, ask.src.len(), ask.tail, hex(&ask.src));
     if !matches!(ask.form, Form::Page(_)) {
         let _ = writeln!(out, "  at bit {}, lists {:?} and {:?}", ask.at, ask.first, ask.second);
     }

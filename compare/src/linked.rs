@@ -1,31 +1,33 @@
 //! The library, linked into this program.
 #![allow(unsafe_code)]
 
-use crate::call::{Answer, BYTE_MARGIN, Call, Form, Replies, Room};
+use crate::call::{Answer, BYTE_MARGIN, Call, Form, MARGIN, Replies, Room, with_zeros};
 use crate::ours::Ours;
 use crate::settings::{Encoding, Settings};
+use repeated::Repeated;
 use std::io;
 
 #[cfg(feature = "libtiff")]
 pub mod libtiff;
+pub mod repeated;
 
 // The answer goes through a pointer before the other arguments, as x86-64 has it for a struct of that size. So declared, a library
 // that was compiled for another processor is called alike.
 #[rustfmt::skip]
 unsafe extern "C" {
     fn ccitt_decode_group4(answer: *mut Answer, src: *const u8, src_len: usize, columns: u32, rows: u32, end_of_block: bool, rows_are_byte_aligned: bool, strict: bool,
-        changes: *mut u32, changes_len: usize, ends: *mut u32, ends_len: usize) -> *mut Answer;
+        changes: *mut u32, changes_len: usize, ends: *mut u64, ends_len: usize) -> *mut Answer;
     fn ccitt_decode_group3_1d(answer: *mut Answer, src: *const u8, src_len: usize, columns: u32, rows: u32, end_of_block: bool, end_of_line: bool, rows_are_byte_aligned: bool, strict: bool,
-        changes: *mut u32, changes_len: usize, ends: *mut u32, ends_len: usize) -> *mut Answer;
+        changes: *mut u32, changes_len: usize, ends: *mut u64, ends_len: usize) -> *mut Answer;
     fn ccitt_decode_group3_2d(answer: *mut Answer, src: *const u8, src_len: usize, columns: u32, rows: u32, end_of_block: bool, end_of_line: bool, rows_are_byte_aligned: bool, strict: bool,
-        changes: *mut u32, changes_len: usize, ends: *mut u32, ends_len: usize) -> *mut Answer;
+        changes: *mut u32, changes_len: usize, ends: *mut u64, ends_len: usize) -> *mut Answer;
     fn ccitt_read_line(answer: *mut Answer, src: *const u8, src_len: usize, at: u64, columns: u32, strict: bool,
         reference: *const u32, reference_len: usize, changes: *mut u32, changes_len: usize) -> *mut Answer;
     #[cfg(feature = "writers")]
     fn ccitt_write_line(answer: *mut Answer, columns: u32, reference: *const u32, reference_len: usize, row: *const u32, row_len: usize,
         out: *mut u8, out_len: usize, at: u64) -> *mut Answer;
     #[cfg(feature = "writers")]
-    fn ccitt_write_page(answer: *mut Answer, columns: u32, changes: *const u32, changes_len: usize, ends: *const u32, ends_len: usize,
+    fn ccitt_write_page(answer: *mut Answer, columns: u32, changes: *const u32, changes_len: usize, ends: *const u64, ends_len: usize,
         out: *mut u8, out_len: usize) -> *mut Answer;
 }
 
@@ -60,25 +62,39 @@ fn one(call: &Call, words: &mut [u32], bytes: &mut [u8]) -> Answer {
     match call.room {
         Room::Rows { .. } => {
             let (changes, ends) = call.room.places();
-            let (front, back) = words.split_at_mut(ends.start);
-            read(call, &mut front[changes], &mut back[..ends.len()])
+            let (front, back) = words.split_at_mut(ends.start - MARGIN);
+            let mut wide: Vec<u64> = back.iter().copied().map(widened).collect();
+            let answer = read(call, &mut front[changes], &mut wide[MARGIN..MARGIN + ends.len()]);
+            for (word, end) in back.iter_mut().zip(wide) {
+                *word = narrowed(*word, end);
+            }
+            answer
         }
         Room::Bytes(_) => write(call, bytes),
     }
 }
 
-fn read(call: &Call, changes: &mut [u32], ends: &mut [u32]) -> Answer {
-    let ask = call.ask;
-    if ask.tail == 0 {
-        return read_from(call, &ask.src, changes, ends);
-    }
-    // zeroed memory is not touched before it is written, so the tail costs nothing
-    let mut long = vec![0; ask.src.len() + ask.tail];
-    long[..ask.src.len()].copy_from_slice(&ask.src);
-    read_from(call, &long, changes, ends)
+/// Row ends have 64 bits, and the words that are compared 32. What an end holds before the call: its high
+/// half shows a write of the low half alone.
+fn widened(word: u32) -> u64 {
+    u64::from(word) | u64::from(!word) << 32
 }
 
-fn read_from(call: &Call, src: &[u8], changes: &mut [u32], ends: &mut [u32]) -> Answer {
+/// The word for an end after the call: as it was if the end was not written. An end of more than 32 bits,
+/// which no page here has, shows as another word.
+fn narrowed(before: u32, end: u64) -> u32 {
+    if end == widened(before) { before } else { u32::try_from(end).unwrap_or(!before) }
+}
+
+fn read(call: &Call, changes: &mut [u32], ends: &mut [u64]) -> Answer {
+    let ask = call.ask;
+    if ask.lead == 0 && ask.tail == 0 {
+        return read_from(call, &ask.src, changes, ends);
+    }
+    read_from(call, &ask.data(), changes, ends)
+}
+
+fn read_from(call: &Call, src: &[u8], changes: &mut [u32], ends: &mut [u64]) -> Answer {
     match call.ask.form {
         Form::ReadLine => read_line(call, src, changes),
         _ => page(&call.ask.settings, src, changes, ends),
@@ -86,18 +102,31 @@ fn read_from(call: &Call, src: &[u8], changes: &mut [u32], ends: &mut [u32]) -> 
 }
 
 /// The page form.
+pub fn page(s: &Settings, src: &[u8], changes: &mut [u32], ends: &mut [u64]) -> Answer {
+    // SAFETY: both arrays are lent whole.
+    unsafe { page_into(s, src, changes, ends) }
+}
+
+/// The page form with arrays that repeat: only the last entries that were written can be looked at, which is all that it looks at itself.
+pub fn page_repeated(s: &Settings, src: &[u8], changes: &Repeated, ends: &Repeated) -> Answer {
+    // SAFETY: both arrays are there to be written, and apart. An entry of them is another's too, and so is not kept; the page form
+    // writes ends and reads none, and of the changes it reads the row before, which is shorter than the block that repeats.
+    unsafe { page_into(s, src, changes.entries(), ends.entries()) }
+}
+
+/// The page form into two arrays, which must be there to be written, and apart.
 #[rustfmt::skip]
-pub fn page(s: &Settings, src: &[u8], changes: &mut [u32], ends: &mut [u32]) -> Answer {
+unsafe fn page_into(s: &Settings, src: &[u8], changes: *mut [u32], ends: *mut [u64]) -> Answer {
     let mut answer = Answer::default();
     // SAFETY: each pointer stands with the length of its slice, and the two lent arrays and the answer are apart.
     unsafe {
         match s.encoding {
             Encoding::Group4 => ccitt_decode_group4(&mut answer, src.as_ptr(), src.len(), s.columns, s.rows, s.end_of_block, s.aligned, s.strict,
-                changes.as_mut_ptr(), changes.len(), ends.as_mut_ptr(), ends.len()),
+                changes.cast(), changes.len(), ends.cast(), ends.len()),
             Encoding::Group3OneD => ccitt_decode_group3_1d(&mut answer, src.as_ptr(), src.len(), s.columns, s.rows, s.end_of_block, s.end_of_line, s.aligned, s.strict,
-                changes.as_mut_ptr(), changes.len(), ends.as_mut_ptr(), ends.len()),
+                changes.cast(), changes.len(), ends.cast(), ends.len()),
             Encoding::Group3TwoD => ccitt_decode_group3_2d(&mut answer, src.as_ptr(), src.len(), s.columns, s.rows, s.end_of_block, s.end_of_line, s.aligned, s.strict,
-                changes.as_mut_ptr(), changes.len(), ends.as_mut_ptr(), ends.len()),
+                changes.cast(), changes.len(), ends.cast(), ends.len()),
         }
     };
     answer
@@ -120,11 +149,10 @@ fn write(call: &Call, bytes: &mut [u8]) -> Answer {
     if call.ask.tail == 0 {
         return write_to(call, &mut bytes[lent]);
     }
-    let mut long = vec![0; lent.len() + call.ask.tail];
-    long[..lent.len()].copy_from_slice(&bytes[lent.clone()]);
+    let mut long = with_zeros(0, &bytes[lent.clone()], call.ask.tail);
     let answer = write_to(call, &mut long);
     bytes[lent.clone()].copy_from_slice(&long[..lent.len()]);
-    if long[lent.len()..].iter().any(|&byte| byte != 0) {
+    if long[lent.len()..].chunks(1 << 16).any(|part| part.iter().fold(0, |all, byte| all | byte) != 0) {
         // a write into the tail shows as one into the margin
         bytes[0] ^= 255;
     }
@@ -136,7 +164,8 @@ fn write(call: &Call, bytes: &mut [u8]) -> Answer {
 fn write_to(call: &Call, out: &mut [u8]) -> Answer {
     let ask = call.ask;
     if ask.form == Form::WritePage {
-        return write_page(ask.settings.columns, &ask.first, &ask.second, out);
+        let ends: Vec<u64> = ask.second.iter().copied().map(u64::from).collect();
+        return write_page(ask.settings.columns, &ask.first, &ends, out);
     }
     let mut answer = Answer::default();
     // SAFETY: each pointer stands with the length of its slice, and the answer is apart.
@@ -150,7 +179,7 @@ fn write_to(call: &Call, out: &mut [u8]) -> Answer {
 /// The page writer.
 #[cfg(feature = "writers")]
 #[rustfmt::skip]
-pub fn write_page(columns: u32, changes: &[u32], ends: &[u32], out: &mut [u8]) -> Answer {
+pub fn write_page(columns: u32, changes: &[u32], ends: &[u64], out: &mut [u8]) -> Answer {
     let mut answer = Answer::default();
     // SAFETY: each pointer stands with the length of its slice, and the answer is apart.
     unsafe {

@@ -11,6 +11,7 @@ mod checks;
 mod codes;
 mod damage;
 mod encoder;
+mod huge;
 #[cfg(feature = "linked")]
 mod linked;
 mod listed;
@@ -35,7 +36,7 @@ use check::{Source, Tally};
 use checks::other_decoder::{self, OtherDecoder};
 use checks::random_pages::{Kind, RandomPages};
 use checks::{
-    codes::Codes, exhaustive::Exhaustive, fill::Fill, limits, lines::Lines, listed_pages::ListedPages, long_runs::LongRuns, sheets::Sheets,
+    codes::Codes, exhaustive::Exhaustive, far::Far, fill::Fill, limits, lines::Lines, listed_pages::ListedPages, long_runs::LongRuns, sheets::Sheets,
     writers,
 };
 use ours::Ours;
@@ -51,6 +52,7 @@ fn main() -> ExitCode {
     let done = match &arguments.mode {
         Mode::Compare => compare(&arguments),
         Mode::Bench => bench::run(),
+        Mode::Huge => huge::run(),
         Mode::Sample(folder) => sample::write(folder, arguments.seed).map(|()| true),
         Mode::Pages(folder) => listed::write(folder).map(|()| true),
     };
@@ -110,6 +112,7 @@ fn sources(more: u64, writes: bool) -> Vec<Box<dyn Source>> {
         Box::new(Codes),
         Box::new(LongRuns),
         Box::new(Fill),
+        Box::new(Far),
         Box::new(random(Kind::Short, 164_000)),
         Box::new(random(Kind::Words, 150_000)),
         Box::new(random(Kind::Encoded, 100_000)),

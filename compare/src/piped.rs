@@ -114,7 +114,7 @@ fn put_call(out: &mut Vec<u8>, call: &Call) {
         ends as u32,
         bytes as u32,
         call.fill,
-        0,
+        ask.lead as u32,
     ];
     put_words(out, &words);
     out.extend_from_slice(&ask.src);
@@ -152,10 +152,10 @@ fn replies_of(calls: &[Call], reply: &[u8]) -> Replies {
     for call in calls {
         let answer = Answer {
             number: word(reply, at),
-            rows: word(reply, at + 4),
-            entries: word(reply, at + 8),
-            loose: word(reply, at + 12),
-            bytes: u64::from(word(reply, at + 16)) | u64::from(word(reply, at + 20)) << 32,
+            rows: long(reply, at + 8),
+            entries: long(reply, at + 16),
+            loose: long(reply, at + 24),
+            bytes: long(reply, at + 32),
         };
         let words_at = at + size_of::<Answer>();
         let bytes_at = words_at + padded(4 * call.room.words());
@@ -164,6 +164,10 @@ fn replies_of(calls: &[Call], reply: &[u8]) -> Replies {
         at += reply_size(call);
     }
     replies
+}
+
+fn long(bytes: &[u8], at: usize) -> u64 {
+    u64::from(word(bytes, at)) | u64::from(word(bytes, at + 4)) << 32
 }
 
 fn word(bytes: &[u8], at: usize) -> u32 {

@@ -127,12 +127,10 @@ impl Standin {
         if ask.settings.columns == 0 {
             return bare(if self.0 == Fault::ZeroColumnsRefused { 6 } else { 0 });
         }
-        if ask.tail == 0 {
+        if ask.lead == 0 && ask.tail == 0 {
             return slipped_page(ask, &ask.src);
         }
-        let mut long = vec![0; ask.src.len() + ask.tail];
-        long[..ask.src.len()].copy_from_slice(&ask.src);
-        slipped_page(ask, &long)
+        slipped_page(ask, &ask.data())
     }
 
     fn line(&self, ask: &Ask) -> Outcome {

@@ -1,11 +1,11 @@
 //! What the answer must be: what the crate gives, under document 01's rules of the row store.
 
-use crate::call::{Answer, Room};
+use crate::call::{Answer, Room, with_zeros};
 use crate::settings::Settings;
 use std::iter::once;
 
 /// Limit 7, in bytes.
-pub const LIMIT: usize = 268_435_456;
+pub const LIMIT: usize = 4_294_967_296;
 
 /// What a reader does with room enough.
 #[derive(Clone, Debug, PartialEq, Eq)]
@@ -52,9 +52,7 @@ impl Outcome {
         if tail == 0 {
             return Self::of_crate(settings, src);
         }
-        let mut long = vec![0; src.len() + tail];
-        long[..src.len()].copy_from_slice(src);
-        Self::of_crate(settings, &long)
+        Self::of_crate(settings, &with_zeros(0, src, tail))
     }
 
     fn of_crate(settings: &Settings, src: &[u8]) -> Self {
@@ -93,7 +91,9 @@ impl Outcome {
         if at > 8 * (src.len() + tail) as u64 {
             return Self::refused(2);
         }
-        assert_eq!(tail, 0, "a line is only refused for its length");
+        if tail > 0 {
+            return Self::of_line(columns, strict, &with_zeros(0, src, tail), 0, at, reference);
+        }
         let mut context = hayro_ccitt_open::DecoderContext::new(Settings::of_line(columns, strict).for_open_crate());
         match context.read_line(src, at as usize, reference) {
             Ok(bit) => {
@@ -137,9 +137,9 @@ impl Outcome {
         Wanted {
             answer: Answer {
                 number,
-                rows: rows as u32,
-                entries: entries as u32,
-                loose: (written - entries) as u32,
+                rows: rows as u64,
+                entries: entries as u64,
+                loose: (written - entries) as u64,
                 bytes: if number == 0 { self.bytes } else { 0 },
             },
             changes: self.changes[..written].to_vec(),

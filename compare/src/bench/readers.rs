@@ -30,7 +30,7 @@ impl Page {
 /// The arrays that both are given, cleared before each run.
 struct Store {
     changes: Vec<u32>,
-    ends: Vec<u32>,
+    ends: Vec<u64>,
 }
 
 impl Store {
@@ -52,7 +52,7 @@ impl hayro_ccitt::Decoder for Sink<'_> {
     fn push_row(&mut self, changes: &[u32]) {
         let end = self.entries + changes.len();
         self.store.changes[self.entries..end].copy_from_slice(changes);
-        self.store.ends[self.rows] = end as u32;
+        self.store.ends[self.rows] = end as u64;
         self.entries = end;
         self.rows += 1;
     }

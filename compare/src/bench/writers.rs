@@ -15,13 +15,15 @@ const ROOM: usize = 1 << 18;
 struct Page {
     settings: Settings,
     rows: Outcome,
+    ends: Vec<u64>,
     packed: Vec<u8>,
 }
 
 impl Page {
     fn of(text: &Text) -> Self {
         let rows = Outcome::of_page(&text.settings, &text.src, 0);
-        Page { settings: text.settings, packed: packed(text.settings.columns, rows.rows()), rows }
+        let ends = rows.ends.iter().copied().map(u64::from).collect();
+        Page { settings: text.settings, packed: packed(text.settings.columns, rows.rows()), ends, rows }
     }
 
     /// Whether a strip holds the page's rows: otherwise the two writers did not do the same work.
@@ -46,7 +48,7 @@ pub fn run(texts: &[Text]) {
 fn time_ours(page: &Page, out: &mut [u8]) -> Duration {
     out.fill(0);
     let began = Instant::now();
-    let answer = linked::write_page(page.settings.columns, &page.rows.changes, &page.rows.ends, out);
+    let answer = linked::write_page(page.settings.columns, &page.rows.changes, &page.ends, out);
     let took = began.elapsed();
     assert!(answer.number == 0 && page.is_read_from(&out[..answer.bytes as usize]), "our page is read back");
     took

@@ -10,8 +10,8 @@ use crate::truth::LIMIT;
 pub struct PageLimits;
 
 /// Columns, and how many bytes the data has, in every order of the tests that may fail.
-const PAGES: [(u32, usize); 8] =
-    [(u32::MAX, 4), (u32::MAX, 0), (u32::MAX, LIMIT + 1), (0, 4), (0, 0), (0, LIMIT + 1), (8, LIMIT), (8, LIMIT + 1)];
+const PAGES: [(u32, usize); 9] =
+    [(u32::MAX, 4), (u32::MAX, 0), (u32::MAX, LIMIT + 1), (0, 4), (0, 0), (0, LIMIT), (0, LIMIT + 1), (8, LIMIT), (8, LIMIT + 1)];
 
 impl Source for PageLimits {
     fn name(&self) -> String {
@@ -47,13 +47,17 @@ impl Source for PageLimits {
 pub struct LineLimits;
 
 /// Columns, length, start, reference.
-const LINES: [(u32, usize, u64, &[u32]); 20] = [
+const LINES: [(u32, usize, u64, &[u32]); 24] = [
     (0, 4, 0, &[]),
     (0, LIMIT + 1, 0, &[3, 3]),
     (u32::MAX, 4, 0, &[]),
     (u32::MAX, LIMIT + 1, 99, &[5, 4]),
     (8, LIMIT + 1, 0, &[]),
     (8, LIMIT + 1, u64::MAX, &[8]),
+    (8, LIMIT, 0, &[3]),
+    (8, LIMIT, 8 * LIMIT as u64 - 6, &[]),
+    (8, LIMIT, 8 * LIMIT as u64, &[]),
+    (8, LIMIT, 8 * LIMIT as u64 + 1, &[]),
     (8, 4, 0, &[8]),
     (8, 4, 0, &[3, 3]),
     (8, 4, 0, &[4, 3]),

@@ -2,6 +2,7 @@
 
 pub mod codes;
 pub mod exhaustive;
+pub mod far;
 pub mod fill;
 pub mod limits;
 pub mod lines;

@@ -42,7 +42,7 @@ const fn one_d(rows: u32, strict: bool) -> Settings {
     settings(Encoding::Group3OneD, 8, rows, strict)
 }
 
-const fn answer(number: u32, rows: u32, entries: u32, loose: u32, bytes: u64) -> Answer {
+const fn answer(number: u32, rows: u64, entries: u64, loose: u64, bytes: u64) -> Answer {
     Answer { number, rows, entries, loose, bytes }
 }
 
@@ -169,7 +169,7 @@ fn line_sheet(index: usize, fill: u32) -> Case {
     let mut bits = crate::bits::Bits::default();
     bits.code(code);
     let wanted =
-        Wanted { answer: answer(0, 1, row.len() as u32, 0, code.len() as u64), changes: row.to_vec(), ends: Vec::new(), out: None };
+        Wanted { answer: answer(0, 1, row.len() as u64, 0, code.len() as u64), changes: row.to_vec(), ends: Vec::new(), out: None };
     let src = bits.into_bytes();
     let of_crate = Outcome::of_line(columns, true, &src, 0, 0, reference).line_within(PLENTY);
     let agrees = of_crate == wanted;

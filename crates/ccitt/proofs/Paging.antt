@@ -3,7 +3,7 @@
 use mathlib.Core.Path.{_≡_, refl, sym, ap, ap₂, _∙_, subst, subst₂}
 use mathlib.Core.Bool.{Bool, false, cond}
 use mathlib.Core.List.{List, [], _∷_, _++_, append-assoc}
-use Prim.Native.Nat.{ℕ, suc, _+_, _-_, _≤_, _<_}
+use Prim.Native.Nat.{ℕ, suc, _+_, _*_, _-_, _≤_, _<_}
 use native.Mathlib.Omega.{arith}
 use lib.Dec.{eqb}
 use lib.ListN.{length, take, drop, set, length-append, length-set}
@@ -35,7 +35,7 @@ use Rattle.rows.specs.declared.EncodingMode.the-variants.{Group4, «Group3_1D»
 use Rattle.rows.specs.Settings.{encodingOf, settingsOf}
 use Rattle.group3.specs.Tags.{taggingOf}
 use Rattle.rows.specs.Between.{stateOf, rowFor, changesIn, RowFrom, RowGives}
-use Rattle.ccitt.specs.Decode.{Rowed, counted, Counts, behindRow, Behind, PageFrom, Gives, Reads}
+use Rattle.ccitt.specs.Decode.{Rowed, counted, behindRow, Behind, PageFrom, Gives, Reads}
 
 -- ---- What an answer of the code says of the outcome
 
@@ -149,7 +149,7 @@ module _ (bytes : List ℕ) (settings : DecodeSettings) (size : length bytes ≤
         e ∙ ap (λ (l : List ℕ). take (st .base) l ++ overlaid r (drop (st .base) l)) (g .changes)
         ∙ overlaid-behind (joined (g .kept .rows)) r xs (st .base) (length-joined (g .kept .rows) ∙ sym (g .base))
 
-    bits : length bs ≤ 2147483648
+    bits : length bs ≤ 8 * mostBytes
     bits = omega (arith, length-bitsOf bytes)
 
     -- the page's answer
@@ -179,16 +179,6 @@ module _ (bytes : List ℕ) (settings : DecodeSettings) (size : length bytes ≤
         stops : rowOf enc S bs (roomFor enc S wide bs data-bytes (length xs) (length es) (g .kept)) (g .kept .state) ≡ stop n p b (s .loose)
         stops = sym outcome ∙ s .is
 
-        pub stopped-counts : Counts (st .rows) (st .base) m
-        unfolding s
-        stopped-counts =
-            let d = subst (Does S bs _ (g .kept .state)) stops (row-does S wide bs data-bytes _ (g .kept .state) enc (g .held .fitting) (g .held .inside)) in
-            record {
-              of-rows = omega (arith, rows-is, g .held .few, g .held .inside, bits);
-              of-entries = omega (arith, g .base, held-entries enc S wide bs data-bytes (length xs) (length es) (g .kept) (g .held), bits);
-              of-loose = omega (arith, s .size, d .short, bits);
-            }
-
         pub stopped-gives : Reads bytes settings xs es (counted n (st .rows) (st .base) m b) zs fs
         unfolding s
         stopped-gives =
@@ -208,14 +198,6 @@ module _ (bytes : List ℕ) (settings : DecodeSettings) (size : length bytes ≤
 
         stored : zs ≡ overlaid (joined (g .kept .rows) ++ t .changes) xs
         stored = behind zs (t .changes) (o .store ∙ ap (λ (w : RowOut). take (st .base) ys ++ overlaid (changesIn w) (drop (st .base) ys)) (t .is))
-
-        pub full-counts : Counts (st .rows) (st .base) count
-        unfolding t
-        full-counts = record {
-          of-rows = omega (arith, rows-is, g .held .few, g .held .inside, bits);
-          of-entries = omega (arith, g .base, held-entries enc S wide bs data-bytes (length xs) (length es) (g .kept) (g .held), bits);
-          of-loose = omega (arith, t .size, does .short, bits);
-        }
 
         -- no row end is left
         pub full-gives : length es ≤ st .rows → Reads bytes settings xs es (counted 5 (st .rows) (st .base) count 0) zs fs
@@ -318,14 +300,11 @@ module _ {bytes : List ℕ} {settings : DecodeSettings} {xs es ys fs : List ℕ}
   turn-asked l = row-asked bytes settings (t .size) (t .wide) (t .narrow) xs es ys fs st (t .going) l
 
   module _ {r : Row} {zs : List ℕ} (o : Rowed bytes ys settings st r zs) where
-    pub turn-stopped : {n p b m : ℕ} → r ≡ Stop n p b m → Counts (st .rows) (st .base) m × Reads bytes settings xs es (counted n (st .rows) (st .base) m b) zs fs
+    pub turn-stopped : {n p b m : ℕ} → r ≡ Stop n p b m → Reads bytes settings xs es (counted n (st .rows) (st .base) m b) zs fs
     turn-stopped {n} {p} {b} {m} e =
-        (stopped-counts bytes settings (t .size) (t .wide) (t .narrow) xs es ys fs st (t .going) r zs o n p b m e, stopped-gives bytes settings (t .size) (t .wide) (t .narrow) xs es ys fs st (t .going) r zs o n p b m e)
+        stopped-gives bytes settings (t .size) (t .wide) (t .narrow) xs es ys fs st (t .going) r zs o n p b m e
 
     module _ {count at : ℕ} {eols : Bool} (e : r ≡ Kept count at eols) where
-      pub turn-counts : Counts (st .rows) (st .base) count
-      turn-counts = full-counts bytes settings (t .size) (t .wide) (t .narrow) xs es ys fs st (t .going) r zs o count at eols e
-
       pub turn-full : length es ≤ st .rows → Reads bytes settings xs es (counted 5 (st .rows) (st .base) count 0) zs fs
       turn-full h = full-gives bytes settings (t .size) (t .wide) (t .narrow) xs es ys fs st (t .going) r zs o count at eols e h
 

@@ -6,7 +6,7 @@ use rows::Row;
 use rows::State;
 ghost use mathlib.Core.Path.{_≡_};
 ghost use Rattle.rows.specs.Between.{RowFrom};
-ghost use Rattle.ccitt.specs.Decode.{Rowed, counted, Counts, behindRow, Behind, PageFrom, Reads, Decodes};
+ghost use Rattle.ccitt.specs.Decode.{Rowed, counted, behindRow, Behind, PageFrom, Reads, Decodes};
 
 // What one row does, by the encoding.
 fn row<'a>(
@@ -28,16 +28,22 @@ fn row<'a>(
     }
 }
 
+// A count in the 64 bits that a row end has: more than 32, since a page may have more entries than those can count (A4).
+fn wide(count: usize) -> u64
+    ensures { λ r. ⌜ r ≡ count ⌝ }
+{
+    count as u64
+}
+
 // The answer after so many rows.
 fn counts(number: u32, rows: usize, entries: usize, loose: usize, bytes: usize) -> Answer
-    requires { ⌜ Counts rows entries loose ⌝ }
     ensures { λ r. ⌜ r ≡ counted number rows entries loose bytes ⌝ }
 {
     Answer {
         number: number,
-        rows: rows as u32,
-        entries: entries as u32,
-        loose: loose as u32,
+        rows: rows as u64,
+        entries: entries as u64,
+        loose: loose as u64,
         bytes: bytes as u64,
     }
 }
@@ -62,7 +68,7 @@ fn page<'a>(
     src: &[u8],
     settings: DecodeSettings,
     changes: &mut [u32],
-    ends: &mut [u32],
+    ends: &mut [u64],
 ) -> Answer
     requires { ⌜ PageFrom (now white) (now black) (now src) settings ⌝ }
     ensures { λ r. ⌜ Reads (now (src .entry)) settings (now (changes .entry)) (now (ends .entry)) r (now (changes .exit)) (now (ends .exit)) ⌝ }
@@ -84,7 +90,7 @@ fn page<'a>(
                 if ends.len() <= rows {
                     return counts(5, rows, state.base, count, 0);
                 }
-                ends[rows] = (state.base + count) as u32;
+                ends[rows] = wide(state.base + count);
                 state = behind(state, count, at, eols);
             }
         }
@@ -92,13 +98,13 @@ fn page<'a>(
 }
 
 // A page into lent arrays. The lookup tables are made once, here: a constant is built anew wherever it is used.
-pub fn decode(src: &[u8], settings: DecodeSettings, changes: &mut [u32], ends: &mut [u32]) -> Answer
+pub fn decode(src: &[u8], settings: DecodeSettings, changes: &mut [u32], ends: &mut [u64]) -> Answer
     ensures { λ r. ⌜ Decodes (now (src .entry)) settings (now (changes .entry)) (now (ends .entry)) r (now (changes .exit)) (now (ends .exit)) ⌝ }
 {
     if settings.columns == 4294967295 {
         return error::refusal(6);
     }
-    if 268435456 < src.len() {
+    if 4294967296 < src.len() {
         return error::refusal(7);
     }
     if settings.columns == 0 {

@@ -40,7 +40,7 @@ words-cons x xs h w = record { small = each }
 words-tail : (x : ℕ) (xs : List ℕ) → Words (x ∷ xs) → Words xs
 words-tail x xs w = record { small = λ i. w .small (suc i) }
 
-pub words-take : (n : ℕ) (xs : List ℕ) → Words xs → Words (take n xs)
+words-take : (n : ℕ) (xs : List ℕ) → Words xs → Words (take n xs)
 words-take zero xs w = record { small = λ i. omega arith }
 words-take (suc n) [] w = record { small = λ i. omega arith }
 words-take (suc n) (x ∷ xs) w = words-cons x (take n xs) (w .small 0) (words-take n xs (words-tail x xs w))
@@ -65,17 +65,26 @@ line-is : (word : String) (ns : List ℕ) → length (textLine word ns) ≡ leng
 unfolding textLine
 line-is word ns = omega (arith, length-append (ascii word) (tabbed ns ++ newline ∷ []), length-append (tabbed ns) (newline ∷ []))
 
-row-short : (n : ℕ) (row : List ℕ) → n < 4294967296 → length row < 4294967296 → Words row → length (rowLine n row) ≤ 26 + 11 * length row
+row-short : (n : ℕ) (row : List ℕ) → n < 2 ^ 64 → length row < 2 ^ 64 → Words row → length (rowLine n row) ≤ 46 + 11 * length row
 unfolding ascii
-row-short n row h l w = omega (arith, line-is "row" (n ∷ length row ∷ row), tabbed-short (n ∷ length row ∷ row) (words-cons n (length row ∷ row) h (words-cons (length row) row l w)))
+row-short n row h l w =
+    omega (
+      arith,
+      line-is "row" (n ∷ length row ∷ row),
+      tabbed-is n (length row ∷ row),
+      tabbed-is (length row) row,
+      decimal-short 19 n (omega arith),
+      decimal-short 19 (length row) (omega arith),
+      tabbed-short row w,
+    )
 
 -- the rows that are left have the changes from `base` on
-rows-short : (changes : List ℕ) → Words changes → (ends : List ℕ) → Words ends → (n base : ℕ) → n + length ends ≤ 4294967296 → base ≤ length changes
+rows-short : (changes : List ℕ) → Words changes → length changes < 2 ^ 64 → (ends : List ℕ) (n base : ℕ) → n + length ends ≤ 2 ^ 64 → base ≤ length changes
     → endsRise (length changes) base ends ≡ true
-    → length (rowLines n (rowsIn base changes ends)) + 11 * base ≤ 26 * length ends + 11 * length changes
+    → length (rowLines n (rowsIn base changes ends)) + 11 * base ≤ 46 * length ends + 11 * length changes
 unfolding rowLines rowsIn
-rows-short changes w [] v n base h l r = omega arith
-rows-short changes w (e ∷ ends) v n base h l r =
+rows-short changes w f [] n base h l r = omega arith
+rows-short changes w f (e ∷ ends) n base h l r =
     let s = rises (length changes) base e ends r in
     let row = rowTo changes base e in
     let size : length row ≡ e - base = length-take-le (e - base) (drop base changes) (omega (arith, s .low, s .high, length-drop base changes)) in
@@ -83,8 +92,8 @@ rows-short changes w (e ∷ ends) v n base h l r =
       arith,
       s .low,
       length-append (rowLine n row) (rowLines (suc n) (rowsIn e changes ends)),
-      row-short n row (omega arith) (omega (arith, v .small 0)) (words-take (e - base) (drop base changes) (words-drop base changes w)),
-      rows-short changes w ends (words-tail e ends v) (suc n) e (omega arith) (s .high) (s .rest),
+      row-short n row (omega arith) (omega (arith, size, s .high, f)) (words-take (e - base) (drop base changes) (words-drop base changes w)),
+      rows-short changes w f ends (suc n) e (omega arith) (s .high) (s .rest),
     )
 
 pub rows-count : (changes ends : List ℕ) (base : ℕ) → length (rowsIn base changes ends) ≡ length ends
@@ -92,12 +101,12 @@ unfolding rowsIn
 rows-count changes [] base = refl
 rows-count changes (e ∷ ends) base = ap suc (rows-count changes ends e)
 
--- a line of one number, and one of three, of which the last may have 64 bits
+-- a line of one number, and one of three, of which the last two may have 64 bits
 columns-short : (columns : ℕ) → columns < 4294967296 → length (textLine "columns" (columns ∷ [])) ≤ 19
 unfolding ascii tabbed
 columns-short columns h = omega (arith, line-is "columns" (columns ∷ []), tabbed-is columns [], decimal-short 9 columns (omega arith))
 
-stop-short : (a b c : ℕ) → a < 4294967296 → b < 4294967296 → c < 2 ^ 64 → length (textLine "stop" (a ∷ b ∷ c ∷ [])) ≤ 48
+stop-short : (a b c : ℕ) → a < 4294967296 → b < 2 ^ 64 → c < 2 ^ 64 → length (textLine "stop" (a ∷ b ∷ c ∷ [])) ≤ 58
 unfolding ascii tabbed
 stop-short a b c h l m =
     omega (
@@ -107,15 +116,15 @@ stop-short a b c h l m =
       tabbed-is b (c ∷ []),
       tabbed-is c [],
       decimal-short 9 a (omega arith),
-      decimal-short 9 b (omega arith),
+      decimal-short 19 b (omega arith),
       decimal-short 19 c (omega arith),
     )
 
-pub listing-short : (columns answer bytes : ℕ) (changes ends : List ℕ) → columns < 4294967296 → answer < 4294967296 → bytes < 2 ^ 64 → length ends < 4294967296
-    → Words changes → Words ends → Rising changes ends
-    → length (listingText columns answer (rowsIn 0 changes ends) bytes) ≤ 67 + 26 * length ends + 11 * length changes
+pub listing-short : (columns answer bytes : ℕ) (changes ends : List ℕ) → columns < 4294967296 → answer < 4294967296 → bytes < 2 ^ 64 → length ends < 2 ^ 64
+    → Words changes → length changes < 2 ^ 64 → Rising changes ends
+    → length (listingText columns answer (rowsIn 0 changes ends) bytes) ≤ 77 + 46 * length ends + 11 * length changes
 unfolding listingText
-listing-short columns answer bytes changes ends hc ha hb he w v r =
+listing-short columns answer bytes changes ends hc ha hb he w f r =
     let rows = rowsIn 0 changes ends in
     let stop = textLine "stop" (answer ∷ length rows ∷ bytes ∷ []) in
     omega (
@@ -123,6 +132,6 @@ listing-short columns answer bytes changes ends hc ha hb he w v r =
       length-append (textLine "columns" (columns ∷ [])) (rowLines 1 rows ++ stop),
       length-append (rowLines 1 rows) stop,
       columns-short columns hc,
-      rows-short changes w ends v 1 0 (omega arith) (omega arith) r,
+      rows-short changes w f ends 1 0 (omega arith) (omega arith) r,
       stop-short answer (length rows) bytes ha (omega (arith, rows-count changes ends 0)) hb,
     )

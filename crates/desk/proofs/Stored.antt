@@ -69,7 +69,7 @@ module _ (a : Page.Answer) (xs es : List ℕ) (h : Holds (length xs) (length es)
       let rest = drop (length (front ++ a .loose)) xs in
       ap₂ (λ (ys fs : List ℕ). rowsIn 0 ys fs) (append-assoc front (a .loose) rest) ends-kept ∙ rows-back (a .rows) (a .loose ++ rest)
 
-  pub can-list : (out : List ℕ) → 67 + 26 * length es + 11 * length xs ≤ length out → Listing out (answerOf a) (changesAfter a xs) (endsAfter a es)
+  pub can-list : (out : List ℕ) → 77 + 46 * length es + 11 * length xs ≤ length out → Listing out (answerOf a) (changesAfter a xs) (endsAfter a es)
   unfolding endsAfter
   can-list out room = record {
     placed = omega (arith, h .placed, length-overlaid (endsFrom 0 (a .rows)) es (omega (arith, h .placed, length-ends 0 (a .rows))));

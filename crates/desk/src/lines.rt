@@ -43,7 +43,7 @@ fn put_row(out: &mut [u8], at: usize, number: usize, row: &[u32]) -> usize
 }
 
 // The rows of a store, as many as there are ends.
-fn put_rows(out: &mut [u8], at: usize, changes: &[u32], ends: &[u32]) -> usize
+fn put_rows(out: &mut [u8], at: usize, changes: &[u32], ends: &[u64]) -> usize
     requires { ⌜ Room (now out) at (rowLines 1 (rowsIn 0 (now changes) (now ends))) × Rising (now changes) (now ends) ⌝ }
     ensures { λ r. ⌜ Puts (now (out .entry)) at (rowLines 1 (rowsIn 0 (now (changes .entry)) (now (ends .entry)))) r (now (out .exit)) ⌝ }
 {
@@ -59,26 +59,27 @@ fn put_rows(out: &mut [u8], at: usize, changes: &[u32], ends: &[u32]) -> usize
     p
 }
 
-fn put_stop(out: &mut [u8], at: usize, answer: Answer) -> usize
-    requires { ⌜ Room (now out) at (textLine "stop" (answer .number ∷ answer .rows ∷ answer .bytes ∷ [])) ⌝ }
-    ensures { λ r. ⌜ Puts (now (out .entry)) at (textLine "stop" (answer .number ∷ answer .rows ∷ answer .bytes ∷ [])) r (now (out .exit)) ⌝ }
+fn put_stop(out: &mut [u8], at: usize, number: u64, rows: u64, bytes: u64) -> usize
+    requires { ⌜ Room (now out) at (textLine "stop" (number ∷ rows ∷ bytes ∷ [])) ⌝ }
+    ensures { λ r. ⌜ Puts (now (out .entry)) at (textLine "stop" (number ∷ rows ∷ bytes ∷ [])) r (now (out .exit)) ⌝ }
 {
     let p = put_text(out, at, b"stop");
-    let p = put_field(out, p, answer.number as u64);
-    let p = put_field(out, p, answer.rows as u64);
-    let p = put_field(out, p, answer.bytes);
+    let p = put_field(out, p, number);
+    let p = put_field(out, p, rows);
+    let p = put_field(out, p, bytes);
     put_byte(out, p, b'\n')
 }
 
 // The listing of a page whose kept rows stand in a store.
-pub fn list(out: &mut [u8], columns: u32, answer: Answer, changes: &[u32], ends: &[u32]) -> usize
+pub fn list(out: &mut [u8], columns: u32, answer: Answer, changes: &[u32], ends: &[u64]) -> usize
     requires { ⌜ Listing (now out) answer (now changes) (now ends) ⌝ }
     ensures { λ r. ⌜ Prints (now (out .entry)) (listingOf columns answer (now (changes .entry)) (now (ends .entry))) r (now (out .exit)) ⌝ }
 {
+    let number = answer.number as u64;
     let rows = answer.rows as usize;
     let p = put_columns(out, 0, columns);
     let p = put_rows(out, p, changes, &ends[..rows]);
-    put_stop(out, p, answer)
+    put_stop(out, p, number, answer.rows, answer.bytes)
 }
 
 // "Longer data or another settings line prints `bad input` alone."

@@ -25,7 +25,7 @@ pageText S src = listed S (decode S src 8192 2048)
 
 -- room for the longest listing of such a store (the crate desk, `Listing`)
 abbrev pub room : ℕ
-room = 67 + 26 * 2048 + 11 * 8192
+room = 77 + 46 * 2048 + 11 * 8192
 
 -- an input with a line of settings, and then no more data than that
 pub record Asks (input : List ℕ) (S : Settings) (src : List ℕ) : Type 0 where

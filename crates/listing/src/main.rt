@@ -13,7 +13,7 @@ fn page(src: &[u8], settings: DecodeSettings, out: &mut [u8]) -> usize
     ensures { λ r. ⌜ Prints (now (out .entry)) (pageText (settingsOf settings) (now (src .entry))) r (now (out .exit)) ⌝ }
 {
     let mut changes = [0u32; 8192];
-    let mut ends = [0u32; 2048];
+    let mut ends = [0u64; 2048];
     let answer = ccitt::decode(src, settings, &mut changes, &mut ends);
     desk::list(out, settings.columns, answer, &changes, &ends)
 }
@@ -46,7 +46,7 @@ fn answer(input: &[u8], got: usize, out: &mut [u8]) -> usize
 fn main() {
     let mut input = [0u8; 16417];
     let got = io::read_full(libc::STDIN_FILENO, &mut input);
-    let mut out = [0u8; 147456];
+    let mut out = [0u8; 196608];
     let n = answer(&input, got, &mut out);
     io::write_all(libc::STDOUT_FILENO, &out[..n]);
 }

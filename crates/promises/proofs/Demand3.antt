@@ -11,7 +11,7 @@ use Rattle.rules.specs.Bits.{bitsOf}
 use Rattle.rules.specs.Rows.{bytesTo}
 use Rattle.rules.specs.Lines.{two}
 use Rattle.rules.specs.Pages as Page
-use Rattle.rules.specs.Pages.{entries, joined, overlaid, decode, readOneLine, changesAfter}
+use Rattle.rules.specs.Pages.{mostBytes, entries, joined, overlaid, decode, readOneLine, changesAfter}
 use Rattle.rules.specs.Write.{mostMakeup, pageBits, rowsIn, writeLine, writePage}
 use Rattle.rules.proofs.Bits.{length-bitsOf}
 use Rattle.rules.proofs.PageBack.{Rows, Plain, whole}
@@ -125,7 +125,7 @@ module _ (columns : ℕ) (changes ends out : List ℕ) (w : Answer) (out′ : Li
   unfolding P
   same-size settings s = ap (λ (n : ℕ). length (pageBits mostMakeup n (rowsIn 0 changes ends))) (s .same-columns)
 
-  read-whole : (bytes : List ℕ) → length bytes ≤ 268435456 → take (w .bytes) bytes ≡ take (w .bytes) out′ → (settings : DecodeSettings) → Plainly columns settings
+  read-whole : (bytes : List ℕ) → length bytes ≤ mostBytes → take (w .bytes) bytes ≡ take (w .bytes) out′ → (settings : DecodeSettings) → Plainly columns settings
       → (settings .rows ≡ 0) ⊎ (settings .rows ≡ length (rowsIn 0 changes ends)) → (store places : ℕ)
       → entries (rowsIn 0 changes ends) ≤ store → length (rowsIn 0 changes ends) ≤ places
       → decode (settingsOf settings) bytes store places ≡ whole (length P) (rowsIn 0 changes ends)
@@ -135,7 +135,7 @@ module _ (columns : ℕ) (changes ends out : List ℕ) (w : Answer) (out′ : Li
       (rises settings s) bytes small (f .0) (for-settings settings s bytes (f .0) (f .1)) counted store places roomy placed
       ∙ ap (λ (n : ℕ). whole n (rowsIn 0 changes ends)) (same-size settings s)
 
-  read-cut : length out′ ≤ 268435456 → (cut : ℕ) (settings : DecodeSettings) → Plainly columns settings → (store places : ℕ)
+  read-cut : length out′ ≤ mostBytes → (cut : ℕ) (settings : DecodeSettings) → Plainly columns settings → (store places : ℕ)
       → (n : ℕ) × (decode (settingsOf settings) (take cut out′) store places .rows ≡ take n (rowsIn 0 changes ends))
   read-cut small cut settings s store places =
       page-cut mostMakeup (omega arith) (omega arith) (settingsOf settings) (plain settings s) (omega (arith, p .narrow, s .same-columns)) (rowsIn 0 changes ends)

@@ -6,6 +6,7 @@ use mathlib.Core.List.{List, [], _∷_, _++_}
 use Prim.Native.Nat.{ℕ, _+_, _*_, _≤_}
 use lib.ListN.{length, take}
 use Rattle.rules.specs.Lines.{two}
+use Rattle.rules.specs.Pages.{mostBytes}
 use Rattle.rules.specs.Write.{mostMakeup, lineBits, rowsIn, writeLine}
 use Rattle.error.specs.declared.Answer.{Answer}
 use Rattle.rows.specs.declared.DecodeSettings.{DecodeSettings}
@@ -24,7 +25,7 @@ RowsGoBack =
     (bytes : List ℕ) (settings : DecodeSettings) (changes ends : List ℕ) (r : Answer) (changes′ ends′ : List ℕ) → settings .columns ≤ 4294967295
     → Decodes bytes settings changes ends r changes′ ends′
     → (reference row : List ℕ) → Follows (rowsIn 0 changes′ (take (r .rows) ends′)) reference row
-    → (out : List ℕ) (at : ℕ) (w : Answer) (out′ : List ℕ) → length out ≤ 268435456
+    → (out : List ℕ) (at : ℕ) (w : Answer) (out′ : List ℕ) → length out ≤ mostBytes
     → at + length (lineBits mostMakeup (settings .columns) (two reference) row) ≤ 8 * length out
     → Answers (writeLine mostMakeup (settings .columns) reference row out at) out w out′
     → (w .number ≡ 0)

@@ -6,7 +6,7 @@ use mathlib.Core.Logic.{_↔_}
 use mathlib.Core.List.{List}
 use Prim.Native.Nat.{ℕ, _+_, _*_, _≤_, _<_}
 use lib.ListN.{length, take, drop}
-use Rattle.rules.specs.Pages.{entries}
+use Rattle.rules.specs.Pages.{mostBytes, entries}
 use Rattle.rules.specs.Write.{rowsIn}
 use Rattle.rules.proofs.PageBack.{Rows}
 use Rattle.error.specs.declared.Answer.{Answer}
@@ -21,8 +21,8 @@ module _ (bytes : List ℕ) (settings : DecodeSettings) (changes ends : List ℕ
   pub record Listed : Type 0 where
     pub at-most-7 : r .number ≤ 7
     pub six : (r .number ≡ 6) ↔ (settings .columns ≡ 4294967295)
-    pub seven : (r .number ≡ 7) ↔ ((settings .columns ≡ 4294967295 → ⊥) × (268435456 < length bytes))
-    pub no-columns : settings .columns ≡ 0 → length bytes ≤ 268435456 → r .number ≡ 0
+    pub seven : (r .number ≡ 7) ↔ ((settings .columns ≡ 4294967295 → ⊥) × (mostBytes < length bytes))
+    pub no-columns : settings .columns ≡ 0 → length bytes ≤ mostBytes → r .number ≡ 0
 
   -- a refusal leaves everything as found and gives zero counts
   pub record Refused : Type 0 where

@@ -5,7 +5,7 @@ use mathlib.Core.Bool.{Bool, false}
 use mathlib.Core.List.{List}
 use Prim.Native.Nat.{ℕ, _+_, _*_, _≤_, _<_}
 use lib.ListN.{length, take, drop}
-use Rattle.rules.specs.Pages.{ascends}
+use Rattle.rules.specs.Pages.{mostBytes, ascends}
 use Rattle.rules.proofs.Ascending.{Rising}
 use Rattle.error.specs.declared.Answer.{Answer}
 use Rattle.context.specs.OneLine.{ReadOne}
@@ -16,7 +16,7 @@ module _ (bytes : List ℕ) (at columns : ℕ) (reference changes : List ℕ) (r
   NoLine = (columns ≡ 0) ⊎ (columns ≡ 4294967295)
 
   abbrev TooLong : Type 0
-  TooLong = 268435456 < length bytes
+  TooLong = mostBytes < length bytes
 
   -- 0 to 4, or a refusal with 6, 7 or 8, each exactly when 01 says so, in this order
   pub record LineListed : Type 0 where

@@ -6,7 +6,7 @@ use mathlib.Core.List.{List}
 use Prim.Native.Nat.{ℕ, _+_, _*_, _≤_, _<_}
 use lib.ListN.{length}
 use Rattle.rules.specs.Lines.{two}
-use Rattle.rules.specs.Pages.{ascends}
+use Rattle.rules.specs.Pages.{mostBytes, ascends}
 use Rattle.rules.specs.Write.{mostMakeup, lineBits, pageBits, rowsIn, endsRise, allAscend, writeLine, writePage}
 use Rattle.error.specs.declared.Answer.{Answer}
 use Rattle.writer.specs.Outcome.{Answers}
@@ -17,7 +17,7 @@ module _ (columns : ℕ) (out : List ℕ) (good : Bool) (end : ℕ) (r : Answer)
   NoLine = (columns ≡ 0) ⊎ (columns ≡ 4294967295)
 
   abbrev TooLong : Type 0
-  TooLong = 268435456 < length out
+  TooLong = mostBytes < length out
 
   pub record WriteListed : Type 0 where
     pub listed : (r .number ≡ 0) ⊎ ((6 ≤ r .number) × (r .number ≤ 9))

@@ -9,7 +9,7 @@ use Prim.Native.Nat.{ℕ, _+_, _≤_, _<_}
 use lib.ListN.{length, take, drop}
 use Rattle.rules.specs.Bits.{bitsOf}
 use Rattle.rules.specs.Lines.{two}
-use Rattle.rules.specs.Pages.{entries}
+use Rattle.rules.specs.Pages.{mostBytes, entries}
 use Rattle.rules.specs.Write.{mostMakeup, lineBits, rowsIn, writeLine, writePage}
 use Rattle.rules.proofs.Ascending.{Rising}
 use Rattle.error.specs.declared.Answer.{Answer}
@@ -33,7 +33,7 @@ pub record Back (row : List ℕ) (after : ℕ) (r : Answer) (changes′ : List �
 abbrev pub LineReadsBack : Type 0
 LineReadsBack =
     (columns : ℕ) (reference row : List ℕ) → 0 < columns → columns < 4294967295 → Rising columns 0 reference → Rising columns 0 row
-    → (bytes : List ℕ) (at : ℕ) (rest : List Bool) → length bytes ≤ 268435456 → drop at (bitsOf bytes) ≡ lineBits mostMakeup columns (two reference) row ++ rest
+    → (bytes : List ℕ) (at : ℕ) (rest : List Bool) → length bytes ≤ mostBytes → drop at (bitsOf bytes) ≡ lineBits mostMakeup columns (two reference) row ++ rest
     → (strict : Bool) (changes : List ℕ) (r : Answer) (changes′ : List ℕ) → length row ≤ length changes
     → ReadOne bytes at columns strict reference changes r changes′
     → Back row (at + length (lineBits mostMakeup columns (two reference) row)) r changes′
@@ -68,7 +68,7 @@ abbrev pub WrittenPageReadsBack : Type 0
 WrittenPageReadsBack =
     (columns : ℕ) (changes ends out : List ℕ) (w : Answer) (out′ : List ℕ) → columns ≤ 4294967295
     → Answers (writePage mostMakeup columns changes ends out) out w out′ → w .number ≡ 0
-    → (bytes : List ℕ) → length bytes ≤ 268435456 → take (w .bytes) bytes ≡ take (w .bytes) out′
+    → (bytes : List ℕ) → length bytes ≤ mostBytes → take (w .bytes) bytes ≡ take (w .bytes) out′
     → (settings : DecodeSettings) → Plainly columns settings → (settings .rows ≡ 0) ⊎ (settings .rows ≡ length ends)
     → (store places : List ℕ) (r : Answer) (store′ places′ : List ℕ) → entries (rowsIn 0 changes ends) ≤ length store → length ends ≤ length places
     → Decodes bytes settings store places r store′ places′

@@ -36,7 +36,7 @@ fn ask(
     src: &[u8],
     reference: &[u32],
     changes: &mut [u32],
-    ends: &mut [u32],
+    ends: &mut [u64],
 ) -> Answer {
     if n[0] == 3 {
         return context::read::read_line(
@@ -65,7 +65,7 @@ fn ask_within(
     src: &[u8],
     reference: &[u32],
     changes: &mut [u32],
-    ends: &mut [u32],
+    ends: &mut [u64],
 ) -> Answer {
     let c = within(n[9], changes.len());
     let e = within(n[10], ends.len());
@@ -86,17 +86,27 @@ fn number(n: u64) {
 }
 
 // No change and no row end is 4294967295: an entry that still has it was left alone.
-fn entry(n: u32) {
+fn entry(n: u64) {
     io::write_all(STDOUT_FILENO, b" ");
     if n == 4294967295 {
         io::write_all(STDOUT_FILENO, b"-");
         return;
     }
-    io::print_decimal(STDOUT_FILENO, n as u64);
+    io::print_decimal(STDOUT_FILENO, n);
 }
 
-// The first `n` entries of an array.
+// The first `n` changes of an array, and the first `n` row ends.
 fn entries(array: &[u32], n: u32) {
+    io::write_all(STDOUT_FILENO, b":");
+    let end = within(n, array.len());
+    let mut k = 0;
+    while k < end {
+        entry(array[k] as u64);
+        k += 1;
+    }
+}
+
+fn row_ends(array: &[u64], n: u32) {
     io::write_all(STDOUT_FILENO, b":");
     let end = within(n, array.len());
     let mut k = 0;
@@ -108,9 +118,9 @@ fn entries(array: &[u32], n: u32) {
 
 fn tell(answer: Answer) {
     number(answer.number as u64);
-    number(answer.rows as u64);
-    number(answer.entries as u64);
-    number(answer.loose as u64);
+    number(answer.rows);
+    number(answer.entries);
+    number(answer.loose);
     number(answer.bytes);
 }
 
@@ -142,7 +152,7 @@ pub(crate) fn replay(input: &[u8], from: usize) -> usize {
     let mut words = [0u32; 128];
     let mut src = [0u8; 128];
     let mut changes = [4294967295u32; 256];
-    let mut ends = [4294967295u32; 64];
+    let mut ends = [4294967295u64; 64];
     let head = asked::numbers(input, from, 13, &mut n);
     let data = asked::numbers(input, head, n[11], &mut reference);
     let next = asked::numbers(input, data, n[12], &mut words);
@@ -150,7 +160,7 @@ pub(crate) fn replay(input: &[u8], from: usize) -> usize {
     tell(ask_within(&n, &src, &reference, &mut changes, &mut ends));
     entries(&changes, n[9]);
     io::write_all(STDOUT_FILENO, b" ");
-    entries(&ends, n[10]);
+    row_ends(&ends, n[10]);
     io::write_all(STDOUT_FILENO, b"\n");
     next
 }

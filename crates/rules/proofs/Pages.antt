@@ -1,5 +1,5 @@
 -- Laws of pages, over the encoding: each row moves on, so a page ends; its rows ascend strictly below the width; there are at most as many as bits and one; and their
--- entries are less than twice the bits, so that row ends fit 32 bits. Assumes nothing.
+-- entries are less than twice the bits, so that row ends and counts fit 64 bits. Assumes nothing.
 use mathlib.Core.Path.{_≡_, refl, sym, ap, _∙_, subst}
 use mathlib.Core.Logic.{_⊎_, ⊎-elim}
 use mathlib.Core.Bool.{Bool, true, false, cond, not, _&&_, _||_}

@@ -11,11 +11,19 @@ fn field(n: u64) {
     io::print_decimal(STDOUT_FILENO, n);
 }
 
-// The first `n` changes of a store.
-fn fields(changes: &[u32], n: u64) {
+// Whether a change is one of the kept rows or a loose one behind them.
+fn is_stored(i: u64, entries: u64, loose: u64) -> bool {
+    if i < entries {
+        return true;
+    }
+    i - entries < loose
+}
+
+// The changes of a store that an answer counts.
+fn fields(changes: &[u32], entries: u64, loose: u64) {
     let mut i = 0;
     while i < changes.len() {
-        if (i as u64) < n {
+        if is_stored(i as u64, entries, loose) {
             field(changes[i] as u64);
         }
         i += 1;
@@ -25,15 +33,15 @@ fn fields(changes: &[u32], n: u64) {
 fn show(name: &[u8], answer: Answer, changes: &[u32]) {
     io::write_all(STDOUT_FILENO, name);
     field(answer.number as u64);
-    field(answer.rows as u64);
-    field(answer.entries as u64);
-    field(answer.loose as u64);
+    field(answer.rows);
+    field(answer.entries);
+    field(answer.loose);
     field(answer.bytes);
-    fields(changes, answer.entries as u64 + answer.loose as u64);
+    fields(changes, answer.entries, answer.loose);
     io::write_all(STDOUT_FILENO, b"\n");
 }
 
-fn sheet(name: &[u8], src: &[u8], settings: DecodeSettings, changes: &mut [u32], ends: &mut [u32]) {
+fn sheet(name: &[u8], src: &[u8], settings: DecodeSettings, changes: &mut [u32], ends: &mut [u64]) {
     let answer = ccitt::decode(src, settings, changes, ends);
     show(name, answer, changes);
 }
@@ -65,8 +73,8 @@ fn group3(rows: u32, end_of_line: bool, strict: bool) -> DecodeSettings {
 fn group4_sheets() {
     let mut two = [0u32; 2];
     let mut one = [0u32; 1];
-    let mut end = [0u32; 1];
-    let mut none = [0u32; 0];
+    let mut end = [0u64; 1];
+    let mut none = [0u64; 0];
     sheet(b"60, strict", b"\x60", group4(true), &mut two, &mut end);
     sheet(b"60, lenient", b"\x60", group4(false), &mut two, &mut end);
     sheet(
@@ -94,7 +102,7 @@ fn group4_sheets() {
 
 fn group3_sheets() {
     let mut two = [0u32; 2];
-    let mut end = [0u32; 1];
+    let mut end = [0u64; 1];
     sheet(
         b"98, rows 1",
         b"\x98",
@@ -154,7 +162,7 @@ fn strictly(
 
 fn parting(name: &[u8], src: &[u8], settings: DecodeSettings) {
     let mut changes = [0u32; 4];
-    let mut ends = [0u32; 8];
+    let mut ends = [0u64; 8];
     sheet(name, src, settings, &mut changes, &mut ends);
 }
 

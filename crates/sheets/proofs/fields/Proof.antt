@@ -7,13 +7,16 @@ use Rattle.sheets.proofs.fields.Statement.{statement}
 use Rattle.sheets.proofs.fields.Tie as tie
 
 abbrev Inv-loop : tie.InvT-loop
-Inv-loop changes n i₀ i = i ≤ length changes
+Inv-loop changes entries loose i₀ i = i ≤ length changes
 
 abbrev μ-loop : tie.MeasureT-loop
-μ-loop changes n i₀ i = length changes - i
+μ-loop changes entries loose i₀ i = length changes - i
 
 loop-holds : tie.Need-loop-holds Inv-loop μ-loop
 loop-holds c = omega arith
+
+is-stored-requires : tie.Need-is-stored-requires Inv-loop μ-loop
+is-stored-requires c κs = search needs
 
 mul-field : tie.Need-mul-field Inv-loop μ-loop
 mul-field c = omega arith
@@ -22,7 +25,7 @@ shared-slice-read-field : tie.Need-shared-slice-read-field Inv-loop μ-loop
 shared-slice-read-field c = omega arith
 
 cast-field : tie.Need-cast-field Inv-loop μ-loop
-cast-field c = omega (arith, c .shared-slice-known2 .given (c .before .before .before .loop .i))
+cast-field c = omega (arith, c .shared-slice-known2 .given (c .before .before .before .before .loop .i))
 
 field-requires : tie.Need-field-requires Inv-loop μ-loop
 field-requires c κs = search needs
@@ -46,6 +49,7 @@ fields-spec =
     Inv-loop
     μ-loop
     loop-holds
+    is-stored-requires
     mul-field
     shared-slice-read-field
     cast-field

@@ -9,7 +9,7 @@ use Rattle.desk.proofs.lines.list.Statement.{statement}
 use Rattle.desk.proofs.lines.list.Tie as tie
 
 -- what the types of the arguments hold
-held : (c : tie.After-struct-known) → let a = c .before .before .before .before .args in Held (a .columns) (a .answer) (now (a .changes)) (now (a .ends))
+held : (c : tie.After-struct-known) → let a = c .before .before .before .before .args in Held (a .columns) (a .answer) (now (a .changes))
 held c =
     let a = c .before .before .before .before .args in
     record {
@@ -18,11 +18,11 @@ held c =
       rows-held = omega arith;
       bytes-held = omega arith;
       changes-held = record { small = λ i. omega (arith, c .before .before .shared-slice-known .given i) };
-      ends-held = record { small = λ i. omega (arith, c .before .shared-slice-known2 .given i) };
+      changes-few = omega arith;
     }
 
-cast-rows : tie.Need-cast-rows
-cast-rows c = search needs
+cast-number : tie.Need-cast-number
+cast-number c = search needs
 
 put-columns-requires : tie.Need-put-columns-requires
 put-columns-requires c κs = first-room (c .before .before .before .before .before .pre) (held (c .before))
@@ -46,7 +46,7 @@ pub list-spec : {M : Type 1} → statement M
 list-spec =
     tie.close
     (tie.spec
-    cast-rows
+    cast-number
     put-columns-requires
     slice-aggregate-put-rows
     put-rows-requires

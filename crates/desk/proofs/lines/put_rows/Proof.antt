@@ -21,9 +21,6 @@ mul-end c = omega arith
 shared-slice-read-end : tie.Need-shared-slice-read-end Inv-loop μ-loop
 shared-slice-read-end c = omega arith
 
-cast-end : tie.Need-cast-end Inv-loop μ-loop
-cast-end c = omega (arith, c .shared-slice-known3 .given (c .before .before .loop .k))
-
 add-put-row : tie.Need-add-put-row Inv-loop μ-loop
 add-put-row c = omega arith
 
@@ -66,7 +63,6 @@ put-rows-spec =
     loop-holds
     mul-end
     shared-slice-read-end
-    cast-end
     add-put-row
     mul-put-row
     sub-put-row

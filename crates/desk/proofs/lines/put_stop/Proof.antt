@@ -15,28 +15,22 @@ put-text-requires : tie.Need-put-text-requires
 unfolding ascii
 put-text-requires c κs = word-room "stop" _ (c .before .before .before .pre)
 
-cast-put-field : tie.Need-cast-put-field
-cast-put-field c = search needs
-
 put-field-requires : tie.Need-put-field-requires
 unfolding ascii
-put-field-requires c κs = field-room _ _ _ (word-put "stop" _ (c .before .before .before .before .before .before .before .before .pre) (c .before .before .before .before .put-text .ensures))
-
-cast-put-field-2 : tie.Need-cast-put-field-2
-cast-put-field-2 c = search needs
+put-field-requires c κs = field-room _ _ _ (word-put "stop" _ (c .before .before .before .before .before .before .before .pre) (c .before .before .before .put-text .ensures))
 
 put-field-requires-2 : tie.Need-put-field-requires-2
 unfolding ascii
-put-field-requires-2 c κs = field-room _ _ _ (after-one "stop" _ (_ ∷ _ ∷ []) (c .before .before .before .before .before .before .before .before .before .before .before .before .before .pre) (c .before .before .before .before .before .before .before .before .before .put-text .ensures) (c .before .before .before .before .put-field .ensures))
+put-field-requires-2 c κs = field-room _ _ _ (after-one "stop" _ (_ ∷ _ ∷ []) (c .before .before .before .before .before .before .before .before .before .before .before .pre) (c .before .before .before .before .before .before .before .put-text .ensures) (c .before .before .before .put-field .ensures))
 
 put-field-requires-3 : tie.Need-put-field-requires-3
 unfolding ascii
-put-field-requires-3 c κs = field-room _ _ _ (after-two "stop" _ _ (_ ∷ []) (c .before .before .before .before .before .before .before .before .before .before .before .before .before .before .before .before .before .pre) (c .before .before .before .before .before .before .before .before .before .before .before .before .before .put-text .ensures) (c .before .before .before .before .before .before .before .before .put-field .ensures) (c .before .before .before .put-field2 .ensures))
+put-field-requires-3 c κs = field-room _ _ _ (after-two "stop" _ _ (_ ∷ []) (c .before .before .before .before .before .before .before .before .before .before .before .before .before .before .before .pre) (c .before .before .before .before .before .before .before .before .before .before .before .put-text .ensures) (c .before .before .before .before .before .before .before .put-field .ensures) (c .before .before .before .put-field2 .ensures))
 
 put-byte-requires : tie.Need-put-byte-requires
 unfolding ascii tabbed
 put-byte-requires c κs =
-    owes-last-room (after-three "stop" _ _ _ [] (c .before .before .before .before .before .before .before .before .before .before .before .before .before .before .before .before .before .before .before .before .before .pre) (c .before .before .before .before .before .before .before .before .before .before .before .before .before .before .before .before .before .put-text .ensures) (c .before .before .before .before .before .before .before .before .before .before .before .before .put-field .ensures) (c .before .before .before .before .before .before .before .put-field2 .ensures) (c .before .before .before .put-field3 .ensures))
+    owes-last-room (after-three "stop" _ _ _ [] (c .before .before .before .before .before .before .before .before .before .before .before .before .before .before .before .before .before .before .before .pre) (c .before .before .before .before .before .before .before .before .before .before .before .before .before .before .before .put-text .ensures) (c .before .before .before .before .before .before .before .before .before .before .before .put-field .ensures) (c .before .before .before .before .before .before .before .put-field2 .ensures) (c .before .before .before .put-field3 .ensures))
 
 same-length : tie.Need-same-length
 same-length c = search needs
@@ -44,7 +38,7 @@ same-length c = search needs
 returns : tie.Need-returns
 unfolding ascii tabbed
 returns c =
-    owes-last (after-three "stop" _ _ _ [] (c .before .before .before .before .before .before .before .before .before .before .before .before .before .before .before .before .before .before .before .before .before .before .before .before .pre) (c .before .before .before .before .before .before .before .before .before .before .before .before .before .before .before .before .before .before .before .before .put-text .ensures) (c .before .before .before .before .before .before .before .before .before .before .before .before .before .before .before .put-field .ensures) (c .before .before .before .before .before .before .before .before .before .before .put-field2 .ensures) (c .before .before .before .before .before .before .put-field3 .ensures)) (c .before .before .put-byte .ensures)
+    owes-last (after-three "stop" _ _ _ [] (c .before .before .before .before .before .before .before .before .before .before .before .before .before .before .before .before .before .before .before .before .before .before .pre) (c .before .before .before .before .before .before .before .before .before .before .before .before .before .before .before .before .before .before .put-text .ensures) (c .before .before .before .before .before .before .before .before .before .before .before .before .before .before .put-field .ensures) (c .before .before .before .before .before .before .before .before .before .before .put-field2 .ensures) (c .before .before .before .before .before .before .put-field3 .ensures)) (c .before .before .put-byte .ensures)
 
 pub put-stop-spec : {M : Type 1} → statement M
 put-stop-spec =
@@ -52,9 +46,7 @@ put-stop-spec =
     (tie.spec
     slice-aggregate-put-text
     put-text-requires
-    cast-put-field
     put-field-requires
-    cast-put-field-2
     put-field-requires-2
     put-field-requires-3
     put-byte-requires

@@ -30,6 +30,9 @@ mul-entry c = omega arith
 shared-slice-read-entry : tie.Need-shared-slice-read-entry Inv-loop μ-loop
 shared-slice-read-entry c = omega arith
 
+cast-entry : tie.Need-cast-entry Inv-loop μ-loop
+cast-entry c = omega (arith, c .shared-slice-known2 .given (c .before .before .loop .k))
+
 entry-requires : tie.Need-entry-requires Inv-loop μ-loop
 entry-requires c κs = search needs
 
@@ -57,6 +60,7 @@ entries-spec =
     loop-holds
     mul-entry
     shared-slice-read-entry
+    cast-entry
     entry-requires
     add-k
     loop-less
