@@ -59,10 +59,10 @@ mod counted {
     /// Group 4: a row that changes at each of its eight columns, and then the same row again, nine times V0, until the row ends
     /// pass 32 bits.
     pub fn many_changes() -> io::Result<bool> {
-        let mut src = vec![0xFF; 603_979_789];
-        // horizontal: 0 and 1, then three times 1 and 1; six bits of the next row
+        let mut src = vec![0xFF; 603_979_788];
+        // horizontal: 0 and 1, then three times 1 and 1; V0; five bits of the next row
         src[..7].copy_from_slice(&[0x26, 0xA8, 0x8E, 0x88, 0xE8, 0x8E, 0xBF]);
-        let wanted = || Counted { rows: 536_870_919, last_end: 4_294_967_352, bytes: 603_979_789 };
+        let wanted = || Counted { rows: 536_870_918, last_end: 4_294_967_344, bytes: 603_979_788 };
         compare(&Settings::of_line(8, true), &src, wanted(), wanted())
     }
 
