@@ -15,7 +15,7 @@ void exit(int status);
 
 struct Answer {
     u32 number;
-    u64 rows, entries, loose, bytes;
+    u64 rows, entries, loose, bytes, place;
 };
 
 struct Answer ccitt_decode_group4(const u8 *src, u64 src_len, u32 columns, u32 rows, _Bool end_of_block, _Bool rows_are_byte_aligned, _Bool strict,
@@ -134,7 +134,7 @@ static struct Answer write_to(const struct Call *c, const u32 *first, const u32 
     return answer;
 #else
     (void)c, (void)first, (void)second, (void)out, (void)out_len;
-    return (struct Answer){ ~0u, 0, 0, 0, 0 };
+    return (struct Answer){ ~0u, 0, 0, 0, 0, 0 };
 #endif
 }
 

@@ -14,6 +14,7 @@
    entries: entries in kept rows.
    loose:   entries behind them that belong to an unfinished row.
    bytes:   after 0 the bytes consumed or written; for one line the bit after it; else 0.
+   place:   after 1, 2 and 3 the bit of the data at which the failing code began, counted from 0, or 8 x bytes for the end of the data; else 0.
    After 6 to 9 every array is as it was; otherwise every entry behind the last one named keeps its value. */
 typedef struct {
     uint32_t number;
@@ -21,6 +22,7 @@ typedef struct {
     uint64_t entries;
     uint64_t loose;
     uint64_t bytes;
+    uint64_t place;
 } ccitt_answer;
 
 /* A page of the given encoding. rows 0: to the end of block or of the data. */

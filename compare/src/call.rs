@@ -11,6 +11,7 @@ pub struct Answer {
     pub entries: u64,
     pub loose: u64,
     pub bytes: u64,
+    pub place: u64,
 }
 
 impl Answer {

@@ -223,7 +223,7 @@ fn describe(index: u64, ask: &Ask, plan: &Plan, text: &str) -> String {
 }
 
 fn show(a: &Answer) -> String {
-    format!("{}, rows {}, entries {}, loose {}, bytes {}", a.number, a.rows, a.entries, a.loose, a.bytes)
+    format!("{}, rows {}, entries {}, loose {}, bytes {}, place {}", a.number, a.rows, a.entries, a.loose, a.bytes, a.place)
 }
 
 pub fn hex(bytes: &[u8]) -> String {

@@ -156,6 +156,7 @@ fn replies_of(calls: &[Call], reply: &[u8]) -> Replies {
             entries: long(reply, at + 16),
             loose: long(reply, at + 24),
             bytes: long(reply, at + 32),
+            place: long(reply, at + 40),
         };
         let words_at = at + size_of::<Answer>();
         let bytes_at = words_at + padded(4 * call.room.words());

@@ -103,19 +103,20 @@ fn put_question(out: &mut String, ask: &Ask, plan: &Plan) {
     let _ = writeln!(out, "{}", words.join(" "));
 }
 
-/// One line: number, rows, entries, loose, bytes; then every entry of the changes and of the row ends that
+/// One line: number, rows, entries, loose, bytes, place; then every entry of the changes and of the row ends that
 /// were lent, `-` for one that was left alone.
 fn put_answer(out: &mut String, plan: &Plan) {
     let a = &plan.wanted.answer;
     let (changes, ends) = rooms(plan);
     let _ = writeln!(
         out,
-        "{} {} {} {} {} :{} :{}",
+        "{} {} {} {} {} {} :{} :{}",
         a.number,
         a.rows,
         a.entries,
         a.loose,
         a.bytes,
+        a.place,
         entries(&plan.wanted.changes, changes),
         entries(&plan.wanted.ends, ends)
     );

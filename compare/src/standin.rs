@@ -43,9 +43,11 @@ pub enum Fault {
     NineWrites,
     NineBeforeEight,
     FallingEnds,
+    PlaceOfFour,
+    PlaceBehind,
 }
 
-pub const FAULTS: [Fault; 27] = [
+pub const FAULTS: [Fault; 29] = [
     Fault::Number,
     Fault::Rows,
     Fault::Entries,
@@ -73,6 +75,8 @@ pub const FAULTS: [Fault; 27] = [
     Fault::NineWrites,
     Fault::NineBeforeEight,
     Fault::FallingEnds,
+    Fault::PlaceOfFour,
+    Fault::PlaceBehind,
 ];
 
 pub struct Standin(pub Fault);
@@ -117,7 +121,7 @@ impl Standin {
     }
 
     fn page(&self, ask: &Ask) -> Outcome {
-        let bare = |number| Outcome { number, bytes: 0, changes: Vec::new(), ends: Vec::new() };
+        let bare = |number| Outcome::bare(number, 0);
         if ask.settings.columns == u32::MAX {
             return bare(if self.0 == Fault::NoSix { 0 } else { 6 });
         }
@@ -136,7 +140,7 @@ impl Standin {
     fn line(&self, ask: &Ask) -> Outcome {
         let s = ask.settings;
         if self.0 == Fault::NoEightForALine && s.columns == 8 && ask.tail == 0 && !ascends_below(&ask.first, 8) {
-            return Outcome { number: 2, bytes: 0, changes: Vec::new(), ends: Vec::new() };
+            return Outcome::bare(2, 0);
         }
         // the refusals are those of the truth; only the reading is the copy's own
         let truth = Outcome::of_line(s.columns, s.strict, &ask.src, ask.tail, ask.at, &ask.first);
@@ -164,6 +168,8 @@ impl Standin {
             Fault::Loose if answer.loose > 2 => answer.loose -= 1,
             Fault::Bytes if answer.bytes > 9 => answer.bytes -= 1,
             Fault::BytesOfAFailure if answer.number == 4 => answer.bytes = 1,
+            Fault::PlaceOfFour if answer.number == 4 => answer.place = 1,
+            Fault::PlaceBehind if answer.number == 2 => answer.place += 1,
             Fault::FiveForFour if answer.number == 4 => answer.number = 5,
             Fault::LineEndsOnAByte if ask.form == Form::ReadLine => answer.bytes = answer.bytes.div_ceil(8) * 8,
             _ => {}
@@ -286,11 +292,12 @@ fn slipped_page(ask: &Ask, src: &[u8]) -> Outcome {
     let mut sink = Sink::default();
     let mut context = slipped::DecoderContext::new(slipped_settings(ask));
     let result = slipped::decode(src, &mut sink, &mut context);
-    let (number, bytes) = result.map_or_else(|error| (slipped_number(error), 0), |bytes| (0, bytes as u64));
+    let (number, place, bytes) =
+        result.map_or_else(|error| (slipped_number(error), slipped::place::last() as u64, 0), |bytes| (0, 0, bytes as u64));
     if number != 0 {
         sink.changes.extend_from_slice(context.unfinished());
     }
-    Outcome { number, bytes, changes: sink.changes, ends: sink.ends }
+    Outcome { number, place, bytes, changes: sink.changes, ends: sink.ends }
 }
 
 fn slipped_line(ask: &Ask) -> Outcome {
@@ -298,8 +305,8 @@ fn slipped_line(ask: &Ask) -> Outcome {
     let result = context.read_line(&ask.src, ask.at as usize, &ask.first);
     let changes = context.unfinished().to_vec();
     match result {
-        Ok(bit) => Outcome { number: 0, bytes: bit as u64, ends: vec![changes.len() as u32], changes },
-        Err(error) => Outcome { number: slipped_number(error), bytes: 0, ends: Vec::new(), changes },
+        Ok(bit) => Outcome { number: 0, place: 0, bytes: bit as u64, ends: vec![changes.len() as u32], changes },
+        Err(error) => Outcome { number: slipped_number(error), place: slipped::place::last() as u64, bytes: 0, ends: Vec::new(), changes },
     }
 }
 

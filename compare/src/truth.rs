@@ -11,6 +11,8 @@ pub const LIMIT: usize = 4_294_967_296;
 #[derive(Clone, Debug, PartialEq, Eq)]
 pub struct Outcome {
     pub number: u32,
+    /// The bit at which the failing code began.
+    pub place: u64,
     pub bytes: u64,
     /// The changes of every row, those of the unfinished row behind them.
     pub changes: Vec<u32>,
@@ -37,17 +39,18 @@ impl Wanted {
 }
 
 impl Outcome {
-    fn refused(number: u32) -> Self {
-        Outcome { number, bytes: 0, changes: Vec::new(), ends: Vec::new() }
+    /// An answer that leaves everything as it was.
+    pub fn bare(number: u32, place: u64) -> Self {
+        Outcome { number, place, bytes: 0, changes: Vec::new(), ends: Vec::new() }
     }
 
     /// A page: tests 6 and 7, then what the crate gives.
     pub fn of_page(settings: &Settings, src: &[u8], tail: usize) -> Self {
         if settings.columns == u32::MAX {
-            return Self::refused(6);
+            return Self::bare(6, 0);
         }
         if src.len() + tail > LIMIT {
-            return Self::refused(7);
+            return Self::bare(7, 0);
         }
         if tail == 0 {
             return Self::of_crate(settings, src);
@@ -59,12 +62,12 @@ impl Outcome {
         let mut sink = Sink::default();
         let mut context = hayro_ccitt::DecoderContext::new(settings.for_crate());
         match hayro_ccitt::decode(src, &mut sink, &mut context) {
-            Ok(bytes) => Outcome { number: 0, bytes: bytes as u64, changes: sink.changes, ends: sink.ends },
+            Ok(bytes) => Outcome { number: 0, place: 0, bytes: bytes as u64, changes: sink.changes, ends: sink.ends },
             Err(error) => Self::of_failing_page(settings, src, crate_number(error), sink),
         }
     }
 
-    /// The crate does not hand out an unfinished row, so the copy that does is asked again. It must
+    /// The crate hands out no unfinished row and no place, so the copy that does is asked again. It must
     /// agree with the crate in everything else.
     fn of_failing_page(settings: &Settings, src: &[u8], number: u32, sink: Sink) -> Self {
         let mut again = Sink::default();
@@ -73,23 +76,24 @@ impl Outcome {
         assert!(open_crate_number(error) == number && again == sink, "the opened copy is not the crate");
         let mut changes = sink.changes;
         changes.extend_from_slice(context.unfinished());
-        Outcome { number, bytes: 0, changes, ends: sink.ends }
+        Outcome { number, place: hayro_ccitt_open::place::last() as u64, bytes: 0, changes, ends: sink.ends }
     }
 
     /// One line: tests 6, 7 and 8, a start past the data, then what the crate's reading of a line gives.
     /// A line read whole is one row, and the bit after it stands for the bytes.
     pub fn of_line(columns: u32, strict: bool, src: &[u8], tail: usize, at: u64, reference: &[u32]) -> Self {
         if columns == 0 || columns == u32::MAX {
-            return Self::refused(6);
+            return Self::bare(6, 0);
         }
         if src.len() + tail > LIMIT {
-            return Self::refused(7);
+            return Self::bare(7, 0);
         }
         if !ascends_below(reference, columns) {
-            return Self::refused(8);
+            return Self::bare(8, 0);
         }
-        if at > 8 * (src.len() + tail) as u64 {
-            return Self::refused(2);
+        let end = 8 * (src.len() + tail) as u64;
+        if at > end {
+            return Self::bare(2, end);
         }
         if tail > 0 {
             return Self::of_line(columns, strict, &with_zeros(0, src, tail), 0, at, reference);
@@ -98,9 +102,15 @@ impl Outcome {
         match context.read_line(src, at as usize, reference) {
             Ok(bit) => {
                 let changes = context.unfinished().to_vec();
-                Outcome { number: 0, bytes: bit as u64, ends: vec![changes.len() as u32], changes }
+                Outcome { number: 0, place: 0, bytes: bit as u64, ends: vec![changes.len() as u32], changes }
             }
-            Err(error) => Outcome { number: open_crate_number(error), bytes: 0, changes: context.unfinished().to_vec(), ends: Vec::new() },
+            Err(error) => Outcome {
+                number: open_crate_number(error),
+                place: hayro_ccitt_open::place::last() as u64,
+                bytes: 0,
+                changes: context.unfinished().to_vec(),
+                ends: Vec::new(),
+            },
         }
     }
 
@@ -132,7 +142,7 @@ impl Outcome {
         wanted
     }
 
-    /// The answer after so many rows, with the entries up to `written` in the array.
+    /// The answer after so many rows, with the entries up to `written` in the array. Only 1, 2 and 3, which are the crate's own, have a place.
     fn stopped(&self, number: u32, rows: usize, entries: usize, written: usize) -> Wanted {
         Wanted {
             answer: Answer {
@@ -141,6 +151,7 @@ impl Outcome {
                 entries: entries as u64,
                 loose: (written - entries) as u64,
                 bytes: if number == 0 { self.bytes } else { 0 },
+                place: if number == self.number { self.place } else { 0 },
             },
             changes: self.changes[..written].to_vec(),
             ends: self.ends[..rows].to_vec(),

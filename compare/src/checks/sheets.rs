@@ -43,7 +43,12 @@ const fn one_d(rows: u32, strict: bool) -> Settings {
 }
 
 const fn answer(number: u32, rows: u64, entries: u64, loose: u64, bytes: u64) -> Answer {
-    Answer { number, rows, entries, loose, bytes }
+    Answer { number, rows, entries, loose, bytes, place: 0 }
+}
+
+/// A fault after so many white rows, and the bit at which its code began.
+const fn fault(number: u32, rows: u64, place: u64) -> Answer {
+    Answer { place, ..answer(number, rows, 0, 0, 0) }
 }
 
 /// A sheet with room to spare and no black pixel.
@@ -67,23 +72,23 @@ const fn with_end(settings: Settings) -> Settings {
 const SHEETS: [Sheet; 20] = [
     white(with_end(group4(8, 0, true)), &[0x80, 0x08, 0x00, 0x80], answer(0, 1, 0, 0, 4), &[0]),
     white(with_end(group4(8, 0, true)), &[0x00, 0x10, 0x01], answer(0, 0, 0, 0, 3), &[]),
-    white(group4(8, 0, true), &[0x80], answer(1, 1, 0, 0, 0), &[0]),
+    white(group4(8, 0, true), &[0x80], fault(1, 1, 1), &[0]),
     white(group4(8, 1, true), &[0x80], answer(0, 1, 0, 0, 1), &[0]),
-    white(group4(2, 0, true), &[0x04], answer(3, 0, 0, 0, 0), &[]),
-    white(group4(2, 0, false), &[0x04], answer(3, 0, 0, 0, 0), &[]),
-    white(group4(3, 0, true), &[0x04], answer(2, 0, 0, 0, 0), &[]),
-    white(group4(3, 0, false), &[0x04], answer(2, 0, 0, 0, 0), &[]),
-    white(group4(8, 1, true), &[0x60], answer(1, 0, 0, 0, 0), &[]),
+    white(group4(2, 0, true), &[0x04], fault(3, 0, 0), &[]),
+    white(group4(2, 0, false), &[0x04], fault(3, 0, 0), &[]),
+    white(group4(3, 0, true), &[0x04], fault(2, 0, 7), &[]),
+    white(group4(3, 0, false), &[0x04], fault(2, 0, 7), &[]),
+    white(group4(8, 1, true), &[0x60], fault(1, 0, 0), &[]),
     white(group4(8, 1, false), &[0x60], answer(0, 1, 0, 0, 1), &[0]),
     black(Room::Rows { changes: 2, ends: 1 }, answer(0, 1, 2, 0, 2), &[2], &[3, 5]),
     black(Room::Rows { changes: 1, ends: 1 }, answer(4, 0, 0, 1, 0), &[], &[3]),
     black(Room::Rows { changes: 2, ends: 0 }, answer(5, 0, 0, 2, 0), &[], &[3, 5]),
     white(one_d(1, true), &[0x98], answer(0, 1, 0, 0, 1), &[0]),
-    white(one_d(0, true), &[0x98], answer(2, 1, 0, 0, 0), &[0]),
+    white(one_d(0, true), &[0x98], fault(2, 1, 5), &[0]),
     white(with_eols(one_d(0, false)), &[], answer(0, 1, 0, 0, 0), &[0]),
-    white(one_d(0, false), &[], answer(2, 0, 0, 0, 0), &[]),
+    white(one_d(0, false), &[], fault(2, 0, 0), &[]),
     white(one_d(0, false), &[0x00, 0x01], answer(0, 1, 0, 0, 2), &[0]),
-    white(one_d(0, true), &[0x00, 0x01], answer(2, 0, 0, 0, 0), &[]),
+    white(one_d(0, true), &[0x00, 0x01], fault(2, 0, 16), &[]),
     Sheet {
         settings: one_d(2, false), src: &[0x00, 0x17, 0x80, 0x06, 0x60], room: PLENTY,
         answer: answer(0, 2, 2, 0, 5), changes: &[2, 5], ends: &[2, 2],
@@ -107,8 +112,8 @@ const fn wide(columns: u32) -> Settings {
 const PARTINGS: [Sheet; 25] = [
     white(wide(128), &[0xDE, 0xCD, 0x40], answer(0, 1, 0, 0, 3), &[0]),
     white(wide(2624), &[0xD8, 0x0F, 0x9A, 0x80], answer(0, 1, 0, 0, 4), &[0]),
-    white(one_d(1, true), &[0x00, 0xF0], answer(1, 0, 0, 0, 0), &[]),
-    white(group4(8, 1, true), &[0x03, 0xC0], answer(1, 0, 0, 0, 0), &[]),
+    white(one_d(1, true), &[0x00, 0xF0], fault(1, 0, 0), &[]),
+    white(group4(8, 1, true), &[0x03, 0xC0], fault(1, 0, 0), &[]),
     white(one_d(1, true), &[0x80, 0xDF, 0x00], answer(0, 1, 0, 0, 3), &[0]),
     white(group4(8, 1, true), &[0x26, 0xA1, 0xBC], answer(0, 1, 0, 0, 3), &[0]),
     white(group4(8, 1, true), &[0x10], answer(0, 1, 0, 0, 1), &[0]),
@@ -119,7 +124,7 @@ const PARTINGS: [Sheet; 25] = [
     },
     white(group4(8, 1, true), &[0x00, 0x18], answer(0, 1, 0, 0, 2), &[0]),
     white(with_end(group4(8, 0, true)), &[0xFF], answer(0, 8, 0, 0, 1), &[0; 8]),
-    white(group4(8, 0, true), &[0x80, 0x08, 0x00, 0x80], answer(1, 1, 0, 0, 0), &[0]),
+    white(group4(8, 0, true), &[0x80, 0x08, 0x00, 0x80], fault(1, 1, 25), &[0]),
     white(aligned(group4(8, 2, true)), &[0x80, 0x80], answer(0, 2, 0, 0, 2), &[0; 2]),
     white(with_end(group4(8, 0, true)), &[0x80, 0x08, 0x00, 0x80, 0xFF], answer(0, 1, 0, 0, 4), &[0]),
     white(group4(8, 1, true), &[0xFF], answer(0, 1, 0, 0, 1), &[0]),
@@ -128,12 +133,35 @@ const PARTINGS: [Sheet; 25] = [
     white(with_end(one_d(0, true)), &[0x00, 0x19, 0x80, 0x01], answer(0, 1, 0, 0, 4), &[0]),
     white(with_end(one_d(0, true)), &[0x00, 0x19, 0x80, 0x08, 0x00, 0x80, 0x08, 0x00, 0x80, 0x08, 0x00, 0x80, 0x08], answer(0, 1, 0, 0, 13), &[0]),
     white(with_end(one_d(0, true)), &[0x00, 0x19, 0x80, 0x08, 0x00, 0x80, 0x08, 0x00, 0x80, 0x08, 0x00, 0x80, 0xFF], answer(0, 1, 0, 0, 12), &[0]),
-    white(with_end(one_d(0, true)), &[0x00, 0x10, 0x01, 0x00, 0x10, 0x01, 0x00, 0x10, 0x01], answer(2, 0, 0, 0, 0), &[]),
+    white(with_end(one_d(0, true)), &[0x00, 0x10, 0x01, 0x00, 0x10, 0x01, 0x00, 0x10, 0x01], fault(2, 0, 72), &[]),
     white(aligned(one_d(2, true)), &[0x98, 0x98], answer(0, 2, 0, 0, 2), &[0; 2]),
     white(one_d(1, true), &[0x00, 0x00, 0x00, 0x00, 0x01, 0x98], answer(0, 1, 0, 0, 6), &[0]),
     white(two_d(0), &[0x55], answer(0, 4, 0, 0, 1), &[0; 4]),
     white(with_end(two_d(0)), &[0x00, 0x1C, 0xC0, 0x04, 0x00, 0x40, 0x04, 0x00, 0x40, 0x04, 0x00, 0x40], answer(0, 1, 0, 0, 12), &[0]),
 ];
+
+/// One for each clause of A7, but for the sum that passes the limit (long_runs.rs) and a start past the data (limits.rs).
+#[rustfmt::skip]
+const PLACES: [Sheet; 13] = [
+    white(group4(8, 0, true), &[0x80], fault(1, 1, 1), &[0]),
+    white(group4(2, 0, true), &[0x82], fault(3, 1, 1), &[0]),
+    white(group4(8, 2, true), &[0xB0], fault(1, 1, 1), &[0]),
+    white(group4(8, 1, true), &[0x20, 0x00], fault(1, 0, 3), &[]),
+    white(group4(8, 1, true), &[0x30, 0x00], fault(1, 0, 7), &[]),
+    white(group4(8, 1, true), &[0x3B, 0x35], fault(1, 0, 3), &[]),
+    white(group4(8, 1, true), &[0x30, 0x07, 0x86, 0xE0], fault(1, 0, 7), &[]),
+    white(one_d(1, true), &[0xD8, 0x00], fault(1, 0, 5), &[]),
+    white(one_d(1, true), &[0xD8], fault(2, 0, 5), &[]),
+    white(one_d(2, true), &[0x9E, 0xCD, 0x40], fault(1, 1, 5), &[0]),
+    white(one_d(0, true), &[0x00, 0x01, 0x9C, 0xC0], fault(1, 1, 21), &[0]),
+    white(two_d(0), &[0x00, 0x01], fault(2, 0, 16), &[]),
+    white(one_d(2, false), &[0x00, 0x01, 0x00, 0x80, 0x0C, 0xC0], answer(0, 2, 0, 0, 6), &[0; 2]),
+];
+
+/// Every page that is listed above.
+fn pages() -> impl Iterator<Item = &'static Sheet> {
+    SHEETS.iter().chain(&PARTINGS).chain(&PLACES)
+}
 
 pub struct Sheets;
 
@@ -143,14 +171,14 @@ impl Source for Sheets {
     }
 
     fn count(&self) -> u64 {
-        (SHEETS.len() + PARTINGS.len() + LINES.len()) as u64
+        (pages().count() + LINES.len()) as u64
     }
 
     fn case(&self, index: u64, random: &mut Random) -> Case {
         let fill = random.next() as u32;
-        match SHEETS.iter().chain(&PARTINGS).nth(index as usize) {
+        match pages().nth(index as usize) {
             Some(sheet) => page_sheet(sheet, fill),
-            None => line_sheet(index as usize - SHEETS.len() - PARTINGS.len(), fill),
+            None => line_sheet(index as usize - pages().count(), fill),
         }
     }
 }

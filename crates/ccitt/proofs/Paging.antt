@@ -160,12 +160,12 @@ module _ (bytes : List ℕ) (settings : DecodeSettings) (size : length bytes ≤
     -- an answer that was reached, with the arrays as they stand
     given : (n p b m : ℕ) (loose zs : List ℕ) → length loose ≡ m → zs ≡ take (st .base) ys ++ overlaid loose (drop (st .base) ys)
         → stepped (g .kept) ≡ done (record { number = n; place = p; bytes = b; rows = g .kept .rows; loose = loose })
-        → Reads bytes settings xs es (counted n (st .rows) (st .base) m b) zs fs
+        → Reads bytes settings xs es (counted n p (st .rows) (st .base) m b) zs fs
     unfolding changesAfter endsAfter
     given n p b m loose zs l e q =
-        subst (λ (a : Page.Answer). Gives a xs es (counted n (st .rows) (st .base) m b) zs fs) (sym (answers _ q))
+        subst (λ (a : Page.Answer). Gives a xs es (counted n p (st .rows) (st .base) m b) zs fs) (sym (answers _ q))
         (record {
-          answer = λ i. counted n (rows-is i) (g .base i) (sym l i) b;
+          answer = λ i. counted n p (rows-is i) (g .base i) (sym l i) b;
           changes = behind zs loose e;
           ends = g .row-ends;
         })
@@ -179,7 +179,7 @@ module _ (bytes : List ℕ) (settings : DecodeSettings) (size : length bytes ≤
         stops : rowOf enc S bs (roomFor enc S wide bs data-bytes (length xs) (length es) (g .kept)) (g .kept .state) ≡ stop n p b (s .loose)
         stops = sym outcome ∙ s .is
 
-        pub stopped-gives : Reads bytes settings xs es (counted n (st .rows) (st .base) m b) zs fs
+        pub stopped-gives : Reads bytes settings xs es (counted n p (st .rows) (st .base) m b) zs fs
         unfolding s
         stopped-gives =
             given n p b m (s .loose) zs (s .size) (o .store ∙ ap (λ (w : RowOut). take (st .base) ys ++ overlaid (changesIn w) (drop (st .base) ys)) (s .is))
@@ -200,7 +200,7 @@ module _ (bytes : List ℕ) (settings : DecodeSettings) (size : length bytes ≤
         stored = behind zs (t .changes) (o .store ∙ ap (λ (w : RowOut). take (st .base) ys ++ overlaid (changesIn w) (drop (st .base) ys)) (t .is))
 
         -- no row end is left
-        pub full-gives : length es ≤ st .rows → Reads bytes settings xs es (counted 5 (st .rows) (st .base) count 0) zs fs
+        pub full-gives : length es ≤ st .rows → Reads bytes settings xs es (counted 5 0 (st .rows) (st .base) count 0) zs fs
         unfolding t
         full-gives h =
             given 5 0 0 count (t .changes) zs (t .size) (o .store ∙ ap (λ (w : RowOut). take (st .base) ys ++ overlaid (changesIn w) (drop (st .base) ys)) (t .is))
@@ -300,12 +300,12 @@ module _ {bytes : List ℕ} {settings : DecodeSettings} {xs es ys fs : List ℕ}
   turn-asked l = row-asked bytes settings (t .size) (t .wide) (t .narrow) xs es ys fs st (t .going) l
 
   module _ {r : Row} {zs : List ℕ} (o : Rowed bytes ys settings st r zs) where
-    pub turn-stopped : {n p b m : ℕ} → r ≡ Stop n p b m → Reads bytes settings xs es (counted n (st .rows) (st .base) m b) zs fs
+    pub turn-stopped : {n p b m : ℕ} → r ≡ Stop n p b m → Reads bytes settings xs es (counted n p (st .rows) (st .base) m b) zs fs
     turn-stopped {n} {p} {b} {m} e =
         stopped-gives bytes settings (t .size) (t .wide) (t .narrow) xs es ys fs st (t .going) r zs o n p b m e
 
     module _ {count at : ℕ} {eols : Bool} (e : r ≡ Kept count at eols) where
-      pub turn-full : length es ≤ st .rows → Reads bytes settings xs es (counted 5 (st .rows) (st .base) count 0) zs fs
+      pub turn-full : length es ≤ st .rows → Reads bytes settings xs es (counted 5 0 (st .rows) (st .base) count 0) zs fs
       turn-full h = full-gives bytes settings (t .size) (t .wide) (t .narrow) xs es ys fs st (t .going) r zs o count at eols e h
 
       module _ (place : st .rows < length es) where

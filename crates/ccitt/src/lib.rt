@@ -36,8 +36,15 @@ fn wide(count: usize) -> u64
 }
 
 // The answer after so many rows.
-fn counts(number: u32, rows: usize, entries: usize, loose: usize, bytes: usize) -> Answer
-    ensures { λ r. ⌜ r ≡ counted number rows entries loose bytes ⌝ }
+fn counts(
+    number: u32,
+    place: usize,
+    rows: usize,
+    entries: usize,
+    loose: usize,
+    bytes: usize,
+) -> Answer
+    ensures { λ r. ⌜ r ≡ counted number place rows entries loose bytes ⌝ }
 {
     Answer {
         number: number,
@@ -45,6 +52,7 @@ fn counts(number: u32, rows: usize, entries: usize, loose: usize, bytes: usize) 
         entries: entries as u64,
         loose: loose as u64,
         bytes: bytes as u64,
+        place: place as u64,
     }
 }
 
@@ -82,13 +90,13 @@ fn page<'a>(
     };
     loop {
         match row(white, black, src, settings, changes, state) {
-            Row::Stop(number, _, bytes, loose) => {
-                return counts(number, state.rows, state.base, loose, bytes);
+            Row::Stop(number, place, bytes, loose) => {
+                return counts(number, place, state.rows, state.base, loose, bytes);
             }
             Row::Kept(count, at, eols) => {
                 let rows = state.rows;
                 if ends.len() <= rows {
-                    return counts(5, rows, state.base, count, 0);
+                    return counts(5, 0, rows, state.base, count, 0);
                 }
                 ends[rows] = wide(state.base + count);
                 state = behind(state, count, at, eols);

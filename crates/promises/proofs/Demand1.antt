@@ -29,14 +29,14 @@ use Rattle.promises.specs.Demand1.{Listed, Refused, Stored, DecodeAnswer
 -- ---- The rules' answer, by the tests
 
 -- a refusal; or the page's answer, once 6 and 7 are passed and the columns are not 0
-data Said (settings : DecodeSettings) (bytes changes ends : List ℕ) : Page.Answer → Type 0 where
+pub data Said (settings : DecodeSettings) (bytes changes ends : List ℕ) : Page.Answer → Type 0 where
   is-six : settings .columns ≡ 4294967295 → Said settings bytes changes ends (Page.refusal 6)
   is-seven : (settings .columns ≡ 4294967295 → ⊥) → mostBytes < length bytes → Said settings bytes changes ends (Page.refusal 7)
   no-columns : (settings .columns ≡ 4294967295 → ⊥) → length bytes ≤ mostBytes → Said settings bytes changes ends (Page.refusal 0)
   is-read : (settings .columns ≡ 4294967295 → ⊥) → length bytes ≤ mostBytes → (settings .columns ≡ 0 → ⊥)
       → Said settings bytes changes ends (readPage (settingsOf settings) (bitsOf bytes) (length changes) (length ends))
 
-said : (settings : DecodeSettings) (bytes changes ends : List ℕ) → Said settings bytes changes ends (decode (settingsOf settings) bytes (length changes) (length ends))
+pub said : (settings : DecodeSettings) (bytes changes ends : List ℕ) → Said settings bytes changes ends (decode (settingsOf settings) bytes (length changes) (length ends))
 unfolding decode
 said settings bytes changes ends = tests (tooWide (settings .columns)) (eqb-true _ _) (eqb-false _ _) (ltb mostBytes (length bytes)) (ltb-true _ _) (ltb-false _ _) (eqb (settings .columns) 0) (eqb-false _ _)
   where

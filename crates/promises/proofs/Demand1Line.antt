@@ -8,7 +8,7 @@ use native.Mathlib.Omega.{arith}
 use lib.Dec.{eqb, leb, ltb}
 use lib.ListN.{length, take, drop, length-append}
 use lib.Seq.{take-at, drop-at}
-use borrow.Author.Tests.{eqb-true, eqb-false, ltb-true, ltb-false, leb-true}
+use borrow.Author.Tests.{eqb-true, eqb-false, ltb-true, ltb-false, leb-true, leb-false}
 use Rattle.rules.specs.Bits.{bitsOf}
 use Rattle.rules.specs.Lines.{Rules, newLine, Went, went, failed, two, readLine}
 use Rattle.rules.specs.Pages as Page
@@ -30,20 +30,20 @@ module _ (bytes : List ℕ) (at columns : ℕ) (strict : Bool) (reference change
 
   -- ---- The rules' answer, by the tests
 
-  data Said : Page.Answer → Type 0 where
+  pub data Said : Page.Answer → Type 0 where
     is-six : None → Said (Page.refusal 6)
     is-seven : (None → ⊥) → Long → Said (Page.refusal 7)
     is-eight : (None → ⊥) → (Long → ⊥) → ascends columns reference ≡ false → Said (Page.refusal 8)
-    past-end : (None → ⊥) → (Long → ⊥) → ascends columns reference ≡ true → Said (oneLine (failed 2 (length (bitsOf bytes)) (newLine at)))
+    past-end : (None → ⊥) → (Long → ⊥) → ascends columns reference ≡ true → length (bitsOf bytes) < at → Said (oneLine (failed 2 (length (bitsOf bytes)) (newLine at)))
     is-read : (None → ⊥) → (Long → ⊥) → ascends columns reference ≡ true → at ≤ length (bitsOf bytes)
         → Said (oneLine (readLine (record { width = columns; strict = strict; room = length changes }) (two reference) (bitsOf bytes) at))
 
-  said : Said (readOneLine bytes at columns strict reference (length changes))
+  pub said : Said (readOneLine bytes at columns strict reference (length changes))
   unfolding readOneLine
-  said = tests (eqb columns 0) (eqb-true _ _) (eqb-false _ _) (eqb columns 4294967295) (eqb-true _ _) (eqb-false _ _) (ltb mostBytes (length bytes)) (ltb-true _ _) (ltb-false _ _) (ascends columns reference) refl (leb at (length (bitsOf bytes))) (leb-true _ _)
+  said = tests (eqb columns 0) (eqb-true _ _) (eqb-false _ _) (eqb columns 4294967295) (eqb-true _ _) (eqb-false _ _) (ltb mostBytes (length bytes)) (ltb-true _ _) (ltb-false _ _) (ascends columns reference) refl (leb at (length (bitsOf bytes))) (leb-true _ _) (leb-false _ _)
     where
       tests : (a : Bool) → (a ≡ true → columns ≡ 0) → (a ≡ false → columns ≡ 0 → ⊥) → (b : Bool) → (b ≡ true → columns ≡ 4294967295) → (b ≡ false → columns ≡ 4294967295 → ⊥)
-          → (c : Bool) → (c ≡ true → Long) → (c ≡ false → length bytes ≤ mostBytes) → (d : Bool) → ascends columns reference ≡ d → (e : Bool) → (e ≡ true → at ≤ length (bitsOf bytes))
+          → (c : Bool) → (c ≡ true → Long) → (c ≡ false → length bytes ≤ mostBytes) → (d : Bool) → ascends columns reference ≡ d → (e : Bool) → (e ≡ true → at ≤ length (bitsOf bytes)) → (e ≡ false → length (bitsOf bytes) < at)
           → Said (elim (a || b) as (λ _. Page.Answer) [
             | true ↦ Page.refusal 6
             | false ↦ elim c as (λ _. Page.Answer) [
@@ -57,12 +57,12 @@ module _ (bytes : List ℕ) (at columns : ℕ) (strict : Bool) (reference change
               ]
             ]
           ])
-      tests true p q b r s c t u d v e w = is-six (inl (p refl))
-      tests false p q true r s c t u d v e w = is-six (inr (r refl))
-      tests false p q false r s true t u d v e w = is-seven (⊎-elim (q refl) (s refl)) (t refl)
-      tests false p q false r s false t u false v e w = is-eight (⊎-elim (q refl) (s refl)) (λ l. omega (arith, u refl)) v
-      tests false p q false r s false t u true v false w = past-end (⊎-elim (q refl) (s refl)) (λ l. omega (arith, u refl)) v
-      tests false p q false r s false t u true v true w = is-read (⊎-elim (q refl) (s refl)) (λ l. omega (arith, u refl)) v (w refl)
+      tests true p q b r s c t u d v e w x = is-six (inl (p refl))
+      tests false p q true r s c t u d v e w x = is-six (inr (r refl))
+      tests false p q false r s true t u d v e w x = is-seven (⊎-elim (q refl) (s refl)) (t refl)
+      tests false p q false r s false t u false v e w x = is-eight (⊎-elim (q refl) (s refl)) (λ l. omega (arith, u refl)) v
+      tests false p q false r s false t u true v false w x = past-end (⊎-elim (q refl) (s refl)) (λ l. omega (arith, u refl)) v (x refl)
+      tests false p q false r s false t u true v true w x = is-read (⊎-elim (q refl) (s refl)) (λ l. omega (arith, u refl)) v (w refl)
 
   -- ---- What holds of every answer of the rules
 
@@ -117,7 +117,7 @@ module _ (bytes : List ℕ) (at columns : ℕ) (strict : Bool) (reference change
     fits = omega arith;
     whole = λ q. absurd (omega arith);
   }
-  fine h (past-end n l up) = tried n l up _ (omega arith) (omega arith) (λ q. absurd (omega arith))
+  fine h (past-end n l up beyond) = tried n l up _ (omega arith) (omega arith) (λ q. absurd (omega arith))
   fine h (is-read n l up i) = cases (readLine R (two reference) (bitsOf bytes) at) refl
     where
       R : Rules

@@ -9,3 +9,6 @@ pub mod Pinned
 pub mod PinnedInside
 pub mod PinnedAround
 pub mod Beyond
+pub mod Faults
+pub mod PageFaults
+pub mod Places

@@ -10,7 +10,7 @@ use Rattle.rules.specs.Pages as Page
 use Rattle.rules.specs.Pages.{entries, joined, endsFrom, overlaid, changesAfter, endsAfter, decode, readOneLine}
 use Rattle.rules.proofs.Store.{length-joined}
 use Rattle.rules.proofs.Within as W
-use Rattle.rules.proofs.Within.{within, cuts-front, front-joined, front-ends, unplaced, unplaced-within}
+use Rattle.rules.proofs.Within.{within, cuts-front, front-joined, front-ends}
 use Rattle.rules.proofs.Rooms.{decode-within, decode-cuts, decode-spent, four-wants, five-wants, four-never, five-never, one-within, one-cuts, one-spent, one-wants, one-never}
 use Rattle.error.specs.declared.Answer.{Answer}
 use Rattle.rows.specs.declared.DecodeSettings.{DecodeSettings}
@@ -48,13 +48,14 @@ module _ (a : Page.Answer) (c : Call) (given : Answered a c) where
       ∙ ap (take (c .answer .loose)) (drop-at (joined (a .rows)) (a .loose ++ _) (c .answer .entries) (length-joined (a .rows) ∙ sym entries-count))
       ∙ take-at (a .loose) _ (c .answer .loose) (sym loose-count)
 
-  handed-is : handed c ≡ unplaced a
-  handed-is =
-      let n = number-is in
-      let b = ap (λ (x : Answer). x .bytes) (given .answer) in
-      let r = rows-are in
-      let l = loose-are in
-      cc
+  handed-is : handed c ≡ a
+  handed-is i = record {
+    number = number-is i;
+    place = ap (λ (x : Answer). x .place) (given .answer) i;
+    bytes = ap (λ (x : Answer). x .bytes) (given .answer) i;
+    rows = rows-are i;
+    loose = loose-are i;
+  }
 
   -- everything that was stored
   stored-length : length (joined (a .rows) ++ a .loose) ≡ c .answer .entries + c .answer .loose
@@ -105,18 +106,11 @@ module _ (a b : Page.Answer) (small large : Call) (given : Answered a small) (la
           ap (λ (k : ℕ). getD (b .rows) k (b .loose)) (sym (rows-count a small given))
           ∙ ap₂ (λ (l : List (List ℕ)) (x : List ℕ). getD l (small .answer .rows) x) (sym (rows-are b large later)) (sym (loose-are b large later))
 
--- what is given is given with the bit at fault left out too
-unplaced-gives : (a : Page.Answer) (c : Call) → Answered a c → Answered (unplaced a) c
-unfolding changesAfter endsAfter
-unplaced-gives a c g = record { answer = g .answer; changes = g .changes; ends = g .ends }
-
--- and a smaller call, whose answer is the larger one's cut, gives what `within` makes of what the larger one handed over
+-- a smaller call, whose answer is the larger one's cut, gives what `within` makes of what the larger one handed over
 cut-gives : (store places : ℕ) (a b : Page.Answer) (small large : Call) → Answered a small → Answered b large → a ≡ within store places b
     → Answered (within store places (handed large)) small
 cut-gives store places a b small large given later e =
-    subst (λ (x : Page.Answer). Answered x small)
-    (ap unplaced e ∙ sym (unplaced-within store places b) ∙ ap (within store places) (sym (handed-is b large later)))
-    (unplaced-gives a small given)
+    subst (λ (x : Page.Answer). Answered x small) (e ∙ ap (within store places) (sym (handed-is b large later))) given
 
 -- ---- The page form
 

@@ -9,3 +9,4 @@ pub mod Pinned
 pub mod PinnedInside
 pub mod PinnedAround
 pub mod Beyond
+pub mod Places

@@ -33,9 +33,9 @@ rowsOf c = rowsIn 0 (c .changes′) (take (c .answer .rows) (c .ends′))
 abbrev pub looseOf : Call → List ℕ
 looseOf c = take (c .answer .loose) (drop (c .answer .entries) (c .changes′))
 
--- the same as an answer of the rules; the bit at fault is not handed over
+-- the same as an answer of the rules
 abbrev pub handed : Call → Page.Answer
-handed c = record { number = c .answer .number; place = 0; bytes = c .answer .bytes; rows = rowsOf c; loose = looseOf c }
+handed c = record { number = c .answer .number; place = c .answer .place; bytes = c .answer .bytes; rows = rowsOf c; loose = looseOf c }
 
 -- What a smaller room stored is the front of what a larger one did: the rows are the first of its rows; the loose entries are the front of the row that follows them there,
 -- or of the loose entries where none follows; and so the entries and the ends that were stored are the first of its entries and ends.

@@ -122,6 +122,7 @@ fn tell(answer: Answer) {
     number(answer.entries);
     number(answer.loose);
     number(answer.bytes);
+    number(answer.place);
 }
 
 fn low_byte(word: u32) -> u8 {

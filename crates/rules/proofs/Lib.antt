@@ -24,6 +24,7 @@ pub mod Budget
 pub mod Writes
 pub mod RoundTrip
 pub mod Pages
+pub mod Places
 pub mod Store
 pub mod Within
 pub mod LessRoom

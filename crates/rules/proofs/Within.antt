@@ -213,28 +213,3 @@ take-ends (suc n) base (r ∷ rows) = ap (λ (l : List ℕ). (base + length r) �
 
 pub front-ends : {a b : Answer} → Front a b → take (length (b .rows)) (endsFrom 0 (a .rows)) ≡ endsFrom 0 (b .rows)
 front-ends {a} {b} f = take-ends (length (b .rows)) 0 (a .rows) ∙ ap (endsFrom 0) (sym (f .rows))
-
--- ---- The bit at fault has no part in it
-
-abbrev pub unplaced : Answer → Answer
-unplaced a = record { number = a .number; place = 0; bytes = a .bytes; rows = a .rows; loose = a .loose }
-
-module _ (store places : ℕ) (a : Answer) where
-  unplaced-from : (kept rest : List (List ℕ)) → withinFrom store places (unplaced a) kept rest ≡ unplaced (withinFrom store places a kept rest)
-  unfolding withinFrom
-  unplaced-from kept [] = tests (leb (length (a .loose)) (store - entries kept)) refl
-    where
-      tests : (b : Bool) → leb (length (a .loose)) (store - entries kept) ≡ b → withinFrom store places (unplaced a) kept [] ≡ unplaced (withinFrom store places a kept [])
-      tests true q = rw (q, withinFrom)
-      tests false q = rw (q, withinFrom)
-  unplaced-from kept (r ∷ rest) = tests (leb (length r) (store - entries kept)) refl (ltb (length kept) places) refl (unplaced-from (kept ++ r ∷ []) rest)
-    where
-      tests : (b : Bool) → leb (length r) (store - entries kept) ≡ b → (c : Bool) → ltb (length kept) places ≡ c
-          → withinFrom store places (unplaced a) (kept ++ r ∷ []) rest ≡ unplaced (withinFrom store places a (kept ++ r ∷ []) rest)
-          → withinFrom store places (unplaced a) kept (r ∷ rest) ≡ unplaced (withinFrom store places a kept (r ∷ rest))
-      tests false q c p ih = rw (q, withinFrom)
-      tests true q false p ih = rw (q, p, withinFrom)
-      tests true q true p ih = rw (q, p, withinFrom) ih
-
-  pub unplaced-within : within store places (unplaced a) ≡ unplaced (within store places a)
-  unplaced-within = unplaced-from [] (a .rows)

@@ -1,6 +1,8 @@
-// The sheets on the wall that are run (the others are proved), and the inputs where the crate, and so this work, parts from the standard
-// (docs/DIFFERENCES.md): what reading each of them answers. A line has the sheet's name; number, rows, entries, loose entries and bytes;
-// and the changes, those of kept rows first.
+// The sheets on the wall that are run (the others are proved), the inputs where the crate, and so this work, parts from the standard
+// (docs/DIFFERENCES.md), and one input for each clause of A7 (places.rt): what reading each of them answers. A line has the sheet's name;
+// number, rows, entries, loose entries, bytes and place; and the changes, those of kept rows first.
+mod places;
+
 use error::Answer;
 use libc::STDOUT_FILENO;
 use rows::DecodeSettings;
@@ -30,13 +32,14 @@ fn fields(changes: &[u32], entries: u64, loose: u64) {
     }
 }
 
-fn show(name: &[u8], answer: Answer, changes: &[u32]) {
+pub(crate) fn show(name: &[u8], answer: Answer, changes: &[u32]) {
     io::write_all(STDOUT_FILENO, name);
     field(answer.number as u64);
     field(answer.rows);
     field(answer.entries);
     field(answer.loose);
     field(answer.bytes);
+    field(answer.place);
     fields(changes, answer.entries, answer.loose);
     io::write_all(STDOUT_FILENO, b"\n");
 }
@@ -58,7 +61,7 @@ fn group4(strict: bool) -> DecodeSettings {
     }
 }
 
-fn group3(rows: u32, end_of_line: bool, strict: bool) -> DecodeSettings {
+pub(crate) fn group3(rows: u32, end_of_line: bool, strict: bool) -> DecodeSettings {
     DecodeSettings {
         columns: 8,
         rows: rows,
@@ -142,7 +145,7 @@ fn group3_sheets() {
 }
 
 // Settings for an input that parts from the standard: it is read all the same, though strictly.
-fn strictly(
+pub(crate) fn strictly(
     encoding: EncodingMode,
     columns: u32,
     rows: u32,
@@ -160,13 +163,19 @@ fn strictly(
     }
 }
 
-fn parting(name: &[u8], src: &[u8], settings: DecodeSettings) {
+pub(crate) fn parting(name: &[u8], src: &[u8], settings: DecodeSettings) {
     let mut changes = [0u32; 4];
     let mut ends = [0u64; 8];
     sheet(name, src, settings, &mut changes, &mut ends);
 }
 
-fn group4_parting(name: &[u8], src: &[u8], rows: u32, end_of_block: bool, aligned: bool) {
+pub(crate) fn group4_parting(
+    name: &[u8],
+    src: &[u8],
+    rows: u32,
+    end_of_block: bool,
+    aligned: bool,
+) {
     parting(
         name,
         src,
@@ -174,7 +183,13 @@ fn group4_parting(name: &[u8], src: &[u8], rows: u32, end_of_block: bool, aligne
     );
 }
 
-fn group3_parting(name: &[u8], src: &[u8], rows: u32, end_of_block: bool, aligned: bool) {
+pub(crate) fn group3_parting(
+    name: &[u8],
+    src: &[u8],
+    rows: u32,
+    end_of_block: bool,
+    aligned: bool,
+) {
     parting(
         name,
         src,
@@ -182,7 +197,7 @@ fn group3_parting(name: &[u8], src: &[u8], rows: u32, end_of_block: bool, aligne
     );
 }
 
-fn group3_2d_parting(name: &[u8], src: &[u8], rows: u32, end_of_block: bool) {
+pub(crate) fn group3_2d_parting(name: &[u8], src: &[u8], rows: u32, end_of_block: bool) {
     parting(
         name,
         src,
@@ -288,4 +303,7 @@ fn main() {
     code_partings();
     group4_partings();
     group3_partings();
+    places::in_group4();
+    places::in_group3();
+    places::of_a_line();
 }
