@@ -25,6 +25,8 @@ pub mod Writes
 pub mod RoundTrip
 pub mod Pages
 pub mod Places
+pub mod Clean
+pub mod Marks
 pub mod Store
 pub mod Within
 pub mod LessRoom

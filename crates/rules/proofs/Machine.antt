@@ -75,6 +75,14 @@ module _ {S A : Type 0} where
     pub run-ends : (n : ℕ) (s : S) (a : A) → run step n s ≡ done a → ends step μ s ≡ done a
     run-ends n s a e = run-ind step (λ s a. ends step μ s ≡ done a) (λ s a q. ends-done step μ falls s a q) (λ s t a q h. ends-more step μ falls s t q ∙ h) n s a e
 
+  -- what each step keeps, any number of them keep
+  pub run-keeps : (P : Out S A → Type 0) (step : S → Out S A) → ((s : S) → P (more s) → P (step s)) → (n : ℕ) (o : Out S A) → P o → P (andThen o (run step n))
+  unfolding run
+  run-keeps P step h zero (more s) p = p
+  run-keeps P step h (suc n) (more s) p = run-keeps P step h n (step s) (h s p)
+  run-keeps P step h zero (done a) p = p
+  run-keeps P step h (suc n) (done a) p = p
+
   -- an outcome reached in some number of steps
   abbrev pub Reaches : (S → Out S A) → S → Out S A → Type 0
   Reaches step s o = (n : ℕ) × (run step n s ≡ o)

@@ -11,10 +11,10 @@ use lib.ListN.{length, length-append}
 use borrow.Author.Tests.{leb-false, ltb-true, ltb-false, lt-ltb, le-ltb, eqb-true, eqb-false, ne-eqb}
 use Rattle.rules.specs.Machine.{Out, more, done, ends}
 use Rattle.rules.specs.Lines.{Rules, Line, Went, went, failed, push, two, readLine}
-use Rattle.rules.specs.Rows.{Encoding, group4, group3-1D, group3-2D, Settings, State, pageStart, RowOut, row, stop, rulesOf, bytesTo, alignedIf}
+use Rattle.rules.specs.Rows.{Encoding, group4, group3-1D, group3-2D, Settings, State, recoveredMark, RowOut, row, stop, rulesOf, bytesTo, alignedIf}
 use Rattle.rules.specs.Group4.{eolsBefore, over, afterLine4, row4}
 use Rattle.rules.specs.Group3.{Tagging, untagged, tagged, Before, line-at, end-at, before, line3, kept, whitened, afterLine3, row3}
-use Rattle.rules.specs.Pages.{Answer, Kept, entries, keepRow, pageStep, rowsLeft, pageOf, rowOf, readPage}
+use Rattle.rules.specs.Pages.{Answer, Kept, noneKept, withRow, endWith, entries, keepRow, pageStep, rowsLeft, pageOf, rowOf, readPage}
 use Rattle.rules.proofs.Machine.{Falls, ends-ind, ends-stops}
 use Rattle.rules.proofs.Ascending as Asc
 use Rattle.rules.proofs.Ascending.{Rising}
@@ -51,11 +51,11 @@ pub record Stopped (bs : List Bool) (room n bytes : ℕ) (loose : List ℕ) : Ty
   pub few-bytes : bytes ≤ bytesTo (length bs)
 
 abbrev pub Goes : List Bool → State → RowOut → Type 0
-Goes bs st (row r next) = Onward bs st next
+Goes bs st (row r mark next) = Onward bs st next
 Goes bs st (stop n place bytes loose) = Unit {0}
 
 abbrev pub Does : Settings → List Bool → ℕ → State → RowOut → Type 0
-Does S bs room st (row r next) = Moved S bs room st r next
+Does S bs room st (row r mark next) = Moved S bs room st r next
 Does S bs room st (stop n place bytes loose) = Stopped bs room n bytes loose
 
 finished-stops : (bs : List Bool) (room at : ℕ) → at ≤ length bs → Stopped bs room 0 (bytesTo at) []
@@ -139,7 +139,7 @@ module _ (S : Settings) (wide : 0 < S .columns) (bs : List Bool) (bytes : Bytes 
     row3-goes : Goes bs st (row3 S t bs room st)
     row3-goes = row3-cases S t bs room st (Goes bs st) (λ at e. tt) (λ at e. tt) (λ at expected e. cases at expected (sets (line-at at expected) e))
       where
-        kept-goes : (at : ℕ) (expected : Bool) → Starts bs st at expected → expected ≡ true → (w : Went) → Goes bs st (kept S t bs st expected at w)
+        kept-goes : (at : ℕ) (expected : Bool) → Starts bs st at expected → expected ≡ true → (w : Went) → Goes bs st (kept S t bs st expected at recoveredMark w)
         kept-goes at expected f q (went u) = record { counted = refl; forward = f .forward; further = λ n. (f .after-eol n q, omega (arith, f .forward, f .left n)) }
         kept-goes at expected f q (failed n p u) = tt
 
@@ -162,7 +162,7 @@ module _ (S : Settings) (wide : 0 < S .columns) (bs : List Bool) (bytes : Bytes 
       where
         -- a mended row, or one for whose last change there is no room
         kept-does : (at : ℕ) (expected : Bool) → Starts bs st at expected → expected ≡ true → (n : ℕ) (l : Line) → Damaged S t bs R wide (st .reference) at n l
-            → (w : Went) → push R 0 (R .width - l .position) (whitened S t bs l) ≡ w → Does S bs room st (kept S t bs st expected at w)
+            → (w : Went) → push R 0 (R .width - l .position) (whitened S t bs l) ≡ w → Does S bs room st (kept S t bs st expected at recoveredMark w)
         kept-does at expected f q n l d (went u) e =
             let m = mended S t bs R wide (st .reference) at n l u d e in
             let i = f .inside inside′ in
@@ -227,7 +227,7 @@ module _ (S : Settings) (wide : 0 < S .columns) (bs : List Bool) (bytes : Bytes 
   row-does group3-2D f i = row3-does tagged i
 
   abbrev Stays : Encoding → RowOut → Type 0
-  Stays enc (row r next) = Fitting enc (next .eols)
+  Stays enc (row r mark next) = Fitting enc (next .eols)
   Stays enc (stop n place b loose) = Unit {0}
 
   row-stays : (enc : Encoding) → Fitting enc (st .eols) → Stays enc (rowOf enc S bs room st)
@@ -240,12 +240,12 @@ module _ (S : Settings) (wide : 0 < S .columns) (bs : List Bool) (bytes : Bytes 
   row-stays group3-1D f = any (rowOf group3-1D S bs room st)
     where
       any : (o : RowOut) → Stays group3-1D o
-      any (row r next) = tt
+      any (row r mark next) = tt
       any (stop n place b loose) = tt
   row-stays group3-2D f = any (rowOf group3-2D S bs room st)
     where
       any : (o : RowOut) → Stays group3-2D o
-      any (row r next) = tt
+      any (row r mark next) = tt
       any (stop n place b loose) = tt
 
 -- ---- The page machine
@@ -269,35 +269,35 @@ module _ (enc : Encoding) (S : Settings) (wide : 0 < S .columns) (bs : List Bool
 
   -- what one step does, by cases: a row is kept; it is complete and no row end is left; or the page ends
   pub page-cases : (k : Kept) (C : Out Kept Answer → Type 0)
-      → ((r : List ℕ) (next : State) → rowOf enc S bs (roomFor k) (k .state) ≡ row r next → length (k .rows) < places → C (more (record { state = next; rows = k .rows ++ r ∷ [] })))
-      → ((r : List ℕ) (next : State) → rowOf enc S bs (roomFor k) (k .state) ≡ row r next → places ≤ length (k .rows) → C (done (record { number = 5; place = 0; bytes = 0; rows = k .rows; loose = r })))
-      → ((n p b : ℕ) (loose : List ℕ) → rowOf enc S bs (roomFor k) (k .state) ≡ stop n p b loose → C (done (record { number = n; place = p; bytes = b; rows = k .rows; loose = loose })))
+      → ((r : List ℕ) (mark : ℕ) (next : State) → rowOf enc S bs (roomFor k) (k .state) ≡ row r mark next → length (k .rows) < places → C (more (withRow k r mark next)))
+      → ((r : List ℕ) (mark : ℕ) (next : State) → rowOf enc S bs (roomFor k) (k .state) ≡ row r mark next → places ≤ length (k .rows) → C (done (endWith k 5 0 0 r)))
+      → ((n p b : ℕ) (loose : List ℕ) → rowOf enc S bs (roomFor k) (k .state) ≡ stop n p b loose → C (done (endWith k n p b loose)))
       → C (step k)
   unfolding pageStep
   page-cases k C keeps full ends′ = cases (rowOf enc S bs (roomFor k) (k .state)) refl
     where
       cases : (o : RowOut) → rowOf enc S bs (roomFor k) (k .state) ≡ o → C (keepRow (rowOf enc S bs) store places k o)
-      cases (row r next) e = tests (ltb (length (k .rows)) places) refl
+      cases (row r mark next) e = tests (ltb (length (k .rows)) places) refl
         where
           tests : (b : Bool) → ltb (length (k .rows)) places ≡ b
-              → C (cond b (more (record { state = next; rows = k .rows ++ r ∷ [] })) (done (record { number = 5; place = 0; bytes = 0; rows = k .rows; loose = r })))
-          tests true q = keeps r next e (ltb-true _ _ q)
-          tests false q = full r next e (ltb-false _ _ q)
+              → C (cond b (more (withRow k r mark next)) (done (endWith k 5 0 0 r)))
+          tests true q = keeps r mark next e (ltb-true _ _ q)
+          tests false q = full r mark next e (ltb-false _ _ q)
       cases (stop n p b loose) e = ends′ n p b loose e
 
   -- the same, as equations
   module _ (k : Kept) where
-    pub page-kept : (r : List ℕ) (next : State) → rowOf enc S bs (roomFor k) (k .state) ≡ row r next → length (k .rows) < places → step k ≡ more (record { state = next; rows = k .rows ++ r ∷ [] })
+    pub page-kept : (r : List ℕ) (mark : ℕ) (next : State) → rowOf enc S bs (roomFor k) (k .state) ≡ row r mark next → length (k .rows) < places → step k ≡ more (withRow k r mark next)
     unfolding pageStep
-    page-kept r next e h = rw (e, lt-ltb _ _ h)
+    page-kept r mark next e h = rw (e, lt-ltb _ _ h)
 
-    pub page-full : (r : List ℕ) (next : State) → rowOf enc S bs (roomFor k) (k .state) ≡ row r next → places ≤ length (k .rows)
-        → step k ≡ done (record { number = 5; place = 0; bytes = 0; rows = k .rows; loose = r })
+    pub page-full : (r : List ℕ) (mark : ℕ) (next : State) → rowOf enc S bs (roomFor k) (k .state) ≡ row r mark next → places ≤ length (k .rows)
+        → step k ≡ done (endWith k 5 0 0 r)
     unfolding pageStep
-    page-full r next e h = rw (e, le-ltb _ _ h)
+    page-full r mark next e h = rw (e, le-ltb _ _ h)
 
     pub page-stopped : (n p b : ℕ) (loose : List ℕ) → rowOf enc S bs (roomFor k) (k .state) ≡ stop n p b loose
-        → step k ≡ done (record { number = n; place = p; bytes = b; rows = k .rows; loose = loose })
+        → step k ≡ done (endWith k n p b loose)
     unfolding pageStep
     page-stopped n p b loose e = rw e
 
@@ -305,9 +305,9 @@ module _ (enc : Encoding) (S : Settings) (wide : 0 < S .columns) (bs : List Bool
   pub page-falls : Falls step (rowsLeft bs)
   page-falls k j =
       page-cases k (λ o. o ≡ more j → rowsLeft bs j < rowsLeft bs k)
-      (λ r next e l q. let g : record { state = next; rows = k .rows ++ r ∷ [] } ≡ j = cc in
+      (λ r mark next e l q. let g : withRow k r mark next ≡ j = cc in
       subst (λ (x : Kept). rowsLeft bs x < rowsLeft bs k) g (falls next (subst (Goes bs (k .state)) e (row-goes S wide bs bytes (roomFor k) (k .state) enc))))
-      (λ r next e l q. absurd (let z : _≡_ {A = ℕ} 0 1 = cc in omega arith))
+      (λ r mark next e l q. absurd (let z : _≡_ {A = ℕ} 0 1 = cc in omega arith))
       (λ n p b loose e q. absurd (let z : _≡_ {A = ℕ} 0 1 = cc in omega arith))
     where
       falls : (next : State) → Onward bs (k .state) next → length bs - next .at + cond (eqb (next .count) 0) 1 0 < length bs - k .state .at + cond (eqb (k .state .count) 0) 1 0
@@ -332,7 +332,7 @@ module _ (enc : Encoding) (S : Settings) (wide : 0 < S .columns) (bs : List Bool
     pub fitting : Fitting enc (k .state .eols)
     pub few : length (k .rows) ≤ k .state .at + 1
 
-  pub held-start : Held (record { state = pageStart; rows = [] })
+  pub held-start : Held noneKept
   unfolding entries
   held-start = record {
     counted = refl;
@@ -354,13 +354,13 @@ module _ (enc : Encoding) (S : Settings) (wide : 0 < S .columns) (bs : List Bool
   pub held-next : (k j : Kept) → Held k → step k ≡ more j → Held j
   held-next k j h =
       page-cases k (λ o. o ≡ more j → Held j)
-      (λ r next e l q. let g : record { state = next; rows = k .rows ++ r ∷ [] } ≡ j = cc in
+      (λ r mark next e l q. let g : withRow k r mark next ≡ j = cc in
       subst Held g
-      (holds r next l
+      (holds r mark next l
       (subst (Goes bs (k .state)) e (row-goes S wide bs bytes (roomFor k) (k .state) enc))
       (subst (Does S bs (roomFor k) (k .state)) e (row-does S wide bs bytes (roomFor k) (k .state) enc (h .fitting) (h .inside)))
       (subst (Stays S wide bs bytes (roomFor k) (k .state) enc) e (row-stays S wide bs bytes (roomFor k) (k .state) enc (h .fitting)))))
-      (λ r next e l q. absurd (let z : _≡_ {A = ℕ} 0 1 = cc in omega arith))
+      (λ r mark next e l q. absurd (let z : _≡_ {A = ℕ} 0 1 = cc in omega arith))
       (λ n p b loose e q. absurd (let z : _≡_ {A = ℕ} 0 1 = cc in omega arith))
     where
       none-yet : k .state .count ≡ 0 → entries (k .rows) ≡ 0
@@ -373,9 +373,9 @@ module _ (enc : Encoding) (S : Settings) (wide : 0 < S .columns) (bs : List Bool
           tests true q = omega (arith, eqb-true (k .state .count) 0 q, h .counted)
           tests false q = let f = o .further (eqb-false (k .state .count) 0 q) in omega (arith, h .few)
 
-      holds : (r : List ℕ) (next : State) → length (k .rows) < places → Onward bs (k .state) next → Moved S bs (roomFor k) (k .state) r next → Fitting enc (next .eols)
-          → Held (record { state = next; rows = k .rows ++ r ∷ [] })
-      holds r next l o m f = record {
+      holds : (r : List ℕ) (mark : ℕ) (next : State) → length (k .rows) < places → Onward bs (k .state) next → Moved S bs (roomFor k) (k .state) r next → Fitting enc (next .eols)
+          → Held (withRow k r mark next)
+      holds r mark next l o m f = record {
         counted = o .counted ∙ ap suc (h .counted) ∙ sym (length-append (k .rows) (r ∷ []) ∙ (let q : length (k .rows) + 1 ≡ suc (length (k .rows)) = omega arith in q));
         inside = m .inside;
         reference = subst (Rising (S .columns) 0) (sym (m .refers)) (m .rising);
@@ -412,21 +412,21 @@ module _ (enc : Encoding) (S : Settings) (wide : 0 < S .columns) (bs : List Bool
   page-answered : (k : Kept) (a : Answer) → step k ≡ done a → Held k → Answered a
   page-answered k a =
       page-cases k (λ o. o ≡ done a → Held k → Answered a)
-      (λ r next e l q h. absurd (let z : _≡_ {A = ℕ} 0 1 = cc in omega arith))
-      (λ r next e l q h.
+      (λ r mark next e l q h. absurd (let z : _≡_ {A = ℕ} 0 1 = cc in omega arith))
+      (λ r mark next e l q h.
       let m = subst (Does S bs (roomFor k) (k .state)) e (row-does S wide bs bytes (roomFor k) (k .state) enc (h .fitting) (h .inside)) in
-      subst Answered (let g : record { number = 5; place = 0; bytes = 0; rows = k .rows; loose = r } ≡ a = cc in g)
+      subst Answered (let g : endWith k 5 0 0 r ≡ a = cc in g)
       (record { numbered = omega arith; rising = h .rising; placed = h .placed; roomy = omega (arith, m .roomy, h .roomy); clean = λ z. absurd (omega arith); few-rows = omega (arith, h .few, h .inside); few-entries = held-entries k h; few-loose = m .short; few-bytes = omega arith }))
       (λ n p b loose e q h.
       let m = subst (Does S bs (roomFor k) (k .state)) e (row-does S wide bs bytes (roomFor k) (k .state) enc (h .fitting) (h .inside)) in
-      subst Answered (let g : record { number = n; place = p; bytes = b; rows = k .rows; loose = loose } ≡ a = cc in g)
+      subst Answered (let g : endWith k n p b loose ≡ a = cc in g)
       (record { numbered = omega (arith, m .numbered); rising = h .rising; placed = h .placed; roomy = omega (arith, m .roomy, h .roomy); clean = m .clean; few-rows = omega (arith, h .few, h .inside); few-entries = held-entries k h; few-loose = m .short; few-bytes = m .few-bytes }))
 
   -- Every page is answered so.
   pub read-answered : S .encoding ≡ enc → Answered (readPage S bs store places)
   unfolding readPage
   read-answered q =
-      let k : Kept = record { state = pageStart; rows = [] } in
+      let k : Kept = noneKept in
       let p = ends-stops step (rowsLeft bs) page-falls k in
       subst (λ (e : Encoding). Answered (pageOf (ends (pageStep (rowOf e S bs) store places) (rowsLeft bs) k))) (sym q)
       (subst (λ (o : Out Kept Answer). Answered (pageOf o)) (sym (p .1))

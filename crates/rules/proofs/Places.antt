@@ -13,10 +13,10 @@ use Rattle.rules.specs.Codes.{Colour}
 use Rattle.rules.specs.Runs.{Res, ok, fault, Sum, sum, runStep, bitsAfter, readRun}
 use Rattle.rules.specs.Modes.{Mode, pass, horizontal, VR, VL, Moded, readMode}
 use Rattle.rules.specs.Lines.{Rules, Line, line, newLine, turned, movedTo, withCut, Went, went, failed, next, recorded, add, push, pushTurn, afterRun, pushRun, b1, b2, vertical, apply, afterMode, code2D, Kind, one, two, codeOf, lineStep, lineEnd, readLine}
-use Rattle.rules.specs.Rows.{Encoding, group4, group3-1D, group3-2D, Settings, State, pageStart, RowOut, row, stop, rulesOf}
+use Rattle.rules.specs.Rows.{Encoding, group4, group3-1D, group3-2D, Settings, State, recoveredMark, RowOut, row, stop, rulesOf}
 use Rattle.rules.specs.Group4.{eolsBefore, afterLine4, row4}
 use Rattle.rules.specs.Group3.{Tagging, untagged, tagged, Before, line-at, no-eol-at, before, taggedLine, lineOfTag, line3, kept, whitened, afterLine3, row3}
-use Rattle.rules.specs.Pages.{Answer, Kept, pageStep, rowsLeft, pageOf, rowOf, readPage}
+use Rattle.rules.specs.Pages.{Answer, Kept, noneKept, endWith, pageStep, rowsLeft, pageOf, rowOf, readPage}
 use Rattle.rules.proofs.Machine.{ends-ind, ends-stops}
 use Rattle.rules.proofs.Runs.{after, run-cases, run-falls}
 use Rattle.rules.proofs.Modes.{ModeAt, mode-at}
@@ -186,7 +186,7 @@ module _ (bs : List Bool) where
 
 -- a row that is kept names none
 abbrev pub RowPlaced : List Bool → RowOut → Type 0
-RowPlaced bs (row r next) = Unit {0}
+RowPlaced bs (row r mark next) = Unit {0}
 RowPlaced bs (stop n p b loose) = Fault bs n p
 
 module _ (S : Settings) (bs : List Bool) (bytes : Bytes bs) (room : ℕ) (st : State) (inside : st .at ≤ length bs) where
@@ -226,7 +226,7 @@ module _ (S : Settings) (bs : List Bool) (bytes : Bytes bs) (room : ℕ) (st : S
         sets b e = subst (Sets S t bs bytes st) e (before-sets S t bs bytes st)
 
         -- what is left of a damaged line fails with 4 alone
-        mended-placed : (at : ℕ) (expected : Bool) (l : Line) (w : Went) → push R 0 (R .width - l .position) (whitened S t bs l) ≡ w → RowPlaced bs (kept S t bs st expected at w)
+        mended-placed : (at : ℕ) (expected : Bool) (l : Line) (w : Went) → push R 0 (R .width - l .position) (whitened S t bs l) ≡ w → RowPlaced bs (kept S t bs st expected at recoveredMark w)
         mended-placed at expected l (went u) e = tt
         mended-placed at expected l (failed n p u) e = subst (Named bs) e (push-named bs R 0 (R .width - l .position) (whitened S t bs l) (omega arith))
 
@@ -247,7 +247,7 @@ module _ (enc : Encoding) (S : Settings) (wide : 0 < S .columns) (bs : List Bool
   pub page-placed : S .encoding ≡ enc → Fault bs (readPage S bs store places .number) (readPage S bs store places .place)
   unfolding readPage
   page-placed q =
-      let k : Kept = record { state = pageStart; rows = [] } in
+      let k : Kept = noneKept in
       let p = ends-stops (step enc S wide bs bytes store places) (rowsLeft bs) (page-falls enc S wide bs bytes store places) k in
       subst (λ (e : Encoding). Names (pageOf (ends (pageStep (rowOf e S bs) store places) (rowsLeft bs) k))) (sym q)
       (subst (λ (o : Out Kept Answer). Names (pageOf o)) (sym (p .1))
@@ -259,7 +259,7 @@ module _ (enc : Encoding) (S : Settings) (wide : 0 < S .columns) (bs : List Bool
       base : (k : Kept) (a : Answer) → step enc S wide bs bytes store places k ≡ done a → Held enc S wide bs bytes store places k → Names a
       base k a =
           page-cases enc S wide bs bytes store places k (λ o. o ≡ done a → Held enc S wide bs bytes store places k → Names a)
-          (λ r next e l q h. absurd (let z : _≡_ {A = ℕ} 0 1 = cc in omega arith))
-          (λ r next e l q h. subst Names (let g : record { number = 5; place = 0; bytes = 0; rows = k .rows; loose = r } ≡ a = cc in g) (no-place bs 5))
-          (λ n p b loose e q h. subst Names (let g : record { number = n; place = p; bytes = b; rows = k .rows; loose = loose } ≡ a = cc in g)
+          (λ r mark next e l q h. absurd (let z : _≡_ {A = ℕ} 0 1 = cc in omega arith))
+          (λ r mark next e l q h. subst Names (let g : endWith k 5 0 0 r ≡ a = cc in g) (no-place bs 5))
+          (λ n p b loose e q h. subst Names (let g : endWith k n p b loose ≡ a = cc in g)
           (subst (RowPlaced bs) e (row-placed S bs bytes (roomFor enc S wide bs bytes store places k) (k .state) (h .inside) enc)))
