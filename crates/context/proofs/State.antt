@@ -1,6 +1,6 @@
 -- Laws of the line's state: the line of the code and that of the rules are one, and what a push does to the slice. Assumes nothing.
 use mathlib.Core.Path.{_≡_, refl, sym, ap, _∙_}
-use mathlib.Core.Bool.{Bool, true, false, not}
+use mathlib.Core.Bool.{Bool, true, false, cond, not}
 use mathlib.Core.List.{List, [], _∷_, _++_, append-assoc}
 use Prim.Native.Nat.{ℕ, zero, suc, _+_, _-_, _%_, _≤_, _<_}
 use native.Mathlib.Omega.{arith}
@@ -11,6 +11,7 @@ use borrow.Author.Tests.{eq-eqb, ne-eqb, le-leb, lt-leb}
 use Rattle.rules.specs.Codes.{Colour, white, black, opposite, differ}
 use Rattle.rules.specs.Lines as Rule
 use Rattle.rules.specs.Lines.{Rules, lastColour, recorded, add, push}
+use Rattle.rules.specs.Rows.{readMark}
 use Rattle.rules.specs.Pages.{overlaid}
 use Rattle.tables.specs.Tables.{colourOf}
 use Rattle.context.specs.declared.line.Line.{Line}
@@ -37,6 +38,14 @@ pub number-flag : (n : ℕ) → n ≤ 1 → flagNumber (flagOf n) ≡ n
 number-flag zero h = refl
 number-flag (suc zero) h = refl
 number-flag (suc (suc n)) h = absurd (omega arith)
+
+-- the flag of a line that was read is its mark (A5)
+pub mark-is : (width : ℕ) (s : Rule.Line) (l : Line) → l ≡ lineFor width s → l .cut ≡ readMark s
+mark-is width s l e = ap (λ (m : Line). m .cut) e ∙ cases (s .cut)
+  where
+    cases : (b : Bool) → flagNumber b ≡ cond b 1 0
+    cases true = refl
+    cases false = refl
 
 -- the code's line stands for one of the rules, and is the code's line for that
 pub line-for : (xs : List ℕ) (l : Line) → Holds xs l → (at : ℕ) → lineFor (l .width) (lineAt at xs l) ≡ l

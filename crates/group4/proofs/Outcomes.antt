@@ -26,6 +26,7 @@ use Rattle.context.specs.declared.step.Step.the-variants as Step
 use Rattle.context.specs.declared.two.Reference.the-variants as Reference
 use Rattle.context.specs.State.{changesOf}
 use Rattle.context.specs.Coding.{Lines, Lined}
+use Rattle.context.proofs.State.{mark-is}
 use Rattle.context.proofs.Carried.{step-on, step-stop}
 use Rattle.rows.specs.declared.DecodeSettings.{DecodeSettings}
 use Rattle.rows.specs.declared.State.{State}
@@ -116,11 +117,11 @@ module _ {w b bytes xs : List ℕ} {settings : DecodeSettings} {st : State} (h :
             let f = read-whole (rulesOf S (length (drop (st .base) xs))) (h .wide) (two (stateOf xs st .reference)) bs (e .at) t o in
             omega (arith, there, f .inside, length-bitsOf bytes, h .loading .size)
 
-        pub row-kept : (m : Line) (at next : ℕ) → r ≡ Step.On m at → next ≡ alignedIf (settings .«rows_are_byte_aligned») at → RowGives (st .base) xs outcome (Kept (m .changes) next (st .eols)) ys
+        pub row-kept : (m : Line) (at next : ℕ) → r ≡ Step.On m at → next ≡ alignedIf (settings .«rows_are_byte_aligned») at → RowGives (st .base) xs outcome (Kept (m .changes) (m .cut) next (st .eols)) ys
         row-kept m at next a n =
             let (t, o, same, there) = step-on (settings .columns) (lined (length (drop (st .base) xs))) m at (sym a ∙ l .answer) in
-            gives (went t) o (Kept (m .changes) next (st .eols))
-            (λ i. Kept (same i .changes) ((n ∙ ap (alignedIf (settings .«rows_are_byte_aligned»)) there) i) (st .eols)) refl
+            gives (went t) o (Kept (m .changes) (m .cut) next (st .eols))
+            (λ i. Kept (same i .changes) (mark-is (settings .columns) t m same i) ((n ∙ ap (alignedIf (settings .«rows_are_byte_aligned»)) there) i) (st .eols)) refl
 
         pub row-stops : (n place : ℕ) (m : Line) → r ≡ Step.Stop n m place → RowGives (st .base) xs outcome (Stop n place 0 (m .changes)) ys
         row-stops n place m a =

@@ -97,7 +97,7 @@ pub fn row<'a>(
     ) {
         Step::On(line, at) => {
             let next = rows::align_if(settings.rows_are_byte_aligned, at);
-            Row::Kept(line.changes, next, state.eols)
+            Row::Kept(line.changes, line.cut, next, state.eols)
         }
         Step::Stop(number, line, place) => Row::Stop(number, place, 0, line.changes),
     }

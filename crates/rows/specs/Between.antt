@@ -19,12 +19,12 @@ abbrev pub stateOf : List ℕ → State → Rule.State
 stateOf xs st = record { at = st .at; reference = take (st .base - st .start) (drop (st .start) xs); count = st .rows; eols = st .eols }
 
 abbrev pub rowFor : RowOut → Row
-rowFor (row changes st) = Kept (length changes) (st .at) (st .eols)
+rowFor (row changes mark st) = Kept (length changes) mark (st .at) (st .eols)
 rowFor (stop n place bytes loose) = Stop n place bytes (length loose)
 
 -- the changes that a row leaves in the store: its own, or the loose ones
 abbrev pub changesIn : RowOut → List ℕ
-changesIn (row changes st) = changes
+changesIn (row changes mark st) = changes
 changesIn (stop n place bytes loose) = loose
 
 -- what a row asks: the tables, a bit inside the data, a width, and a reference in the store that rises below it

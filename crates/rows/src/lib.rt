@@ -33,10 +33,10 @@ pub struct State {
     pub eols: bool,
 }
 
-// A row that is kept: its changes, the bit after it, and whether EOLs are expected. Or the page's end: its number, the bit at fault, the
-// bytes, and the loose changes.
+// A row that is kept: its changes, its mark, the bit after it, and whether EOLs are expected. Or the page's end: its number, the bit at
+// fault, the bytes, and the loose changes.
 pub enum Row {
-    Kept(usize, usize, bool),
+    Kept(usize, u32, usize, bool),
     Stop(u32, usize, usize, usize),
 }
 
