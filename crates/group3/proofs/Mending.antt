@@ -10,7 +10,7 @@ use borrow.Rule.Slice.PartMut.{midOf, putMid}
 use Rattle.rules.specs.Bits.{bitsOf}
 use Rattle.rules.specs.Lines as Rule
 use Rattle.rules.specs.Lines.{Rules, Went, went, failed, push}
-use Rattle.rules.specs.Rows.{Settings, RowOut, rulesOf}
+use Rattle.rules.specs.Rows.{Settings, RowOut, recoveredMark, rulesOf}
 use Rattle.rules.specs.Group3.{kept, whitened, recovered}
 use Rattle.rules.specs.Pages.{overlaid}
 use Rattle.context.specs.declared.line.Line.{Line}
@@ -97,13 +97,13 @@ module _ (settings : DecodeSettings) (st : State) (at : ℕ) (expected : Bool) (
           subst (λ (k : ℕ). Comes (settings .columns) (drop base xs) (push (rulesOf S k) 0 (settings .columns - u .position) white) r ys) (length-drop base xs)
           (subst (λ (k : ℕ). Comes (settings .columns) (drop base xs) (push (rulesFor (settings .columns) (settings .strict) (drop base xs)) 0 k white) r ys) n c)
 
-      ended : (o : Went) → pushed ≡ o → (a : Row) → a ≡ rowFor (kept S (taggingOf (settings .encoding)) (bitsOf bytes) (stateOf xs st) expected at o)
-          → changesIn (kept S (taggingOf (settings .encoding)) (bitsOf bytes) (stateOf xs st) expected at o) ≡ changesOf o
+      ended : (o : Went) → pushed ≡ o → (a : Row) → a ≡ rowFor (kept S (taggingOf (settings .encoding)) (bitsOf bytes) (stateOf xs st) expected at recoveredMark o)
+          → changesIn (kept S (taggingOf (settings .encoding)) (bitsOf bytes) (stateOf xs st) expected at recoveredMark o) ≡ changesOf o
           → RowGives base xs (afterLineIn settings bytes xs st at expected (failed number place u)) a (putMid base (length zs - base) zs ys)
       unfolding pushed
       ended o e a k c =
           subst (λ (b : Bool). RowGives base xs (outcome b) a (putMid base (length zs - base) zs ys)) (sym q)
-          (subst (λ (o : Went). RowGives base xs (kept S (taggingOf (settings .encoding)) (bitsOf bytes) (stateOf xs st) expected at o) a (putMid base (length zs - base) zs ys)) (sym e)
+          (subst (λ (o : Went). RowGives base xs (kept S (taggingOf (settings .encoding)) (bitsOf bytes) (stateOf xs st) expected at recoveredMark o) a (putMid base (length zs - base) zs ys)) (sym e)
           (record {
             answer = k;
             store =
@@ -111,10 +111,10 @@ module _ (settings : DecodeSettings) (st : State) (at : ℕ) (expected : Bool) (
                 ∙ (λ i. front-is i ++ (comes .store ∙ ap (λ (o : Went). overlaid (changesOf o) (drop base xs)) e ∙ ap (λ (x : List ℕ). overlaid x (drop base xs)) (sym c)) i);
           }))
 
-      mended-on : (m : Line) → r ≡ Push.On m → RowGives base xs (afterLineIn settings bytes xs st at expected (failed number place u)) (Kept (m .changes) at expected) (putMid base (length zs - base) zs ys)
+      mended-on : (m : Line) → r ≡ Push.On m → RowGives base xs (afterLineIn settings bytes xs st at expected (failed number place u)) (Kept (m .changes) recoveredMark at expected) (putMid base (length zs - base) zs ys)
       mended-on m e =
           let (t, o, same) = push-on (settings .columns) pushed m (sym e ∙ comes .answer) in
-          ended (went t) o (Kept (m .changes) at expected) (ap (λ (m : Line). Kept (m .changes) at expected) same) refl
+          ended (went t) o (Kept (m .changes) recoveredMark at expected) (ap (λ (m : Line). Kept (m .changes) recoveredMark at expected) same) refl
 
       mended-stop : (n : ℕ) (m : Line) → r ≡ Push.Stop n m → RowGives base xs (afterLineIn settings bytes xs st at expected (failed number place u)) (Stop n 0 0 (m .changes)) (putMid base (length zs - base) zs ys)
       unfolding pushed
@@ -134,7 +134,7 @@ module _ (settings : DecodeSettings) (st : State) (at : ℕ) (expected : Bool) (
 
   module _ (q : true ≡ ((expected && not (settings .strict)) && leb number 3)) (r : Push) (ys : List ℕ)
       (p : Pushes (midOf (st .base) (length zs - st .base) zs) (whiteFor l) (l .width - l .position) (settings .strict) r ys) where
-    pub recovers-on : (m : Line) → r ≡ Push.On m → Recovers settings st at expected number place l zs (Kept (m .changes) at expected) (putMid (st .base) (length zs - st .base) zs ys)
+    pub recovers-on : (m : Line) → r ≡ Push.On m → Recovers settings st at expected number place l zs (Kept (m .changes) recoveredMark at expected) (putMid (st .base) (length zs - st .base) zs ys)
     recovers-on m e bytes xs u v = mended-on bytes xs u v (sym q) r ys p m e
 
     pub recovers-stop : (n : ℕ) (m : Line) → r ≡ Push.Stop n m → Recovers settings st at expected number place l zs (Stop n 0 0 (m .changes)) (putMid (st .base) (length zs - st .base) zs ys)

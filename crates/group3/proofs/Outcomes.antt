@@ -24,6 +24,7 @@ use Rattle.context.specs.declared.step.Step.{Step}
 use Rattle.context.specs.declared.step.Step.the-variants as Step
 use Rattle.context.specs.State.{lineFor, changesOf}
 use Rattle.context.specs.Coding.{StepsAt}
+use Rattle.context.proofs.State.{mark-is}
 use Rattle.context.proofs.Carried.{Carries, carries-holds, step-on, step-stop}
 use Rattle.context.proofs.RowPart.{back-row}
 use Rattle.rows.specs.declared.DecodeSettings.{DecodeSettings}
@@ -51,12 +52,12 @@ module _ {w b bytes xs : List ℕ} {settings : DecodeSettings} {st : State} {at 
   abbrev outcome : Went → RowOut
   outcome = afterLineIn settings bytes xs st at expected
 
-  pub line-read : (m : Line) (next : ℕ) → r ≡ Step.On m next → RowGives base xs (outcome (lineIn settings bytes xs st at)) (Kept (m .changes) next expected) zs
+  pub line-read : (m : Line) (next : ℕ) → r ≡ Step.On m next → RowGives base xs (outcome (lineIn settings bytes xs st at)) (Kept (m .changes) (m .cut) next expected) zs
   line-read m next e =
       let (t, o, same, there) = step-on (settings .columns) (lineIn settings bytes xs st at) m next (sym e ∙ s .answer) in
-      subst (λ (w : Went). RowGives base xs (outcome w) (Kept (m .changes) next expected) zs) (sym o)
+      subst (λ (w : Went). RowGives base xs (outcome w) (Kept (m .changes) (m .cut) next expected) zs) (sym o)
       (record {
-        answer = λ i. Kept (same i .changes) (there i) expected;
+        answer = λ i. Kept (same i .changes) (mark-is (settings .columns) t m same i) (there i) expected;
         store = s .store ∙ ap (λ (w : Went). take base xs ++ overlaid (changesOf w) (drop base xs)) o;
       })
 

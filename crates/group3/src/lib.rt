@@ -34,7 +34,7 @@ fn row_at<'a>(
     ensures { λ r. ⌜ RowGives (state .base) (now (changes .entry)) (afterLineIn settings (now (src .entry)) (now (changes .entry)) state at expected (lineIn settings (now (src .entry)) (now (changes .entry)) state at)) r (now (changes .exit)) ⌝ }
 {
     match line::decode(white, black, src, settings, changes, state, at) {
-        Step::On(line, next) => Row::Kept(line.changes, next, expected),
+        Step::On(line, next) => Row::Kept(line.changes, line.cut, next, expected),
         Step::Stop(number, line, place) => {
             recover::recover(changes, settings, state, at, expected, number, place, line)
         }

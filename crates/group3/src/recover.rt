@@ -55,7 +55,8 @@ pub(crate) fn recover(
     let base = state.base;
     let left = line.width - line.position;
     match line::push_pixels(&mut changes[base..], whitened(line), left, settings.strict) {
-        Push::On(kept) => Row::Kept(kept.changes, at, expected),
+        // 2, whatever was cut in it before: recovered wins over cut.
+        Push::On(kept) => Row::Kept(kept.changes, 2, at, expected),
         Push::Stop(fault, stopped) => Row::Stop(fault, 0, 0, stopped.changes),
     }
 }
