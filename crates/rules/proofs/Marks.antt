@@ -8,12 +8,12 @@ use native.Mathlib.Omega.{arith}
 use lib.Dec.{eqb, ltb}
 use lib.ListN.{length, drop, getD, length-append}
 use Rattle.rules.specs.Machine.{Out, more, done, ends}
-use Rattle.rules.specs.Bits.{firstBit}
+use Rattle.rules.specs.Bits.{firstBit, bitsOf}
 use Rattle.rules.specs.Lines.{Line, Went, went, failed, one, two, readLine}
 use Rattle.rules.specs.Rows.{Encoding, group4, group3-1D, group3-2D, Settings, State, pageStart, readMark, recoveredMark, RowOut, row, stop, rulesOf}
 use Rattle.rules.specs.Group4.{eolsBefore, afterLine4, row4}
 use Rattle.rules.specs.Group3.{Tagging, untagged, tagged, line-at, before, taggedLine, lineOfTag, line3, kept, afterLine3, row3}
-use Rattle.rules.specs.Pages.{Answer, Kept, noneKept, withRow, endWith, entries, keepRow, pageStep, rowsLeft, pageOf, rowOf, readPage}
+use Rattle.rules.specs.Pages.{Answer, Kept, noneKept, withRow, endWith, entries, keepRow, pageStep, rowsLeft, pageOf, rowOf, readPage, mostBytes, tooWide, decode}
 use Rattle.rules.proofs.Machine.{run-keeps}
 use Rattle.rules.proofs.Rows.{row4-cases, row3-cases, mended-cases}
 use Rattle.rules.proofs.Clean.{Twin, alike, apart, cutOf, Refused, refused, line-twins}
@@ -206,6 +206,18 @@ module _ (S : Settings) (bs : List Bool) (store places : ℕ) where
       ended : (o : Out Kept Answer) → OutCame o → (st : State) × Came S bs (pageOf o .rows) (pageOf o .marks) st
       ended (more k) h = (pageStart, none-yet)
       ended (done a) h = h
+
+-- and so did those of whatever `decode` answers
+pub decode-came : (S : Settings) (bytes : List ℕ) (store places : ℕ) → (st : State) × Came S (bitsOf bytes) (decode S bytes store places .rows) (decode S bytes store places .marks) st
+unfolding decode
+decode-came S bytes store places = tests (tooWide (S .columns)) refl (ltb mostBytes (length bytes)) refl (eqb (S .columns) 0) refl
+  where
+    tests : (a : Bool) → tooWide (S .columns) ≡ a → (b : Bool) → ltb mostBytes (length bytes) ≡ b → (c : Bool) → eqb (S .columns) 0 ≡ c
+        → (st : State) × Came S (bitsOf bytes) (decode S bytes store places .rows) (decode S bytes store places .marks) st
+    tests true e b f c g = rw (e, decode) (pageStart, none-yet)
+    tests false e true f c g = rw (e, f, decode) (pageStart, none-yet)
+    tests false e false f true g = rw (e, f, g, decode) (pageStart, none-yet)
+    tests false e false f false g = rw (e, f, g, decode) (page-came S (bitsOf bytes) store places)
 
 -- marks of which none is above `most`
 pub data AtMost (most : ℕ) : List ℕ → Type 0 where
