@@ -7,9 +7,11 @@
 #include <stddef.h>
 #include <stdint.h>
 
-/* number: 0 done; 1 invalid code; 2 unexpected end of the data; 3 overflow; 4 no entry left for a change; 5 no row end left for a row;
+/* number: 0 done; 1 invalid code; 2 unexpected end of the data; 3 overflow; 4 no entry left for a change; 5 no place left for a row's end with
+           its mark;
            6 columns 4294967295 (for one line or a writer also 0); 7 data or output above 4294967296 bytes;
            8 a row or reference that does not ascend strictly below the columns, or row ends that fall or pass the array; 9 the bits do not fit.
+   mark:    for one line read whole its mark: 0 clean, 1 cut to the width; else 0.
    rows:    rows kept. Row n's changes lie in `changes` from ends[n - 1] (0 for the first) to ends[n].
    entries: entries in kept rows.
    loose:   entries behind them that belong to an unfinished row.
@@ -18,6 +20,7 @@
    After 6 to 9 every array is as it was; otherwise every entry behind the last one named keeps its value. */
 typedef struct {
     uint32_t number;
+    uint32_t mark;
     uint64_t rows;
     uint64_t entries;
     uint64_t loose;
@@ -25,18 +28,19 @@ typedef struct {
     uint64_t place;
 } ccitt_answer;
 
-/* A page of the given encoding. rows 0: to the end of block or of the data. */
+/* A page of the given encoding. rows 0: to the end of block or of the data. marks[n] is the mark of row n, beside its end: 0 read clean, 1 cut to
+   the width (a lenient count was shortened in it), 2 recovered (a damaged line, white from the fault on). */
 ccitt_answer ccitt_decode_group4(const uint8_t *src, size_t src_len, uint32_t columns, uint32_t rows, bool end_of_block,
                                  bool rows_are_byte_aligned, bool strict, uint32_t *changes, size_t changes_len, uint64_t *ends,
-                                 size_t ends_len);
+                                 size_t ends_len, uint8_t *marks, size_t marks_len);
 
 ccitt_answer ccitt_decode_group3_1d(const uint8_t *src, size_t src_len, uint32_t columns, uint32_t rows, bool end_of_block,
                                     bool end_of_line, bool rows_are_byte_aligned, bool strict, uint32_t *changes,
-                                    size_t changes_len, uint64_t *ends, size_t ends_len);
+                                    size_t changes_len, uint64_t *ends, size_t ends_len, uint8_t *marks, size_t marks_len);
 
 ccitt_answer ccitt_decode_group3_2d(const uint8_t *src, size_t src_len, uint32_t columns, uint32_t rows, bool end_of_block,
                                     bool end_of_line, bool rows_are_byte_aligned, bool strict, uint32_t *changes,
-                                    size_t changes_len, uint64_t *ends, size_t ends_len);
+                                    size_t changes_len, uint64_t *ends, size_t ends_len, uint8_t *marks, size_t marks_len);
 
 /* One 2D line that begins at bit `at`, under a reference. */
 ccitt_answer ccitt_read_line(const uint8_t *src, size_t src_len, uint64_t at, uint32_t columns, bool strict,

@@ -12,16 +12,17 @@ use borrow.Author.Tests.{eq-eqb, ne-eqb, lt-ltb, le-ltb}
 use Rattle.rules.specs.Machine.{Out, more, done, ends}
 use Rattle.rules.specs.Bits.{bitsOf}
 use Rattle.rules.specs.Rows as Rule
-use Rattle.rules.specs.Rows.{Encoding, Settings, pageStart, RowOut, row, stop}
+use Rattle.rules.specs.Rows.{Encoding, Settings, RowOut, row, stop}
 use Rattle.rules.specs.Group4.{row4}
 use Rattle.rules.specs.Group3.{row3}
 use Rattle.rules.specs.Pages as Page
-use Rattle.rules.specs.Pages.{mostBytes, entries, rowOf, rowsLeft, pageOf, readPage, decode, overlaid, joined, endsFrom, changesAfter, endsAfter}
+use Rattle.rules.specs.Pages.{mostBytes, entries, noneKept, withRow, endWith, rowOf, rowsLeft, pageOf, readPage, decode, placesIn, overlaid, joined, endsFrom, changesAfter, endsAfter, marksAfter}
 use Rattle.rules.proofs.Machine.{ends-more, ends-done}
 use Rattle.rules.proofs.Bits.{length-bitsOf}
 use Rattle.rules.proofs.Ascending.{Rising}
 use Rattle.rules.proofs.Budget.{Bytes}
 use Rattle.rules.proofs.Pages.{Onward, Moved, Goes, Does, row-goes, row-does, step, roomFor, page-kept, page-full, page-stopped, page-falls, Held, held-start, held-next, held-entries}
+use Rattle.rules.proofs.Marks.{RowMarked, row-marked}
 use Rattle.rules.proofs.Store.{length-overlaid, overlaid-nothing, overlaid-behind, overlaid-one, length-joined, joined-snoc, length-ends, ends-snoc}
 use Rattle.tables.specs.Tables.{Lookups}
 use Rattle.error.specs.Error.{answerOf}
@@ -45,7 +46,7 @@ record StopOf (n p b m : ℕ) (w : RowOut) : Type 0 where
   size : length loose ≡ m
 
 stop-of : {n p b m : ℕ} (w : RowOut) → Stop n p b m ≡ rowFor w → StopOf n p b m w
-stop-of (row r next) e = absurd (let z : _≡_ {A = ℕ} 0 1 = cc in omega arith)
+stop-of (row r mark next) e = absurd (let z : _≡_ {A = ℕ} 0 1 = cc in omega arith)
 stop-of {n} {p} {b} {m} (stop n′ p′ b′ l) e = record { loose = l; is = λ i. stop (number i) (place i) (bytes i) l; size = sym (let q : m ≡ length l = cc in q) }
   where
     number : n′ ≡ n
@@ -57,21 +58,21 @@ stop-of {n} {p} {b} {m} (stop n′ p′ b′ l) e = record { loose = l; is = λ 
     bytes : b′ ≡ b
     bytes = sym (let q : b ≡ b′ = cc in q)
 
-record RowIs (count at : ℕ) (eols : Bool) (w : RowOut) : Type 0 where
+record RowIs (count mark at : ℕ) (eols : Bool) (w : RowOut) : Type 0 where
   changes : List ℕ
   next : Rule.State
-  is : w ≡ row changes next
+  is : w ≡ row changes mark next
   size : length changes ≡ count
   at-is : next .at ≡ at
   eols-is : next .eols ≡ eols
 
-row-of : {count at : ℕ} {eols : Bool} (w : RowOut) → Kept count at eols ≡ rowFor w → RowIs count at eols w
-row-of (row r next) e = record { changes = r; next = next; is = refl; size = cc; at-is = cc; eols-is = cc }
+row-of : {count mark at : ℕ} {eols : Bool} (w : RowOut) → Kept count mark at eols ≡ rowFor w → RowIs count mark at eols w
+row-of {mark = mark} (row r m next) e = record { changes = r; next = next; is = ap (λ (n : ℕ). row r n next) (let q : m ≡ mark = cc in q); size = cc; at-is = cc; eols-is = cc }
 row-of (stop n p b l) e = absurd (let z : _≡_ {A = ℕ} 0 1 = cc in omega arith)
 
 -- ---- Between rows
 
-module _ (bytes : List ℕ) (settings : DecodeSettings) (size : length bytes ≤ mostBytes) (wide : 0 < settings .columns) (narrow : settings .columns < 4294967295) (xs es : List ℕ) where
+module _ (bytes : List ℕ) (settings : DecodeSettings) (size : length bytes ≤ mostBytes) (wide : 0 < settings .columns) (narrow : settings .columns < 4294967295) (xs es ms : List ℕ) where
   abbrev pub S : Settings
   S = settingsOf settings
 
@@ -85,39 +86,40 @@ module _ (bytes : List ℕ) (settings : DecodeSettings) (size : length bytes ≤
   data-bytes = record { count = length bytes; whole = length-bitsOf bytes }
 
   abbrev pub stepped : Page.Kept → Out Page.Kept Page.Answer
-  stepped = step enc S wide bs data-bytes (length xs) (length es)
+  stepped = step enc S wide bs data-bytes (length xs) (placesIn es ms)
 
   abbrev pub Holds : Page.Kept → Type 0
-  Holds k = Held enc S wide bs data-bytes (length xs) (length es) k
-
-  abbrev pub start : Page.Kept
-  start = record { state = pageStart; rows = [] }
+  Holds k = Held enc S wide bs data-bytes (length xs) (placesIn es ms) k
 
   -- the machine stands at k, and the arrays hold its rows
-  pub record Going (ys fs : List ℕ) (st : State) : Type 0 where
+  pub record Going (ys fs ns : List ℕ) (st : State) : Type 0 where
     pub kept : Page.Kept
     pub held : Holds kept
-    pub same : ends stepped (rowsLeft bs) kept ≡ ends stepped (rowsLeft bs) start
+    pub same : ends stepped (rowsLeft bs) kept ≡ ends stepped (rowsLeft bs) noneKept
     pub state : stateOf ys st ≡ kept .state
     pub base : st .base ≡ entries (kept .rows)
     pub ordered : st .start ≤ st .base
     pub changes : ys ≡ overlaid (joined (kept .rows)) xs
     pub row-ends : fs ≡ overlaid (endsFrom 0 (kept .rows)) es
+    pub as-many : length (kept .marks) ≡ length (kept .rows)
+    pub marks : ns ≡ overlaid (kept .marks) ms
 
-  pub going-start : Going xs es (record { at = 0; rows = 0; start = 0; base = 0; eols = false })
+  pub going-start : Going xs es ms (record { at = 0; rows = 0; start = 0; base = 0; eols = false })
   unfolding entries joined endsFrom
   going-start = record {
-    kept = start;
-    held = held-start enc S wide bs data-bytes (length xs) (length es);
+    kept = noneKept;
+    held = held-start enc S wide bs data-bytes (length xs) (placesIn es ms);
     same = refl;
     state = refl;
     base = refl;
     ordered = omega arith;
     changes = sym (overlaid-nothing xs);
     row-ends = sym (overlaid-nothing es);
+    as-many = refl;
+    marks = sym (overlaid-nothing ms);
   }
 
-  module _ (ys fs : List ℕ) (st : State) (g : Going ys fs st) where
+  module _ (ys fs ns : List ℕ) (st : State) (g : Going ys fs ns st) where
     k : Page.Kept
     k = g .kept
 
@@ -140,7 +142,7 @@ module _ (bytes : List ℕ) (settings : DecodeSettings) (size : length bytes ≤
     }
 
     -- the row of the code is the machine's
-    outcome : rowOf enc S bs (length ys - st .base) (stateOf ys st) ≡ rowOf enc S bs (roomFor enc S wide bs data-bytes (length xs) (length es) (g .kept)) (g .kept .state)
+    outcome : rowOf enc S bs (length ys - st .base) (stateOf ys st) ≡ rowOf enc S bs (roomFor enc S wide bs data-bytes (length xs) (placesIn es ms) (g .kept)) (g .kept .state)
     outcome = ap₂ (λ (n : ℕ) (s : Rule.State). rowOf enc S bs n s) (ap₂ (λ (a b : ℕ). a - b) length-ys (g .base)) (g .state)
 
     -- the changes behind the rows
@@ -153,21 +155,22 @@ module _ (bytes : List ℕ) (settings : DecodeSettings) (size : length bytes ≤
     bits = omega (arith, length-bitsOf bytes)
 
     -- the page's answer
-    answers : (a : Page.Answer) → stepped (g .kept) ≡ done a → readPage S bs (length xs) (length es) ≡ a
+    answers : (a : Page.Answer) → stepped (g .kept) ≡ done a → readPage S bs (length xs) (placesIn es ms) ≡ a
     unfolding readPage
-    answers a e = ap pageOf (sym (g .same) ∙ ends-done stepped (rowsLeft bs) (page-falls enc S wide bs data-bytes (length xs) (length es)) (g .kept) a e)
+    answers a e = ap pageOf (sym (g .same) ∙ ends-done stepped (rowsLeft bs) (page-falls enc S wide bs data-bytes (length xs) (placesIn es ms)) (g .kept) a e)
 
     -- an answer that was reached, with the arrays as they stand
     given : (n p b m : ℕ) (loose zs : List ℕ) → length loose ≡ m → zs ≡ take (st .base) ys ++ overlaid loose (drop (st .base) ys)
-        → stepped (g .kept) ≡ done (record { number = n; place = p; bytes = b; rows = g .kept .rows; loose = loose })
-        → Reads bytes settings xs es (counted n p (st .rows) (st .base) m b) zs fs
-    unfolding changesAfter endsAfter
+        → stepped (g .kept) ≡ done (endWith (g .kept) n p b loose)
+        → Reads bytes settings xs es ms (counted n p (st .rows) (st .base) m b) zs fs ns
+    unfolding changesAfter endsAfter marksAfter
     given n p b m loose zs l e q =
-        subst (λ (a : Page.Answer). Gives a xs es (counted n p (st .rows) (st .base) m b) zs fs) (sym (answers _ q))
+        subst (λ (a : Page.Answer). Gives a xs es ms (counted n p (st .rows) (st .base) m b) zs fs ns) (sym (answers _ q))
         (record {
           answer = λ i. counted n p (rows-is i) (g .base i) (sym l i) b;
           changes = behind zs loose e;
           ends = g .row-ends;
+          marks = g .marks;
         })
 
     module _ (r : Row) (zs : List ℕ) (o : Rowed bytes ys settings st r zs) where
@@ -176,46 +179,50 @@ module _ (bytes : List ℕ) (settings : DecodeSettings) (size : length bytes ≤
         s : StopOf n p b m (rowOf enc S bs (length ys - st .base) (stateOf ys st))
         s = stop-of (rowOf enc S bs (length ys - st .base) (stateOf ys st)) (sym e ∙ o .answer)
 
-        stops : rowOf enc S bs (roomFor enc S wide bs data-bytes (length xs) (length es) (g .kept)) (g .kept .state) ≡ stop n p b (s .loose)
+        stops : rowOf enc S bs (roomFor enc S wide bs data-bytes (length xs) (placesIn es ms) (g .kept)) (g .kept .state) ≡ stop n p b (s .loose)
         stops = sym outcome ∙ s .is
 
-        pub stopped-gives : Reads bytes settings xs es (counted n p (st .rows) (st .base) m b) zs fs
+        pub stopped-gives : Reads bytes settings xs es ms (counted n p (st .rows) (st .base) m b) zs fs ns
         unfolding s
         stopped-gives =
             given n p b m (s .loose) zs (s .size) (o .store ∙ ap (λ (w : RowOut). take (st .base) ys ++ overlaid (changesIn w) (drop (st .base) ys)) (s .is))
-            (page-stopped enc S wide bs data-bytes (length xs) (length es) (g .kept) n p b (s .loose) stops)
+            (page-stopped enc S wide bs data-bytes (length xs) (placesIn es ms) (g .kept) n p b (s .loose) stops)
 
       -- a row
-      module _ (count at : ℕ) (eols : Bool) (e : r ≡ Kept count at eols) where
-        t : RowIs count at eols (rowOf enc S bs (length ys - st .base) (stateOf ys st))
+      module _ (count mark at : ℕ) (eols : Bool) (e : r ≡ Kept count mark at eols) where
+        t : RowIs count mark at eols (rowOf enc S bs (length ys - st .base) (stateOf ys st))
         t = row-of (rowOf enc S bs (length ys - st .base) (stateOf ys st)) (sym e ∙ o .answer)
 
-        reads : rowOf enc S bs (roomFor enc S wide bs data-bytes (length xs) (length es) (g .kept)) (g .kept .state) ≡ row (t .changes) (t .next)
+        reads : rowOf enc S bs (roomFor enc S wide bs data-bytes (length xs) (placesIn es ms) (g .kept)) (g .kept .state) ≡ row (t .changes) mark (t .next)
         reads = sym outcome ∙ t .is
 
-        does : Moved S bs (roomFor enc S wide bs data-bytes (length xs) (length es) (g .kept)) (g .kept .state) (t .changes) (t .next)
+        does : Moved S bs (roomFor enc S wide bs data-bytes (length xs) (placesIn es ms) (g .kept)) (g .kept .state) (t .changes) (t .next)
         does = subst (Does S bs _ (g .kept .state)) reads (row-does S wide bs data-bytes _ (g .kept .state) enc (g .held .fitting) (g .held .inside))
 
         stored : zs ≡ overlaid (joined (g .kept .rows) ++ t .changes) xs
         stored = behind zs (t .changes) (o .store ∙ ap (λ (w : RowOut). take (st .base) ys ++ overlaid (changesIn w) (drop (st .base) ys)) (t .is))
 
-        -- no row end is left
-        pub full-gives : length es ≤ st .rows → Reads bytes settings xs es (counted 5 0 (st .rows) (st .base) count 0) zs fs
+        -- its mark is one of the list
+        pub marked : mark ≤ 2
+        marked = subst RowMarked reads (row-marked S bs _ (g .kept .state) enc)
+
+        -- no place is left
+        pub full-gives : placesIn es ms ≤ st .rows → Reads bytes settings xs es ms (counted 5 0 (st .rows) (st .base) count 0) zs fs ns
         unfolding t
         full-gives h =
             given 5 0 0 count (t .changes) zs (t .size) (o .store ∙ ap (λ (w : RowOut). take (st .base) ys ++ overlaid (changesIn w) (drop (st .base) ys)) (t .is))
-            (page-full enc S wide bs data-bytes (length xs) (length es) (g .kept) (t .changes) (t .next) reads (omega (arith, rows-is)))
+            (page-full enc S wide bs data-bytes (length xs) (placesIn es ms) (g .kept) (t .changes) mark (t .next) reads (omega (arith, rows-is)))
 
-        module _ (place : st .rows < length es) where
+        module _ (place : st .rows < placesIn es ms) where
           next : Page.Kept
-          next = record { state = t .next; rows = g .kept .rows ++ t .changes ∷ [] }
+          next = withRow (g .kept) (t .changes) mark (t .next)
 
           stepping : stepped (g .kept) ≡ more next
           unfolding next
-          stepping = page-kept enc S wide bs data-bytes (length xs) (length es) (g .kept) (t .changes) (t .next) reads (omega (arith, rows-is))
+          stepping = page-kept enc S wide bs data-bytes (length xs) (placesIn es ms) (g .kept) (t .changes) mark (t .next) reads (omega (arith, rows-is))
 
           holds : Holds next
-          holds = held-next enc S wide bs data-bytes (length xs) (length es) (g .kept) next (g .held) stepping
+          holds = held-next enc S wide bs data-bytes (length xs) (placesIn es ms) (g .kept) next (g .held) stepping
 
           more-entries : entries (next .rows) ≡ st .base + count
           unfolding next t
@@ -224,7 +231,7 @@ module _ (bytes : List ℕ) (settings : DecodeSettings) (size : length bytes ≤
           pub behind-asked : Behind st count
           behind-asked = record {
             few-rows = omega (arith, rows-is, g .held .few, g .held .inside, bits);
-            few-entries = omega (arith, more-entries, held-entries enc S wide bs data-bytes (length xs) (length es) next holds, bits);
+            few-entries = omega (arith, more-entries, held-entries enc S wide bs data-bytes (length xs) (placesIn es ms) next holds, bits);
           }
 
           state-next : stateOf zs (behindRow st count at eols) ≡ t .next
@@ -248,23 +255,25 @@ module _ (bytes : List ℕ) (settings : DecodeSettings) (size : length bytes ≤
                   ∙ ap (take (length (t .changes))) (drop-at J (t .changes ++ drop (length (J ++ t .changes)) xs) (st .base) (length-joined (g .kept .rows) ∙ sym (g .base)))
                   ∙ take-at (t .changes) (drop (length (J ++ t .changes)) xs) (length (t .changes)) refl
 
-          pub going-next : Going zs (set fs (st .rows) (st .base + count)) (behindRow st count at eols)
+          pub going-next : Going zs (set fs (st .rows) (st .base + count)) (set ns (st .rows) mark) (behindRow st count at eols)
           unfolding next t
           going-next = record {
             kept = next;
             held = holds;
-            same = sym (ends-more stepped (rowsLeft bs) (page-falls enc S wide bs data-bytes (length xs) (length es)) (g .kept) next stepping) ∙ g .same;
+            same = sym (ends-more stepped (rowsLeft bs) (page-falls enc S wide bs data-bytes (length xs) (placesIn es ms)) (g .kept) next stepping) ∙ g .same;
             state = state-next;
             base = sym more-entries;
             ordered = omega arith;
             changes = stored ∙ ap (λ (l : List ℕ). overlaid l xs) (sym (joined-snoc (g .kept .rows) (t .changes)));
             row-ends = set-end;
+            as-many = omega (arith, length-append (g .kept .marks) (mark ∷ []), length-append (g .kept .rows) (t .changes ∷ []), g .as-many);
+            marks = ap (λ (l : List ℕ). set l (st .rows) mark) (g .marks) ∙ overlaid-one (g .kept .marks) ms mark (st .rows) (g .as-many ∙ sym rows-is) (omega arith);
           }
             where
               set-end : set fs (st .rows) (st .base + count) ≡ overlaid (endsFrom 0 (g .kept .rows ++ t .changes ∷ [])) es
               set-end =
                   ap (λ (l : List ℕ). set l (st .rows) (st .base + count)) (g .row-ends)
-                  ∙ overlaid-one (endsFrom 0 (g .kept .rows)) es (st .base + count) (st .rows) (length-ends 0 (g .kept .rows) ∙ sym rows-is) place
+                  ∙ overlaid-one (endsFrom 0 (g .kept .rows)) es (st .base + count) (st .rows) (length-ends 0 (g .kept .rows) ∙ sym rows-is) (omega arith)
                   ∙ ap (λ (l : List ℕ). overlaid l es) (ap (λ (n : ℕ). endsFrom 0 (g .kept .rows) ++ n ∷ []) (let q : st .base + count ≡ 0 + entries (g .kept .rows) + length (t .changes) = omega (arith, g .base, t .size) in q) ∙ sym (ends-snoc 0 (g .kept .rows) (t .changes)))
 
           -- what falls with each row
@@ -274,89 +283,94 @@ module _ (bytes : List ℕ) (settings : DecodeSettings) (size : length bytes ≤
               subst₂ (λ (a b : ℕ). a < b)
               (ap₂ (λ (a c : ℕ). length bs - a + cond (eqb c 0) 1 0) (t .at-is) (sym (ap (λ (s : Rule.State). s .count) state-next)))
               (ap₂ (λ (a c : ℕ). length bs - a + cond (eqb c 0) 1 0) (sym (ap (λ (s : Rule.State). s .at) (g .state))) (sym (ap (λ (s : Rule.State). s .count) (g .state))))
-              (page-falls enc S wide bs data-bytes (length xs) (length es) (g .kept) next stepping)
+              (page-falls enc S wide bs data-bytes (length xs) (placesIn es ms) (g .kept) next stepping)
 
 -- ---- The loop's invariant
 
 -- the tests were passed, and the machine goes on
-pub record Turn (bytes : List ℕ) (settings : DecodeSettings) (xs es ys fs : List ℕ) (st : State) : Type 0 where
+pub record Turn (bytes : List ℕ) (settings : DecodeSettings) (xs es ms ys fs ns : List ℕ) (st : State) : Type 0 where
   pub size : length bytes ≤ mostBytes
   pub wide : 0 < settings .columns
   pub narrow : settings .columns < 4294967295
-  pub going : Going bytes settings size wide narrow xs es ys fs st
+  pub going : Going bytes settings size wide narrow xs es ms ys fs ns st
   pub same-changes : length ys ≡ length xs
   pub same-ends : length fs ≡ length es
+  pub same-marks : length ns ≡ length ms
 
 -- what falls with each turn
 abbrev pub turnsLeft : List ℕ → State → ℕ
 turnsLeft bytes st = length (bitsOf bytes) - st .at + cond (eqb (st .rows) 0) 1 0
 
-pub turn-start : {w b : List ℕ} (bytes : List ℕ) (settings : DecodeSettings) (xs es : List ℕ) → PageFrom w b bytes settings
-    → Turn bytes settings xs es xs es (record { at = 0; rows = 0; start = 0; base = 0; eols = false })
-turn-start bytes settings xs es p = record { size = p .size; wide = p .wide; narrow = p .narrow; going = going-start bytes settings (p .size) (p .wide) (p .narrow) xs es; same-changes = refl; same-ends = refl }
+pub turn-start : {w b : List ℕ} (bytes : List ℕ) (settings : DecodeSettings) (xs es ms : List ℕ) → PageFrom w b bytes settings
+    → Turn bytes settings xs es ms xs es ms (record { at = 0; rows = 0; start = 0; base = 0; eols = false })
+turn-start bytes settings xs es ms p = record { size = p .size; wide = p .wide; narrow = p .narrow; going = going-start bytes settings (p .size) (p .wide) (p .narrow) xs es ms; same-changes = refl; same-ends = refl; same-marks = refl }
 
-module _ {bytes : List ℕ} {settings : DecodeSettings} {xs es ys fs : List ℕ} {st : State} (t : Turn bytes settings xs es ys fs st) where
+module _ {bytes : List ℕ} {settings : DecodeSettings} {xs es ms ys fs ns : List ℕ} {st : State} (t : Turn bytes settings xs es ms ys fs ns st) where
   pub turn-asked : {w b : List ℕ} → Lookups w b → RowFrom w b bytes ys settings st
-  turn-asked l = row-asked bytes settings (t .size) (t .wide) (t .narrow) xs es ys fs st (t .going) l
+  turn-asked l = row-asked bytes settings (t .size) (t .wide) (t .narrow) xs es ms ys fs ns st (t .going) l
 
   module _ {r : Row} {zs : List ℕ} (o : Rowed bytes ys settings st r zs) where
-    pub turn-stopped : {n p b m : ℕ} → r ≡ Stop n p b m → Reads bytes settings xs es (counted n p (st .rows) (st .base) m b) zs fs
+    pub turn-stopped : {n p b m : ℕ} → r ≡ Stop n p b m → Reads bytes settings xs es ms (counted n p (st .rows) (st .base) m b) zs fs ns
     turn-stopped {n} {p} {b} {m} e =
-        stopped-gives bytes settings (t .size) (t .wide) (t .narrow) xs es ys fs st (t .going) r zs o n p b m e
+        stopped-gives bytes settings (t .size) (t .wide) (t .narrow) xs es ms ys fs ns st (t .going) r zs o n p b m e
 
-    module _ {count at : ℕ} {eols : Bool} (e : r ≡ Kept count at eols) where
-      pub turn-full : length es ≤ st .rows → Reads bytes settings xs es (counted 5 0 (st .rows) (st .base) count 0) zs fs
-      turn-full h = full-gives bytes settings (t .size) (t .wide) (t .narrow) xs es ys fs st (t .going) r zs o count at eols e h
+    module _ {count mark at : ℕ} {eols : Bool} (e : r ≡ Kept count mark at eols) where
+      pub turn-marked : mark ≤ 2
+      turn-marked = marked bytes settings (t .size) (t .wide) (t .narrow) xs es ms ys fs ns st (t .going) r zs o count mark at eols e
 
-      module _ (place : st .rows < length es) where
+      pub turn-full : placesIn es ms ≤ st .rows → Reads bytes settings xs es ms (counted 5 0 (st .rows) (st .base) count 0) zs fs ns
+      turn-full h = full-gives bytes settings (t .size) (t .wide) (t .narrow) xs es ms ys fs ns st (t .going) r zs o count mark at eols e h
+
+      module _ (place : st .rows < placesIn es ms) where
         pub turn-behind : Behind st count
-        turn-behind = behind-asked bytes settings (t .size) (t .wide) (t .narrow) xs es ys fs st (t .going) r zs o count at eols e place
+        turn-behind = behind-asked bytes settings (t .size) (t .wide) (t .narrow) xs es ms ys fs ns st (t .going) r zs o count mark at eols e place
 
-        pub turn-next : length zs ≡ length ys → Turn bytes settings xs es zs (set fs (st .rows) (st .base + count)) (behindRow st count at eols)
+        pub turn-next : length zs ≡ length ys → Turn bytes settings xs es ms zs (set fs (st .rows) (st .base + count)) (set ns (st .rows) mark) (behindRow st count at eols)
         turn-next q = record {
           size = t .size;
           wide = t .wide;
           narrow = t .narrow;
-          going = going-next bytes settings (t .size) (t .wide) (t .narrow) xs es ys fs st (t .going) r zs o count at eols e place;
+          going = going-next bytes settings (t .size) (t .wide) (t .narrow) xs es ms ys fs ns st (t .going) r zs o count mark at eols e place;
           same-changes = q ∙ t .same-changes;
           same-ends = length-set fs (st .rows) (st .base + count) ∙ t .same-ends;
+          same-marks = length-set ns (st .rows) mark ∙ t .same-marks;
         }
 
         pub turn-falls : turnsLeft bytes (behindRow st count at eols) < turnsLeft bytes st
-        turn-falls = going-falls bytes settings (t .size) (t .wide) (t .narrow) xs es ys fs st (t .going) r zs o count at eols e place
+        turn-falls = going-falls bytes settings (t .size) (t .wide) (t .narrow) xs es ms ys fs ns st (t .going) r zs o count mark at eols e place
 
 -- ---- The tests before any reading
 
-module _ (bytes : List ℕ) (settings : DecodeSettings) (xs es : List ℕ) where
+module _ (bytes : List ℕ) (settings : DecodeSettings) (xs es ms : List ℕ) where
   abbrev said : Page.Answer
-  said = decode (settingsOf settings) bytes (length xs) (length es)
+  said = decode (settingsOf settings) bytes (length xs) (placesIn es ms)
 
   -- a refusal leaves everything as found
-  refused : (n : ℕ) → said ≡ Page.refusal n → Gives said xs es (answerOf (Page.refusal n)) xs es
-  unfolding changesAfter endsAfter joined endsFrom
+  refused : (n : ℕ) → said ≡ Page.refusal n → Gives said xs es ms (answerOf (Page.refusal n)) xs es ms
+  unfolding changesAfter endsAfter marksAfter joined endsFrom
   refused n e =
-      subst (λ (a : Page.Answer). Gives a xs es (answerOf (Page.refusal n)) xs es) (sym e)
-      (record { answer = refl; changes = sym (overlaid-nothing xs); ends = sym (overlaid-nothing es) })
+      subst (λ (a : Page.Answer). Gives a xs es ms (answerOf (Page.refusal n)) xs es ms) (sym e)
+      (record { answer = refl; changes = sym (overlaid-nothing xs); ends = sym (overlaid-nothing es); marks = sym (overlaid-nothing ms) })
 
-  pub refused-6 : settings .columns ≡ 4294967295 → Gives said xs es (answerOf (Page.refusal 6)) xs es
+  pub refused-6 : settings .columns ≡ 4294967295 → Gives said xs es ms (answerOf (Page.refusal 6)) xs es ms
   unfolding decode
   refused-6 e = refused 6 (rw (eq-eqb _ _ e, decode))
 
   module _ (narrow : settings .columns ≡ 4294967295 → ⊥) where
-    pub refused-7 : mostBytes < length bytes → Gives said xs es (answerOf (Page.refusal 7)) xs es
+    pub refused-7 : mostBytes < length bytes → Gives said xs es ms (answerOf (Page.refusal 7)) xs es ms
     unfolding decode
     refused-7 h = refused 7 (rw (ne-eqb _ _ narrow, lt-ltb _ _ h, decode))
 
     module _ (size : length bytes ≤ mostBytes) where
-      pub no-columns : settings .columns ≡ 0 → Gives said xs es (answerOf (Page.refusal 0)) xs es
+      pub no-columns : settings .columns ≡ 0 → Gives said xs es ms (answerOf (Page.refusal 0)) xs es ms
       unfolding decode
       no-columns e = refused 0 (rw (ne-eqb _ _ narrow, le-ltb _ _ size, eq-eqb _ _ e, decode))
 
-      pub page-read : (settings .columns ≡ 0 → ⊥) → {r : Answer} {ys fs : List ℕ} → Reads bytes settings xs es r ys fs → Gives said xs es r ys fs
+      pub page-read : (settings .columns ≡ 0 → ⊥) → {r : Answer} {ys fs ns : List ℕ} → Reads bytes settings xs es ms r ys fs ns → Gives said xs es ms r ys fs ns
       unfolding decode
-      page-read ne {r} {ys} {fs} g = subst (λ (a : Page.Answer). Gives a xs es r ys fs) (sym reads) g
+      page-read ne {r} {ys} {fs} {ns} g = subst (λ (a : Page.Answer). Gives a xs es ms r ys fs ns) (sym reads) g
         where
-          reads : said ≡ readPage (settingsOf settings) (bitsOf bytes) (length xs) (length es)
+          reads : said ≡ readPage (settingsOf settings) (bitsOf bytes) (length xs) (placesIn es ms)
           reads = rw (ne-eqb _ _ narrow, le-ltb _ _ size, ne-eqb _ _ ne, decode)
 
 -- ---- One row, by the encoding

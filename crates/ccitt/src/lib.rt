@@ -5,6 +5,7 @@ use rows::EncodingMode;
 use rows::Row;
 use rows::State;
 ghost use mathlib.Core.Path.{_≡_};
+ghost use Prim.Native.Nat.{min};
 ghost use Rattle.rows.specs.Between.{RowFrom};
 ghost use Rattle.ccitt.specs.Decode.{Rowed, counted, behindRow, Behind, PageFrom, Reads, Decodes};
 
@@ -48,6 +49,7 @@ fn counts(
 {
     Answer {
         number: number,
+        mark: 0,
         rows: rows as u64,
         entries: entries as u64,
         loose: loose as u64,
@@ -70,6 +72,13 @@ fn behind(state: State, count: usize, at: usize, eols: bool) -> State
     }
 }
 
+// A row's end and its mark lie at one place, so the shorter array says how many there are.
+fn places(ends: usize, marks: usize) -> usize
+    ensures { λ r. ⌜ r ≡ min ends marks ⌝ }
+{
+    if ends < marks { ends } else { marks }
+}
+
 fn page<'a>(
     white: &'a [u16; 8192],
     black: &'a [u16; 8192],
@@ -77,10 +86,12 @@ fn page<'a>(
     settings: DecodeSettings,
     changes: &mut [u32],
     ends: &mut [u64],
+    marks: &mut [u8],
 ) -> Answer
     requires { ⌜ PageFrom (now white) (now black) (now src) settings ⌝ }
-    ensures { λ r. ⌜ Reads (now (src .entry)) settings (now (changes .entry)) (now (ends .entry)) r (now (changes .exit)) (now (ends .exit)) ⌝ }
+    ensures { λ r. ⌜ Reads (now (src .entry)) settings (now (changes .entry)) (now (ends .entry)) (now (marks .entry)) r (now (changes .exit)) (now (ends .exit)) (now (marks .exit)) ⌝ }
 {
+    let places = places(ends.len(), marks.len());
     let mut state = State {
         at: 0,
         rows: 0,
@@ -93,12 +104,13 @@ fn page<'a>(
             Row::Stop(number, place, bytes, loose) => {
                 return counts(number, place, state.rows, state.base, loose, bytes);
             }
-            Row::Kept(count, at, eols) => {
+            Row::Kept(count, mark, at, eols) => {
                 let rows = state.rows;
-                if ends.len() <= rows {
+                if places <= rows {
                     return counts(5, 0, rows, state.base, count, 0);
                 }
                 ends[rows] = wide(state.base + count);
+                marks[rows] = mark as u8;
                 state = behind(state, count, at, eols);
             }
         }
@@ -106,8 +118,14 @@ fn page<'a>(
 }
 
 // A page into lent arrays. The lookup tables are made once, here: a constant is built anew wherever it is used.
-pub fn decode(src: &[u8], settings: DecodeSettings, changes: &mut [u32], ends: &mut [u64]) -> Answer
-    ensures { λ r. ⌜ Decodes (now (src .entry)) settings (now (changes .entry)) (now (ends .entry)) r (now (changes .exit)) (now (ends .exit)) ⌝ }
+pub fn decode(
+    src: &[u8],
+    settings: DecodeSettings,
+    changes: &mut [u32],
+    ends: &mut [u64],
+    marks: &mut [u8],
+) -> Answer
+    ensures { λ r. ⌜ Decodes (now (src .entry)) settings (now (changes .entry)) (now (ends .entry)) (now (marks .entry)) r (now (changes .exit)) (now (ends .exit)) (now (marks .exit)) ⌝ }
 {
     if settings.columns == 4294967295 {
         return error::refusal(6);
@@ -120,5 +138,5 @@ pub fn decode(src: &[u8], settings: DecodeSettings, changes: &mut [u32], ends: &
     }
     let white = tables::white_lookup();
     let black = tables::black_lookup();
-    page(&white, &black, src, settings, changes, ends)
+    page(&white, &black, src, settings, changes, ends, marks)
 }

@@ -18,7 +18,7 @@ firstTests columns bytes = cond (noLine columns) 6 (cond (ltb mostBytes bytes) 7
 
 -- "A writer's 0 gives the bit after the line, or the page's bytes; its other counts are 0."
 abbrev pub answerFor : ℕ → ℕ → Answer
-answerFor number end = answerOf (record { number = number; place = 0; bytes = end; rows = []; loose = [] })
+answerFor number end = answerOf (record { number = number; place = 0; bytes = end; rows = []; marks = []; loose = [] })
 
 abbrev pub doneAt : ℕ → Answer
 doneAt end = answerFor 0 end

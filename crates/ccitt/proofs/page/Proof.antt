@@ -1,27 +1,28 @@
-use Rattle.ccitt.proofs.Paging.{Turn, turnsLeft, turn-start, turn-asked, turn-stopped, turn-full, turn-behind, turn-next, turn-falls}
+-- `ccitt::page` meets its contract. The invariant: the machine stands where the arrays say, and `places` is the shorter of the two. Assumes nothing.
+use mathlib.Core.Path.{_≡_}
+use Rattle.rules.specs.Pages.{placesIn}
+use Rattle.ccitt.proofs.Paging.{Turn, turnsLeft, turn-start, turn-asked, turn-stopped, turn-full, turn-marked, turn-behind, turn-next, turn-falls}
 use borrow.Author.Needs.{needs}
 use native.Mathlib.Omega.{arith}
 use denote.Ref.{now}
 use Rattle.ccitt.proofs.page.Statement.{statement}
 use Rattle.ccitt.proofs.page.Tie as tie
-use Rattle.ccitt.proofs.page.Reads as reads
-use Rattle.ccitt.proofs.page.Lts as lts
-use Rattle.ccitt.proofs.behind.Reads as behind-reads
-use Rattle.ccitt.proofs.counts.Reads as counts-reads
-use Rattle.ccitt.proofs.row.Reads as row-reads
-use Rattle.ccitt.proofs.wide.Reads as wide-reads
 
 abbrev Inv-loop : tie.InvT-loop
-Inv-loop white black src settings changes₀ ends₀ state₀ changes ends state = Turn src settings changes₀ ends₀ changes ends state
+Inv-loop white black src settings changes₀ ends₀ marks₀ places state₀ changes ends marks state =
+    (places ≡ placesIn ends₀ marks₀) × Turn src settings changes₀ ends₀ marks₀ changes ends marks state
 
 abbrev μ-loop : tie.MeasureT-loop
-μ-loop white black src settings changes₀ ends₀ state₀ changes ends state = turnsLeft src state
+μ-loop white black src settings changes₀ ends₀ marks₀ places state₀ changes ends marks state = turnsLeft src state
+
+places-requires : tie.Need-places-requires Inv-loop μ-loop
+places-requires c κs = search needs
 
 loop-holds : tie.Need-loop-holds Inv-loop μ-loop
-loop-holds c = let s = c .before .before .before in turn-start (now (s .args .src)) (s .args .settings) (now (s .args .changes)) (now (s .args .ends)) (s .pre)
+loop-holds c = let s = c .before .before .before .before .before in (c .places .ensures, turn-start (now (s .args .src)) (s .args .settings) (now (s .args .changes)) (now (s .args .ends)) (now (s .args .marks)) (s .pre))
 
 row-requires : tie.Need-row-requires Inv-loop μ-loop
-row-requires c κs = turn-asked (c .before .loop .inv) (c .before .before .before .before .before .pre .lookups)
+row-requires c κs = turn-asked (c .before .loop .inv .1) (c .before .before .before .before .before .before .before .pre .lookups)
 
 enum-known-number : tie.Need-enum-known-number Inv-loop μ-loop
 enum-known-number c = search needs
@@ -35,8 +36,11 @@ same-length c = search needs
 same-length-2 : tie.Need-same-length-2 Inv-loop μ-loop
 same-length-2 c = search needs
 
+same-length-3 : tie.Need-same-length-3 Inv-loop μ-loop
+same-length-3 c = search needs
+
 returns : tie.Need-returns Inv-loop μ-loop
-returns c = let g = turn-stopped (c .before .before .before .before .before .before .before .before .loop .inv) (c .before .before .before .before .before .before .row .ensures) (c .before .before .number .given .1) in rw (c .counts .ensures) g
+returns c = rw (c .counts .ensures) (turn-stopped (c .before .before .before .before .before .before .before .before .loop .inv .1) (c .before .before .before .before .before .before .row .ensures) (c .before .before .number .given .1))
 
 enum-known-count : tie.Need-enum-known-count Inv-loop μ-loop
 enum-known-count c = search needs
@@ -44,35 +48,44 @@ enum-known-count c = search needs
 counts-requires-2 : tie.Need-counts-requires-2 Inv-loop μ-loop
 counts-requires-2 c κs = search needs
 
-same-length-3 : tie.Need-same-length-3 Inv-loop μ-loop
-same-length-3 c = search needs
-
 same-length-4 : tie.Need-same-length-4 Inv-loop μ-loop
 same-length-4 c = search needs
 
+same-length-5 : tie.Need-same-length-5 Inv-loop μ-loop
+same-length-5 c = search needs
+
+same-length-6 : tie.Need-same-length-6 Inv-loop μ-loop
+same-length-6 c = search needs
+
 returns-2 : tie.Need-returns-2 Inv-loop μ-loop
-returns-2 c = let g = turn-full (c .before .before .before .before .before .before .before .before .before .loop .inv) (c .before .before .before .before .before .before .before .row .ensures) (c .before .before .before .count .given .1) (omega (arith, c .before .if1 .taken, c .before .before .before .before .before .before .before .before .before .loop .inv .same-ends)) in rw (c .counts2 .ensures) g
+returns-2 c = rw (c .counts2 .ensures) (turn-full (c .before .before .before .before .before .before .before .before .before .loop .inv .1) (c .before .before .before .before .before .before .before .row .ensures) (c .before .before .before .count .given .1) (omega (arith, c .before .if1 .taken, c .before .before .before .before .before .before .before .before .before .loop .inv .0)))
 
 add-wide : tie.Need-add-wide Inv-loop μ-loop
-add-wide c = let h = turn-behind (c .before .before .before .before .before .before .before .before .before .loop .inv) (c .before .before .before .before .before .before .before .row .ensures) (c .before .before .before .count .given .1) (omega (arith, c .before .if1 .left, c .before .before .before .before .before .before .before .before .before .loop .inv .same-ends)) in record { fits = omega (arith, h .few-entries) }
+add-wide c = let h = turn-behind (c .before .before .before .before .before .before .before .before .before .loop .inv .1) (c .before .before .before .before .before .before .before .row .ensures) (c .before .before .before .count .given .1) (omega (arith, c .before .if1 .left, c .before .before .before .before .before .before .before .before .before .loop .inv .0)) in record { fits = omega (arith, h .few-entries) }
 
 wide-requires : tie.Need-wide-requires Inv-loop μ-loop
 wide-requires c κs = search needs
 
 mul-ends : tie.Need-mul-ends Inv-loop μ-loop
-mul-ends c = let h = turn-behind (c .before .before .before .before .before .before .before .before .before .before .loop .inv) (c .before .before .before .before .before .before .before .before .row .ensures) (c .before .before .before .before .count .given .1) (omega (arith, c .before .before .if1 .left, c .before .before .before .before .before .before .before .before .before .before .loop .inv .same-ends)) in record { fits = omega (arith, h .few-rows) }
+mul-ends c = let h = turn-behind (c .before .before .before .before .before .before .before .before .before .before .loop .inv .1) (c .before .before .before .before .before .before .before .before .row .ensures) (c .before .before .before .before .count .given .1) (omega (arith, c .before .before .if1 .left, c .before .before .before .before .before .before .before .before .before .before .loop .inv .0)) in record { fits = omega (arith, h .few-rows) }
 
 slice-write-ends : tie.Need-slice-write-ends Inv-loop μ-loop
-slice-write-ends c = omega (arith, c .before .before .if1 .left)
+slice-write-ends c = omega (arith, c .before .before .if1 .left, c .before .before .before .before .before .before .before .before .before .before .loop .inv .0, c .before .before .before .before .before .before .before .before .before .before .loop .inv .1 .same-ends)
+
+cast-marks : tie.Need-cast-marks Inv-loop μ-loop
+cast-marks c = record { fits = omega (arith, turn-marked (c .before .before .before .before .before .before .before .before .before .before .loop .inv .1) (c .before .before .before .before .before .before .before .before .row .ensures) (c .before .before .before .before .count .given .1)) }
+
+slice-write-marks : tie.Need-slice-write-marks Inv-loop μ-loop
+slice-write-marks c = omega (arith, c .before .before .if1 .left, c .before .before .before .before .before .before .before .before .before .before .loop .inv .0, c .before .before .before .before .before .before .before .before .before .before .loop .inv .1 .same-marks)
 
 behind-requires : tie.Need-behind-requires Inv-loop μ-loop
-behind-requires c κs = turn-behind (c .before .before .before .before .before .before .before .before .before .before .loop .inv) (c .before .before .before .before .before .before .before .before .row .ensures) (c .before .before .before .before .count .given .1) (omega (arith, c .before .before .if1 .left, c .before .before .before .before .before .before .before .before .before .before .loop .inv .same-ends))
+behind-requires c κs = turn-behind (c .before .before .before .before .before .before .before .before .before .before .loop .inv .1) (c .before .before .before .before .before .before .before .before .row .ensures) (c .before .before .before .before .count .given .1) (omega (arith, c .before .before .if1 .left, c .before .before .before .before .before .before .before .before .before .before .loop .inv .0))
 
 loop-less : tie.Need-loop-less Inv-loop μ-loop
-loop-less c = rw (c .behind .ensures) (turn-falls (c .before .before .before .before .before .before .before .before .before .before .before .loop .inv) (c .before .before .before .before .before .before .before .before .before .row .ensures) (c .before .before .before .before .before .count .given .1) (omega (arith, c .before .before .before .if1 .left, c .before .before .before .before .before .before .before .before .before .before .before .loop .inv .same-ends)))
+loop-less c = rw (c .behind .ensures) (turn-falls (c .before .before .before .before .before .before .before .before .before .before .before .loop .inv .1) (c .before .before .before .before .before .before .before .before .before .row .ensures) (c .before .before .before .before .before .count .given .1) (omega (arith, c .before .before .before .if1 .left, c .before .before .before .before .before .before .before .before .before .before .before .loop .inv .0)))
 
 loop-again : tie.Need-loop-again Inv-loop μ-loop
-loop-again c = rw (c .behind .ensures, c .before .wide .ensures) (turn-next (c .before .before .before .before .before .before .before .before .before .before .before .loop .inv) (c .before .before .before .before .before .before .before .before .before .row .ensures) (c .before .before .before .before .before .count .given .1) (omega (arith, c .before .before .before .if1 .left, c .before .before .before .before .before .before .before .before .before .before .before .loop .inv .same-ends)) (c .before .before .before .before .before .before .before .before .changes .given))
+loop-again c = (c .before .before .before .before .before .before .before .before .before .before .before .loop .inv .0, rw (c .behind .ensures, c .before .wide .ensures) (turn-next (c .before .before .before .before .before .before .before .before .before .before .before .loop .inv .1) (c .before .before .before .before .before .before .before .before .before .row .ensures) (c .before .before .before .before .before .count .given .1) (omega (arith, c .before .before .before .if1 .left, c .before .before .before .before .before .before .before .before .before .before .before .loop .inv .0)) (c .before .before .before .before .before .before .before .before .changes .given)))
 
 pub page-spec : {M : Type 1} → statement M
 page-spec =
@@ -80,22 +93,27 @@ page-spec =
     (tie.spec
     Inv-loop
     μ-loop
+    places-requires
     loop-holds
     row-requires
     enum-known-number
     counts-requires
     same-length
     same-length-2
+    same-length-3
     returns
     enum-known-count
     counts-requires-2
-    same-length-3
     same-length-4
+    same-length-5
+    same-length-6
     returns-2
     add-wide
     wide-requires
     mul-ends
     slice-write-ends
+    cast-marks
+    slice-write-marks
     behind-requires
     loop-less
     loop-again)
