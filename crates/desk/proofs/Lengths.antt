@@ -65,35 +65,48 @@ line-is : (word : String) (ns : List ℕ) → length (textLine word ns) ≡ leng
 unfolding textLine
 line-is word ns = omega (arith, length-append (ascii word) (tabbed ns ++ newline ∷ []), length-append (tabbed ns) (newline ∷ []))
 
-row-short : (n : ℕ) (row : List ℕ) → n < 2 ^ 64 → length row < 2 ^ 64 → Words row → length (rowLine n row) ≤ 46 + 11 * length row
+row-short : (n mark : ℕ) (row : List ℕ) → n < 2 ^ 64 → mark < 256 → length row < 2 ^ 64 → Words row → length (rowLine n mark row) ≤ 50 + 11 * length row
 unfolding ascii
-row-short n row h l w =
+row-short n mark row h k l w =
     omega (
       arith,
-      line-is "row" (n ∷ length row ∷ row),
-      tabbed-is n (length row ∷ row),
+      line-is "row" (n ∷ mark ∷ length row ∷ row),
+      tabbed-is n (mark ∷ length row ∷ row),
+      tabbed-is mark (length row ∷ row),
       tabbed-is (length row) row,
       decimal-short 19 n (omega arith),
+      decimal-short 2 mark (omega arith),
       decimal-short 19 (length row) (omega arith),
       tabbed-short row w,
     )
 
+-- marks, which are bytes
+abbrev pub Marks : List ℕ → Type 0
+Marks ms = (i : ℕ) → getD ms i 0 < 256
+
+pub marks-take : (n : ℕ) (ms : List ℕ) → Marks ms → Marks (take n ms)
+marks-take zero ms k i = omega arith
+marks-take (suc n) [] k i = omega arith
+marks-take (suc n) (m ∷ ms) k zero = k 0
+marks-take (suc n) (m ∷ ms) k (suc i) = marks-take n ms (λ j. k (suc j)) i
+
 -- the rows that are left have the changes from `base` on
-rows-short : (changes : List ℕ) → Words changes → length changes < 2 ^ 64 → (ends : List ℕ) (n base : ℕ) → n + length ends ≤ 2 ^ 64 → base ≤ length changes
+rows-short : (changes : List ℕ) → Words changes → length changes < 2 ^ 64 → (ends marks : List ℕ) → Marks marks → (n base : ℕ) → n + length ends ≤ 2 ^ 64 → base ≤ length changes
     → endsRise (length changes) base ends ≡ true
-    → length (rowLines n (rowsIn base changes ends)) + 11 * base ≤ 46 * length ends + 11 * length changes
+    → length (rowLines n (rowsIn base changes ends) marks) + 11 * base ≤ 50 * length ends + 11 * length changes
 unfolding rowLines rowsIn
-rows-short changes w f [] n base h l r = omega arith
-rows-short changes w f (e ∷ ends) n base h l r =
+rows-short changes w f [] marks k n base h l r = omega arith
+rows-short changes w f (e ∷ ends) [] k n base h l r = omega arith
+rows-short changes w f (e ∷ ends) (m ∷ marks) k n base h l r =
     let s = rises (length changes) base e ends r in
     let row = rowTo changes base e in
     let size : length row ≡ e - base = length-take-le (e - base) (drop base changes) (omega (arith, s .low, s .high, length-drop base changes)) in
     omega (
       arith,
       s .low,
-      length-append (rowLine n row) (rowLines (suc n) (rowsIn e changes ends)),
-      row-short n row (omega arith) (omega (arith, size, s .high, f)) (words-take (e - base) (drop base changes) (words-drop base changes w)),
-      rows-short changes w f ends (suc n) e (omega arith) (s .high) (s .rest),
+      length-append (rowLine n m row) (rowLines (suc n) (rowsIn e changes ends) marks),
+      row-short n m row (omega arith) (k 0) (omega (arith, size, s .high, f)) (words-take (e - base) (drop base changes) (words-drop base changes w)),
+      rows-short changes w f ends marks (λ i. k (suc i)) (suc n) e (omega arith) (s .high) (s .rest),
     )
 
 pub rows-count : (changes ends : List ℕ) (base : ℕ) → length (rowsIn base changes ends) ≡ length ends
@@ -120,18 +133,18 @@ stop-short a b c h l m =
       decimal-short 19 c (omega arith),
     )
 
-pub listing-short : (columns answer bytes : ℕ) (changes ends : List ℕ) → columns < 4294967296 → answer < 4294967296 → bytes < 2 ^ 64 → length ends < 2 ^ 64
-    → Words changes → length changes < 2 ^ 64 → Rising changes ends
-    → length (listingText columns answer (rowsIn 0 changes ends) bytes) ≤ 77 + 46 * length ends + 11 * length changes
+pub listing-short : (columns answer bytes : ℕ) (changes ends marks : List ℕ) → columns < 4294967296 → answer < 4294967296 → bytes < 2 ^ 64 → length ends < 2 ^ 64
+    → Words changes → length changes < 2 ^ 64 → Marks marks → Rising changes ends
+    → length (listingText columns answer (rowsIn 0 changes ends) marks bytes) ≤ 77 + 50 * length ends + 11 * length changes
 unfolding listingText
-listing-short columns answer bytes changes ends hc ha hb he w f r =
+listing-short columns answer bytes changes ends marks hc ha hb he w f k r =
     let rows = rowsIn 0 changes ends in
     let stop = textLine "stop" (answer ∷ length rows ∷ bytes ∷ []) in
     omega (
       arith,
-      length-append (textLine "columns" (columns ∷ [])) (rowLines 1 rows ++ stop),
-      length-append (rowLines 1 rows) stop,
+      length-append (textLine "columns" (columns ∷ [])) (rowLines 1 rows marks ++ stop),
+      length-append (rowLines 1 rows marks) stop,
       columns-short columns hc,
-      rows-short changes w f ends 1 0 (omega arith) (omega arith) r,
+      rows-short changes w f ends marks k 1 0 (omega arith) (omega arith) r,
       stop-short answer (length rows) bytes ha (omega (arith, rows-count changes ends 0)) hb,
     )

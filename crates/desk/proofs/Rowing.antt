@@ -1,5 +1,5 @@
 -- Laws of the rows of a store, listed one by one. Assumes nothing.
-use mathlib.Core.Path.{_≡_, refl, sym, ap, _∙_}
+use mathlib.Core.Path.{_≡_, refl, sym, ap, ap₂, _∙_}
 use mathlib.Core.Bool.{Bool, true, false, _&&_}
 use mathlib.Core.List.{List, _∷_, _++_}
 use Prim.Native.Nat.{ℕ, suc, _+_, _-_, _≤_, _<_}
@@ -35,19 +35,20 @@ rises entries base e es h = tests (leb base e) (leb e entries) (endsRise entries
     tests false b c p q r f = absurd (let z : _≡_ {A = ℕ} 0 1 = cc in omega arith)
 
 -- k rows are listed, and those from `base` on are left
-pub record Rowing (changes ends : List ℕ) (at : ℕ) (start : List ℕ) (p base k : ℕ) (out : List ℕ) : Type 0 where
+pub record Rowing (changes ends marks : List ℕ) (at : ℕ) (start : List ℕ) (p base k : ℕ) (out : List ℕ) : Type 0 where
   pub few : k ≤ length ends
+  pub marked : length ends ≤ length marks
   pub within : base ≤ length changes
   pub rising : endsRise (length changes) base (drop k ends) ≡ true
-  pub owes : Owes at (rowLines 1 (rowsIn 0 changes ends)) start p (rowLines (k + 1) (rowsIn base changes (drop k ends))) out
+  pub owes : Owes at (rowLines 1 (rowsIn 0 changes ends) marks) start p (rowLines (k + 1) (rowsIn base changes (drop k ends)) (drop k marks)) out
 
-pub no-row : {changes ends : List ℕ} {at : ℕ} {start : List ℕ} → Room start at (rowLines 1 (rowsIn 0 changes ends)) → Rising changes ends → Rowing changes ends at start at 0 0 start
-no-row h r = record { few = omega arith; within = omega arith; rising = r; owes = owes-all h }
+pub no-row : {changes ends marks : List ℕ} {at : ℕ} {start : List ℕ} → Room start at (rowLines 1 (rowsIn 0 changes ends) marks) × Rising changes ends × (length ends ≤ length marks) → Rowing changes ends marks at start at 0 0 start
+no-row (h, r, m) = record { few = omega arith; marked = m; within = omega arith; rising = r; owes = owes-all h }
 
-module _ {changes ends : List ℕ} {at : ℕ} {start : List ℕ} {p base k : ℕ} {out : List ℕ} (w : Rowing changes ends at start p base k out) where
-  pub rows-put : length ends ≤ k → Puts start at (rowLines 1 (rowsIn 0 changes ends)) p out
+module _ {changes ends marks : List ℕ} {at : ℕ} {start : List ℕ} {p base k : ℕ} {out : List ℕ} (w : Rowing changes ends marks at start p base k out) where
+  pub rows-put : length ends ≤ k → Puts start at (rowLines 1 (rowsIn 0 changes ends) marks) p out
   unfolding rowLines rowsIn
-  rows-put h = owes-none (w .owes) (ap (λ (es : List ℕ). rowLines (k + 1) (rowsIn base changes es)) (drop-of-length-le ends h))
+  rows-put h = owes-none (w .owes) (ap (λ (es : List ℕ). rowLines (k + 1) (rowsIn base changes es) (drop k marks)) (drop-of-length-le ends h))
 
   module _ (h : k < length ends) where
     abbrev end : ℕ
@@ -56,18 +57,23 @@ module _ {changes ends : List ℕ} {at : ℕ} {start : List ℕ} {p base k : ℕ
     pub end-rises : Rises (length changes) base end (drop (k + 1) ends)
     end-rises = rises (length changes) base end (drop (k + 1) ends) (sym (ap (endsRise (length changes) base) (split ends k h)) ∙ w .rising)
 
-    row-next : rowLines (k + 1) (rowsIn base changes (drop k ends)) ≡ rowLine (k + 1) (rowTo changes base end) ++ rowLines (k + 1 + 1) (rowsIn end changes (drop (k + 1) ends))
+    abbrev mark : ℕ
+    mark = getD marks k 0
+
+    row-next : rowLines (k + 1) (rowsIn base changes (drop k ends)) (drop k marks)
+        ≡ rowLine (k + 1) mark (rowTo changes base end) ++ rowLines (k + 1 + 1) (rowsIn end changes (drop (k + 1) ends)) (drop (k + 1) marks)
     unfolding rowLines rowsIn
     row-next =
-        ap (λ (es : List ℕ). rowLines (k + 1) (rowsIn base changes es)) (split ends k h)
-        ∙ (let e : suc (k + 1) ≡ k + 1 + 1 = omega arith in ap (λ (n : ℕ). rowLine (k + 1) (rowTo changes base end) ++ rowLines n (rowsIn end changes (drop (k + 1) ends))) e)
+        ap₂ (λ (es ms : List ℕ). rowLines (k + 1) (rowsIn base changes es) ms) (split ends k h) (split marks k (omega (arith, w .marked)))
+        ∙ (let e : suc (k + 1) ≡ k + 1 + 1 = omega arith in ap (λ (n : ℕ). rowLine (k + 1) mark (rowTo changes base end) ++ rowLines n (rowsIn end changes (drop (k + 1) ends)) (drop (k + 1) marks)) e)
 
-    pub row-room : Room out p (rowLine (k + 1) (rowTo changes base end))
+    pub row-room : Room out p (rowLine (k + 1) mark (rowTo changes base end))
     row-room = owes-room (w .owes) _ _ row-next
 
-    pub row-put : {q : ℕ} {out′ : List ℕ} → Puts out p (rowLine (k + 1) (rowTo changes base end)) q out′ → Rowing changes ends at start q end (k + 1) out′
+    pub row-put : {q : ℕ} {out′ : List ℕ} → Puts out p (rowLine (k + 1) mark (rowTo changes base end)) q out′ → Rowing changes ends marks at start q end (k + 1) out′
     row-put f = record {
       few = omega arith;
+      marked = w .marked;
       within = end-rises .high;
       rising = end-rises .rest;
       owes = owes-some (w .owes) _ _ row-next f;

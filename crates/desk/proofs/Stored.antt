@@ -11,22 +11,24 @@ use borrow.Author.Tests.{eqb-false, le-leb}
 use Rattle.rules.specs.Bits.{bitsOf}
 use Rattle.rules.specs.Rows.{Settings}
 use Rattle.rules.specs.Pages as Page
-use Rattle.rules.specs.Pages.{entries, mostBytes, tooWide, refusal, readPage, decode, overlaid, joined, endsFrom, changesAfter, endsAfter}
+use Rattle.rules.specs.Pages.{entries, mostBytes, tooWide, refusal, readPage, decode, placesIn, overlaid, joined, endsFrom, changesAfter, endsAfter, marksAfter}
 use Rattle.rules.specs.Write.{rowsIn, endsRise}
 use Rattle.rules.proofs.Bits.{length-bitsOf}
 use Rattle.rules.proofs.Pages.{read-answered}
+use Rattle.rules.proofs.Marks.{page-came, came-as-many}
 use Rattle.rules.proofs.Store.{length-overlaid, length-joined, length-ends, rows-back}
 use Rattle.error.specs.Error.{answerOf}
 use Rattle.desk.specs.Listed.{Listing, rowsKept}
 
--- an answer whose rows and loose entries the arrays hold
+-- an answer whose rows, marks and loose entries the arrays hold
 pub record Holds (store places : ℕ) (a : Page.Answer) : Type 0 where
   pub placed : length (a .rows) ≤ places
+  pub as-many : length (a .marks) ≡ length (a .rows)
   pub roomy : entries (a .rows) + length (a .loose) ≤ store
 
 refusal-held : (store places n : ℕ) → Holds store places (refusal n)
 unfolding entries
-refusal-held store places n = record { placed = omega arith; roomy = omega arith }
+refusal-held store places n = record { placed = omega arith; as-many = refl; roomy = omega arith }
 
 pub decode-held : (S : Settings) (bytes : List ℕ) (store places : ℕ) → Holds store places (decode S bytes store places)
 unfolding decode
@@ -36,7 +38,7 @@ decode-held S bytes store places = tests (tooWide (S .columns)) (ltb mostBytes (
     page e =
         let n = eqb-false (S .columns) 0 e in
         let a = read-answered (S .encoding) S (omega (arith, n)) (bitsOf bytes) (record { count = length bytes; whole = length-bitsOf bytes }) store places refl in
-        record { placed = a .placed; roomy = a .roomy }
+        record { placed = a .placed; as-many = came-as-many (page-came S (bitsOf bytes) store places .1); roomy = a .roomy }
 
     tests : (wide large none : Bool) → eqb (S .columns) 0 ≡ none
         → Holds store places (elim wide [ true ↦ refusal 6 | false ↦ elim large [ true ↦ refusal 7 | false ↦ elim none [ true ↦ refusal 0 | false ↦ readPage S (bitsOf bytes) store places ] ] ])
@@ -52,10 +54,14 @@ ends-rise store base [] h = refl
 ends-rise store base (r ∷ rows) h =
     rw (le-leb base (base + length r) (omega arith), le-leb (base + length r) store (omega arith)) (ends-rise store (base + length r) rows (omega arith))
 
-module _ (a : Page.Answer) (xs es : List ℕ) (h : Holds (length xs) (length es) a) where
+module _ (a : Page.Answer) (xs es ms : List ℕ) (h : Holds (length xs) (placesIn es ms) a) where
   ends-kept : take (length (a .rows)) (endsAfter a es) ≡ endsFrom 0 (a .rows)
   unfolding endsAfter overlaid
   ends-kept = take-at (endsFrom 0 (a .rows)) (drop (length (endsFrom 0 (a .rows))) es) (length (a .rows)) (length-ends 0 (a .rows))
+
+  pub marks-kept : take (length (a .rows)) (marksAfter a ms) ≡ a .marks
+  unfolding marksAfter overlaid
+  marks-kept = take-at (a .marks) (drop (length (a .marks)) ms) (length (a .rows)) (h .as-many)
 
   changes-long : length (changesAfter a xs) ≡ length xs
   unfolding changesAfter
@@ -69,10 +75,11 @@ module _ (a : Page.Answer) (xs es : List ℕ) (h : Holds (length xs) (length es)
       let rest = drop (length (front ++ a .loose)) xs in
       ap₂ (λ (ys fs : List ℕ). rowsIn 0 ys fs) (append-assoc front (a .loose) rest) ends-kept ∙ rows-back (a .rows) (a .loose ++ rest)
 
-  pub can-list : (out : List ℕ) → 77 + 46 * length es + 11 * length xs ≤ length out → Listing out (answerOf a) (changesAfter a xs) (endsAfter a es)
-  unfolding endsAfter
+  pub can-list : (out : List ℕ) → 77 + 50 * length es + 11 * length xs ≤ length out → Listing out (answerOf a) (changesAfter a xs) (endsAfter a es) (marksAfter a ms)
+  unfolding endsAfter marksAfter
   can-list out room = record {
     placed = omega (arith, h .placed, length-overlaid (endsFrom 0 (a .rows)) es (omega (arith, h .placed, length-ends 0 (a .rows))));
+    marked = omega (arith, h .placed, h .as-many, length-overlaid (a .marks) ms (omega (arith, h .placed, h .as-many)));
     rising = rw (changes-long, ends-kept) (ends-rise (length xs) 0 (a .rows) (omega (arith, h .roomy)));
     room = omega (arith, room, h .placed, changes-long);
   }

@@ -13,7 +13,8 @@ line : settingsLine (record { columns = 8; rows = 2; endOfBlock = false; endOfLi
 unfolding settingsLine settingsNumbers parted decimal digits ascii
 line = refl
 
-listing : listingText 8 0 ((2 ∷ 5 ∷ []) ∷ [] ∷ []) 5 ≡ ascii "columns\t8\nrow\t1\t2\t2\t5\nrow\t2\t0\nstop\t0\t2\t5\n"
+-- with the marks of the two rows, as A5 gives them
+listing : listingText 8 0 ((2 ∷ 5 ∷ []) ∷ [] ∷ []) (2 ∷ 0 ∷ []) 5 ≡ ascii "columns\t8\nrow\t1\t2\t2\t2\t5\nrow\t2\t0\t0\nstop\t0\t2\t5\n"
 unfolding listingText rowLines textLine tabbed decimal digits ascii
 listing = refl
 

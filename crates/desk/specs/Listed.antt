@@ -17,15 +17,16 @@ Rising changes ends = endsRise (length changes) 0 ends ≡ true
 abbrev pub rowsKept : Answer → List ℕ → List ℕ → List (List ℕ)
 rowsKept answer changes ends = rowsIn 0 changes (take (answer .rows) ends)
 
--- Room for all lines, each number at its longest: 19 bytes for the columns, 46 for a row and 11 for each of its changes, 58 for the stop
-pub record Listing (out : List ℕ) (answer : Answer) (changes ends : List ℕ) : Type 0 where
+-- Room for all lines, each number at its longest: 19 bytes for the columns, 50 for a row with its mark and 11 for each of its changes, 58 for the stop
+pub record Listing (out : List ℕ) (answer : Answer) (changes ends marks : List ℕ) : Type 0 where
   pub placed : answer .rows ≤ length ends
+  pub marked : answer .rows ≤ length marks
   pub rising : Rising changes (take (answer .rows) ends)
-  pub room : 77 + 46 * answer .rows + 11 * length changes ≤ length out
+  pub room : 77 + 50 * answer .rows + 11 * length changes ≤ length out
 
 -- the listing of an answer whose rows a store keeps
-abbrev pub listingOf : ℕ → Answer → List ℕ → List ℕ → List ℕ
-listingOf columns answer changes ends = listingText columns (answer .number) (rowsKept answer changes ends) (answer .bytes)
+abbrev pub listingOf : ℕ → Answer → List ℕ → List ℕ → List ℕ → List ℕ
+listingOf columns answer changes ends marks = listingText columns (answer .number) (rowsKept answer changes ends) (take (answer .rows) marks) (answer .bytes)
 
 -- a text at the front of the lent array, and its length
 pub record Prints (before text : List ℕ) (r : ℕ) (after : List ℕ) : Type 0 where

@@ -14,19 +14,20 @@ tabbed (n ∷ ns) = (tab ∷ decimal n) ++ tabbed ns
 unfoldable pub textLine : String → List ℕ → List ℕ
 textLine word ns = ascii word ++ (tabbed ns ++ newline ∷ [])
 
--- "A row line has number, count, changes"
-abbrev pub rowLine : ℕ → List ℕ → List ℕ
-rowLine number row = textLine "row" (number ∷ length row ∷ row)
+-- "A row line has number, count, changes"; "the mark (0, 1 or 2) follows the row number" (A5)
+abbrev pub rowLine : ℕ → ℕ → List ℕ → List ℕ
+rowLine number mark row = textLine "row" (number ∷ mark ∷ length row ∷ row)
 
--- the rows from a number on
-unfoldable pub rowLines : ℕ → List (List ℕ) → List ℕ
-rowLines number [] = []
-rowLines number (r ∷ rs) = rowLine number r ++ rowLines (suc number) rs
+-- the rows from a number on, each with its mark
+unfoldable pub rowLines : ℕ → List (List ℕ) → List ℕ → List ℕ
+rowLines number [] ms = []
+rowLines number (r ∷ rs) [] = []
+rowLines number (r ∷ rs) (m ∷ ms) = rowLine number m r ++ rowLines (suc number) rs ms
 
 -- "the last has answer, rows, bytes"
-unfoldable pub listingText : ℕ → ℕ → List (List ℕ) → ℕ → List ℕ
-listingText columns answer rows bytes =
-    textLine "columns" (columns ∷ []) ++ (rowLines 1 rows ++ textLine "stop" (answer ∷ length rows ∷ bytes ∷ []))
+unfoldable pub listingText : ℕ → ℕ → List (List ℕ) → List ℕ → ℕ → List ℕ
+listingText columns answer rows marks bytes =
+    textLine "columns" (columns ∷ []) ++ (rowLines 1 rows marks ++ textLine "stop" (answer ∷ length rows ∷ bytes ∷ []))
 
 -- "Longer data or another settings line prints `bad input` alone."
 unfoldable pub badInput : List ℕ

@@ -4,6 +4,8 @@ use crate::put::put_field;
 use crate::put::put_text;
 use error::Answer;
 ghost use mathlib.Core.List.{[], _∷_};
+ghost use Prim.Native.Nat.{_≤_};
+ghost use lib.ListN.{length};
 ghost use Rattle.rules.specs.Write.{rowsIn};
 ghost use Rattle.desk.specs.Sheet.{tabbed, textLine, rowLine, rowLines, badInput};
 ghost use Rattle.desk.specs.Writing.{Room, Puts};
@@ -31,30 +33,32 @@ fn put_columns(out: &mut [u8], at: usize, columns: u32) -> usize
     put_byte(out, p, b'\n')
 }
 
-fn put_row(out: &mut [u8], at: usize, number: usize, row: &[u32]) -> usize
-    requires { ⌜ Room (now out) at (rowLine number (now row)) ⌝ }
-    ensures { λ r. ⌜ Puts (now (out .entry)) at (rowLine number (now (row .entry))) r (now (out .exit)) ⌝ }
+fn put_row(out: &mut [u8], at: usize, number: usize, mark: u8, row: &[u32]) -> usize
+    requires { ⌜ Room (now out) at (rowLine number mark (now row)) ⌝ }
+    ensures { λ r. ⌜ Puts (now (out .entry)) at (rowLine number mark (now (row .entry))) r (now (out .exit)) ⌝ }
 {
     let p = put_text(out, at, b"row");
     let p = put_field(out, p, number as u64);
+    let p = put_field(out, p, mark as u64);
     let p = put_field(out, p, row.len() as u64);
     let p = put_fields(out, p, row);
     put_byte(out, p, b'\n')
 }
 
-// The rows of a store, as many as there are ends.
-fn put_rows(out: &mut [u8], at: usize, changes: &[u32], ends: &[u64]) -> usize
-    requires { ⌜ Room (now out) at (rowLines 1 (rowsIn 0 (now changes) (now ends))) × Rising (now changes) (now ends) ⌝ }
-    ensures { λ r. ⌜ Puts (now (out .entry)) at (rowLines 1 (rowsIn 0 (now (changes .entry)) (now (ends .entry)))) r (now (out .exit)) ⌝ }
+// The rows of a store, as many as there are ends, each with its mark.
+fn put_rows(out: &mut [u8], at: usize, changes: &[u32], ends: &[u64], marks: &[u8]) -> usize
+    requires { ⌜ Room (now out) at (rowLines 1 (rowsIn 0 (now changes) (now ends)) (now marks)) × Rising (now changes) (now ends) × (length (now ends) ≤ length (now marks)) ⌝ }
+    ensures { λ r. ⌜ Puts (now (out .entry)) at (rowLines 1 (rowsIn 0 (now (changes .entry)) (now (ends .entry))) (now (marks .entry))) r (now (out .exit)) ⌝ }
 {
     let mut p = at;
     let mut base = 0;
     let mut k = 0;
     while k < ends.len() {
         let end = ends[k] as usize;
-        p = put_row(out, p, k + 1, &changes[base..end]);
+        let number = k + 1;
+        p = put_row(out, p, number, marks[k], &changes[base..end]);
         base = end;
-        k += 1;
+        k = number;
     }
     p
 }
@@ -71,14 +75,21 @@ fn put_stop(out: &mut [u8], at: usize, number: u64, rows: u64, bytes: u64) -> us
 }
 
 // The listing of a page whose kept rows stand in a store.
-pub fn list(out: &mut [u8], columns: u32, answer: Answer, changes: &[u32], ends: &[u64]) -> usize
-    requires { ⌜ Listing (now out) answer (now changes) (now ends) ⌝ }
-    ensures { λ r. ⌜ Prints (now (out .entry)) (listingOf columns answer (now (changes .entry)) (now (ends .entry))) r (now (out .exit)) ⌝ }
+pub fn list(
+    out: &mut [u8],
+    columns: u32,
+    answer: Answer,
+    changes: &[u32],
+    ends: &[u64],
+    marks: &[u8],
+) -> usize
+    requires { ⌜ Listing (now out) answer (now changes) (now ends) (now marks) ⌝ }
+    ensures { λ r. ⌜ Prints (now (out .entry)) (listingOf columns answer (now (changes .entry)) (now (ends .entry)) (now (marks .entry))) r (now (out .exit)) ⌝ }
 {
     let number = answer.number as u64;
     let rows = answer.rows as usize;
     let p = put_columns(out, 0, columns);
-    let p = put_rows(out, p, changes, &ends[..rows]);
+    let p = put_rows(out, p, changes, &ends[..rows], &marks[..rows]);
     put_stop(out, p, number, answer.rows, answer.bytes)
 }
 

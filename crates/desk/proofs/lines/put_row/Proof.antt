@@ -1,10 +1,10 @@
 -- `desk::lines::put_row` meets its contract, piece by piece. Assumes nothing.
-use mathlib.Core.List.{[], _∷_}
-use mathlib.Core.Path.{refl}
-use denote.Ref.{now}
-use Rattle.desk.proofs.Lined.{word-room, word-put, field-room, after-one, after-two}
-use Rattle.desk.proofs.Written.{owes-room, owes-some, owes-last-room, owes-last}
 use Rattle.desk.specs.Text.{ascii, newline}
+use Rattle.desk.proofs.Written.{owes-room, owes-some, owes-last-room, owes-last}
+use Rattle.desk.proofs.Lined.{word-room, word-put, field-room, after-one, after-two, after-three}
+use denote.Ref.{now}
+use mathlib.Core.Path.{refl}
+use mathlib.Core.List.{[], _∷_}
 use borrow.Author.Needs.{needs}
 use Rattle.desk.proofs.lines.put_row.Statement.{statement}
 use Rattle.desk.proofs.lines.put_row.Tie as tie
@@ -22,18 +22,22 @@ put-field-requires c κs = field-room _ _ _ (word-put "row" _ (c .before .before
 
 put-field-requires-2 : tie.Need-put-field-requires-2
 unfolding ascii
-put-field-requires-2 c κs = field-room _ _ _ (after-one "row" _ (_ ∷ now (c .before .before .before .before .before .before .before .before .before .before .before .before .args .row)) (c .before .before .before .before .before .before .before .before .before .before .before .before .pre) (c .before .before .before .before .before .before .before .put-text .ensures) (c .before .before .before .put-field .ensures))
+put-field-requires-2 c κs = field-room _ _ _ (after-one "row" _ (_ ∷ _ ∷ now (c .before .before .before .before .before .before .before .before .before .before .before .before .args .row)) (c .before .before .before .before .before .before .before .before .before .before .before .before .pre) (c .before .before .before .before .before .before .before .put-text .ensures) (c .before .before .before .put-field .ensures))
+
+put-field-requires-3 : tie.Need-put-field-requires-3
+unfolding ascii
+put-field-requires-3 c κs = field-room _ _ _ (after-two "row" _ _ (_ ∷ now (c .before .before .before .before .before .before .before .before .before .before .before .before .before .before .before .before .args .row)) (c .before .before .before .before .before .before .before .before .before .before .before .before .before .before .before .before .pre) (c .before .before .before .before .before .before .before .before .before .before .before .put-text .ensures) (c .before .before .before .before .before .before .before .put-field .ensures) (c .before .before .before .put-field2 .ensures))
 
 put-fields-requires : tie.Need-put-fields-requires
 unfolding ascii
 put-fields-requires c κs =
-    owes-room (after-two "row" _ _ (now (c .before .before .before .before .before .before .before .before .before .before .before .before .before .before .before .before .args .row)) (c .before .before .before .before .before .before .before .before .before .before .before .before .before .before .before .before .pre) (c .before .before .before .before .before .before .before .before .before .before .before .put-text .ensures) (c .before .before .before .before .before .before .before .put-field .ensures) (c .before .before .before .put-field2 .ensures)) _ (newline ∷ []) refl
+    owes-room (after-three "row" _ _ _ (now (c .before .before .before .before .before .before .before .before .before .before .before .before .before .before .before .before .before .before .before .before .args .row)) (c .before .before .before .before .before .before .before .before .before .before .before .before .before .before .before .before .before .before .before .before .pre) (c .before .before .before .before .before .before .before .before .before .before .before .before .before .before .before .put-text .ensures) (c .before .before .before .before .before .before .before .before .before .before .before .put-field .ensures) (c .before .before .before .before .before .before .before .put-field2 .ensures) (c .before .before .before .put-field3 .ensures)) _ (newline ∷ []) refl
 
 put-byte-requires : tie.Need-put-byte-requires
 unfolding ascii
 put-byte-requires c κs =
     owes-last-room
-    (owes-some (after-two "row" _ _ (now (c .before .before .before .before .before .before .before .before .before .before .before .before .before .before .before .before .before .before .before .before .args .row)) (c .before .before .before .before .before .before .before .before .before .before .before .before .before .before .before .before .before .before .before .before .pre) (c .before .before .before .before .before .before .before .before .before .before .before .before .before .before .before .put-text .ensures) (c .before .before .before .before .before .before .before .before .before .before .before .put-field .ensures) (c .before .before .before .before .before .before .before .put-field2 .ensures)) _ (newline ∷ []) refl (c .before .before .before .put-fields .ensures))
+    (owes-some (after-three "row" _ _ _ (now (c .before .before .before .before .before .before .before .before .before .before .before .before .before .before .before .before .before .before .before .before .before .before .before .before .args .row)) (c .before .before .before .before .before .before .before .before .before .before .before .before .before .before .before .before .before .before .before .before .before .before .before .before .pre) (c .before .before .before .before .before .before .before .before .before .before .before .before .before .before .before .before .before .before .before .put-text .ensures) (c .before .before .before .before .before .before .before .before .before .before .before .before .before .before .before .put-field .ensures) (c .before .before .before .before .before .before .before .before .before .before .before .put-field2 .ensures) (c .before .before .before .before .before .before .before .put-field3 .ensures)) _ (newline ∷ []) refl (c .before .before .before .put-fields .ensures))
 
 same-length : tie.Need-same-length
 same-length c = search needs
@@ -42,7 +46,7 @@ returns : tie.Need-returns
 unfolding ascii
 returns c =
     owes-last
-    (owes-some (after-two "row" _ _ (now (c .before .before .before .before .before .before .before .before .before .before .before .before .before .before .before .before .before .before .before .before .before .before .before .args .row)) (c .before .before .before .before .before .before .before .before .before .before .before .before .before .before .before .before .before .before .before .before .before .before .before .pre) (c .before .before .before .before .before .before .before .before .before .before .before .before .before .before .before .before .before .before .put-text .ensures) (c .before .before .before .before .before .before .before .before .before .before .before .before .before .before .put-field .ensures) (c .before .before .before .before .before .before .before .before .before .before .put-field2 .ensures)) _ (newline ∷ []) refl (c .before .before .before .before .before .before .put-fields .ensures))
+    (owes-some (after-three "row" _ _ _ (now (c .before .before .before .before .before .before .before .before .before .before .before .before .before .before .before .before .before .before .before .before .before .before .before .before .before .before .before .args .row)) (c .before .before .before .before .before .before .before .before .before .before .before .before .before .before .before .before .before .before .before .before .before .before .before .before .before .before .before .pre) (c .before .before .before .before .before .before .before .before .before .before .before .before .before .before .before .before .before .before .before .before .before .before .put-text .ensures) (c .before .before .before .before .before .before .before .before .before .before .before .before .before .before .before .before .before .before .put-field .ensures) (c .before .before .before .before .before .before .before .before .before .before .before .before .before .before .put-field2 .ensures) (c .before .before .before .before .before .before .before .before .before .before .put-field3 .ensures)) _ (newline ∷ []) refl (c .before .before .before .before .before .before .put-fields .ensures))
     (c .before .before .put-byte .ensures)
 
 pub put-row-spec : {M : Type 1} → statement M
@@ -53,6 +57,7 @@ put-row-spec =
     put-text-requires
     put-field-requires
     put-field-requires-2
+    put-field-requires-3
     put-fields-requires
     put-byte-requires
     same-length
