@@ -7,7 +7,7 @@ use lib.ListN.{length, take, drop, length-append, length-drop, length-take}
 use lib.Seq.{take-at, take-all, length-take-le}
 use Rattle.rules.specs.Rows.{Settings}
 use Rattle.rules.specs.Pages as Page
-use Rattle.rules.specs.Pages.{decode, overlaid}
+use Rattle.rules.specs.Pages.{decode, placesIn, overlaid}
 use Rattle.rows.specs.declared.DecodeSettings.{DecodeSettings}
 use Rattle.rows.specs.Settings.{settingsOf}
 use Rattle.error.specs.declared.Answer.{Answer}
@@ -17,25 +17,29 @@ use Rattle.desk.specs.Sheet.{badInput, listingText}
 use Rattle.desk.specs.Listed.{Listing, listingOf, Prints}
 use Rattle.desk.specs.declared.settings.Parsed.the-variants.{Settings as found, Bad}
 use Rattle.desk.proofs.Standing.{begins-once, line-short}
-use Rattle.desk.proofs.Stored.{decode-held, rows-stored, can-list}
+use Rattle.desk.proofs.Stored.{Holds, decode-held, rows-stored, marks-kept, can-list}
 use Rattle.io.specs.Counts.{Counts}
 use Rattle.listing.specs.Program.{mostData, mostInput, listed, pageText, room, Asks, Answers, AnswersRead}
 
 -- ---- A page from its store
 
-module _ (S : Settings) (src xs es : List ℕ) (e : length xs ≡ 8192) (f : length es ≡ 2048) {r : Answer} {ys fs : List ℕ} (g : Gives (decode S src (length xs) (length es)) xs es r ys fs) where
+module _ (S : Settings) (src xs es ms : List ℕ) (e : length xs ≡ 8192) (f : length es ≡ 2048) (m : length ms ≡ 2048) {r : Answer} {ys fs ns : List ℕ}
+    (g : Gives (decode S src (length xs) (placesIn es ms)) xs es ms r ys fs ns) where
   abbrev page : Page.Answer
-  page = decode S src (length xs) (length es)
+  page = decode S src (length xs) (placesIn es ms)
 
-  pub page-can : (out : List ℕ) → room ≤ length out → Listing out r ys fs
-  page-can out h = rw (g .answer, g .changes, g .ends) (can-list page xs es (decode-held S src (length xs) (length es)) out (omega arith))
+  held : Holds (length xs) (placesIn es ms) page
+  held = decode-held S src (length xs) (placesIn es ms)
 
-  pub page-is : listingOf (S .columns) r ys fs ≡ pageText S src
+  pub page-can : (out : List ℕ) → room ≤ length out → Listing out r ys fs ns
+  page-can out h = rw (g .answer, g .changes, g .ends, g .marks) (can-list page xs es ms held out (omega arith))
+
+  pub page-is : listingOf (S .columns) r ys fs ns ≡ pageText S src
   unfolding pageText
   page-is =
-      rw (g .answer, g .changes, g .ends)
-      (ap (λ (rows : List (List ℕ)). listingText (S .columns) (page .number) rows (page .bytes)) (rows-stored page xs es (decode-held S src (length xs) (length es)))
-      ∙ ap₂ (λ (store places : ℕ). listed S (decode S src store places)) e f)
+      rw (g .answer, g .changes, g .ends, g .marks)
+      (ap₂ (λ (rows : List (List ℕ)) (marks : List ℕ). listingText (S .columns) (page .number) rows marks (page .bytes)) (rows-stored page xs es ms held) (marks-kept page xs es ms held)
+      ∙ ap₂ (λ (store places : ℕ). listed S (decode S src store places)) e (let p : placesIn es ms ≡ 2048 = omega arith in p))
 
 -- ---- What is printed
 

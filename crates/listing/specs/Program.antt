@@ -18,14 +18,14 @@ abbrev pub mostInput : ℕ
 mostInput = 32 + mostData + 1
 
 abbrev pub listed : Settings → Page.Answer → List ℕ
-listed S a = listingText (S .columns) (a .number) (a .rows) (a .bytes)
+listed S a = listingText (S .columns) (a .number) (a .rows) (a .marks) (a .bytes)
 
 unfoldable pub pageText : Settings → List ℕ → List ℕ
 pageText S src = listed S (decode S src 8192 2048)
 
 -- room for the longest listing of such a store (the crate desk, `Listing`)
 abbrev pub room : ℕ
-room = 77 + 46 * 2048 + 11 * 8192
+room = 77 + 50 * 2048 + 11 * 8192
 
 -- an input with a line of settings, and then no more data than that
 pub record Asks (input : List ℕ) (S : Settings) (src : List ℕ) : Type 0 where

@@ -14,8 +14,9 @@ fn page(src: &[u8], settings: DecodeSettings, out: &mut [u8]) -> usize
 {
     let mut changes = [0u32; 8192];
     let mut ends = [0u64; 2048];
-    let answer = ccitt::decode(src, settings, &mut changes, &mut ends);
-    desk::list(out, settings.columns, answer, &changes, &ends)
+    let mut marks = [0u8; 2048];
+    let answer = ccitt::decode(src, settings, &mut changes, &mut ends, &mut marks);
+    desk::list(out, settings.columns, answer, &changes, &ends, &marks)
 }
 
 // What the program prints for its input.

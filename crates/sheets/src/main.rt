@@ -1,6 +1,7 @@
 // The sheets on the wall that are run (the others are proved), the inputs where the crate, and so this work, parts from the standard
 // (docs/DIFFERENCES.md), and one input for each clause of A7 (places.rt): what reading each of them answers. A line has the sheet's name;
-// number, rows, entries, loose entries, bytes and place; and the changes, those of kept rows first.
+// number, rows, entries, loose entries, bytes and place; the mark of the first row, or 3 where none was stored; and the changes, those of
+// kept rows first.
 mod places;
 
 use error::Answer;
@@ -32,7 +33,7 @@ fn fields(changes: &[u32], entries: u64, loose: u64) {
     }
 }
 
-pub(crate) fn show(name: &[u8], answer: Answer, changes: &[u32]) {
+pub(crate) fn show(name: &[u8], answer: Answer, mark: u8, changes: &[u32]) {
     io::write_all(STDOUT_FILENO, name);
     field(answer.number as u64);
     field(answer.rows);
@@ -40,13 +41,24 @@ pub(crate) fn show(name: &[u8], answer: Answer, changes: &[u32]) {
     field(answer.loose);
     field(answer.bytes);
     field(answer.place);
+    field(mark as u64);
     fields(changes, answer.entries, answer.loose);
     io::write_all(STDOUT_FILENO, b"\n");
 }
 
 fn sheet(name: &[u8], src: &[u8], settings: DecodeSettings, changes: &mut [u32], ends: &mut [u64]) {
-    let answer = ccitt::decode(src, settings, changes, ends);
-    show(name, answer, changes);
+    let mut marks = [3u8; 8];
+    let answer = ccitt::decode(src, settings, changes, ends, &mut marks);
+    show(name, answer, marks[0], changes);
+}
+
+// A place for the row's end, and none for its mark.
+fn no_mark(name: &[u8], src: &[u8], settings: DecodeSettings) {
+    let mut changes = [0u32; 2];
+    let mut ends = [0u64; 1];
+    let mut marks = [0u8; 0];
+    let answer = ccitt::decode(src, settings, &mut changes, &mut ends, &mut marks);
+    show(name, answer, 3, &changes);
 }
 
 fn group4(strict: bool) -> DecodeSettings {
@@ -100,6 +112,14 @@ fn group4_sheets() {
         group4(false),
         &mut two,
         &mut none,
+    );
+    no_mark(b"31 C0, no mark", b"\x31\xC0", group4(false));
+    sheet(
+        b"33 40, a run cut to nothing",
+        b"\x33\x40",
+        group4(false),
+        &mut two,
+        &mut end,
     );
 }
 

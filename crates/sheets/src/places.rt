@@ -46,5 +46,5 @@ pub(crate) fn of_a_line() {
     let reference = [0u32; 0];
     let mut changes = [0u32; 4];
     let answer = context::read::read_line(b"\xFF", 9, 8, true, &reference, &mut changes);
-    crate::show(b"a start past the data", answer, &changes);
+    crate::show(b"a start past the data", answer, 3, &changes);
 }
