@@ -43,11 +43,11 @@ accepted n listed six seven eight nine = ⊎-elim (λ e. e) (λ h. absurd (no-ot
 
 pub rows-go-back : RowsGoBack
 unfolding rowsIn
-rows-go-back bytes settings changes ends r changes′ ends′ narrow called reference row follows out at w out′ short fits written =
+rows-go-back bytes settings changes ends marks r changes′ ends′ marks′ narrow called reference row follows out at w out′ short fits written =
     (done, λ strict store s store′ roomy c. written-line-reads-back (settings .columns) reference row out at w out′ narrow written done strict store s store′ roomy c)
   where
     rise : Rising (settings .columns) 0 reference × Rising (settings .columns) 0 row
-    rise = follow-rise (decode-answers bytes settings changes ends r changes′ ends′ narrow called .2 .rising) follows
+    rise = follow-rise (decode-answers bytes settings changes ends marks r changes′ ends′ marks′ narrow called .2 .rising) follows
 
     -- without a row in the answer there is none in the store
     kept : r .rows ≡ 0 → ⊥
@@ -55,9 +55,9 @@ rows-go-back bytes settings changes ends r changes′ ends′ narrow called refe
 
     a-line : (settings .columns ≡ 0) ⊎ (settings .columns ≡ 4294967295) → ⊥
     a-line =
-        ⊎-elim (λ e. kept (decode-answers bytes settings changes ends r changes′ ends′ narrow called .2 .no-rows e))
+        ⊎-elim (λ e. kept (decode-answers bytes settings changes ends marks r changes′ ends′ marks′ narrow called .2 .no-rows e))
         (λ e.
-        let d = decode-answers bytes settings changes ends r changes′ ends′ narrow called in
+        let d = decode-answers bytes settings changes ends marks r changes′ ends′ marks′ narrow called in
         kept (d .1 (omega (arith, d .0 .six .1 e)) .counts .0))
 
     done : w .number ≡ 0

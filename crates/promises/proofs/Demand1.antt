@@ -11,13 +11,14 @@ use lib.Seq.{take-at, drop-at}
 use borrow.Author.Tests.{eqb-true, eqb-false, ltb-true, ltb-false}
 use Rattle.rules.specs.Bits.{bitsOf}
 use Rattle.rules.specs.Pages as Page
-use Rattle.rules.specs.Pages.{mostBytes, tooWide, entries, joined, endsFrom, overlaid, decode, readPage, changesAfter, endsAfter}
+use Rattle.rules.specs.Pages.{mostBytes, tooWide, entries, joined, endsFrom, overlaid, decode, readPage, placesIn, changesAfter, endsAfter, marksAfter}
 use Rattle.rules.specs.Write.{rowsIn}
 use Rattle.rules.proofs.Bits.{length-bitsOf}
 use Rattle.rules.proofs.Budget.{Bytes}
 use Rattle.rules.proofs.PageBack.{Rows, no-rows}
 use Rattle.rules.proofs.Pages.{read-answered}
 use Rattle.rules.proofs.MoreRoom.{decode-stays}
+use Rattle.rules.proofs.Marks.{came-as-many, decode-came}
 use Rattle.rules.proofs.Store.{length-joined, length-ends, rows-back}
 use Rattle.error.specs.Error.{answerOf}
 use Rattle.error.specs.declared.Answer.{Answer}
@@ -29,25 +30,25 @@ use Rattle.promises.specs.Demand1.{Listed, Refused, Stored, DecodeAnswer
 -- ---- The rules' answer, by the tests
 
 -- a refusal; or the page's answer, once 6 and 7 are passed and the columns are not 0
-pub data Said (settings : DecodeSettings) (bytes changes ends : List ℕ) : Page.Answer → Type 0 where
-  is-six : settings .columns ≡ 4294967295 → Said settings bytes changes ends (Page.refusal 6)
-  is-seven : (settings .columns ≡ 4294967295 → ⊥) → mostBytes < length bytes → Said settings bytes changes ends (Page.refusal 7)
-  no-columns : (settings .columns ≡ 4294967295 → ⊥) → length bytes ≤ mostBytes → Said settings bytes changes ends (Page.refusal 0)
+pub data Said (settings : DecodeSettings) (bytes changes ends marks : List ℕ) : Page.Answer → Type 0 where
+  is-six : settings .columns ≡ 4294967295 → Said settings bytes changes ends marks (Page.refusal 6)
+  is-seven : (settings .columns ≡ 4294967295 → ⊥) → mostBytes < length bytes → Said settings bytes changes ends marks (Page.refusal 7)
+  no-columns : (settings .columns ≡ 4294967295 → ⊥) → length bytes ≤ mostBytes → Said settings bytes changes ends marks (Page.refusal 0)
   is-read : (settings .columns ≡ 4294967295 → ⊥) → length bytes ≤ mostBytes → (settings .columns ≡ 0 → ⊥)
-      → Said settings bytes changes ends (readPage (settingsOf settings) (bitsOf bytes) (length changes) (length ends))
+      → Said settings bytes changes ends marks (readPage (settingsOf settings) (bitsOf bytes) (length changes) (placesIn ends marks))
 
-pub said : (settings : DecodeSettings) (bytes changes ends : List ℕ) → Said settings bytes changes ends (decode (settingsOf settings) bytes (length changes) (length ends))
+pub said : (settings : DecodeSettings) (bytes changes ends marks : List ℕ) → Said settings bytes changes ends marks (decode (settingsOf settings) bytes (length changes) (placesIn ends marks))
 unfolding decode
-said settings bytes changes ends = tests (tooWide (settings .columns)) (eqb-true _ _) (eqb-false _ _) (ltb mostBytes (length bytes)) (ltb-true _ _) (ltb-false _ _) (eqb (settings .columns) 0) (eqb-false _ _)
+said settings bytes changes ends marks = tests (tooWide (settings .columns)) (eqb-true _ _) (eqb-false _ _) (ltb mostBytes (length bytes)) (ltb-true _ _) (ltb-false _ _) (eqb (settings .columns) 0) (eqb-false _ _)
   where
     tests : (a : Bool) → (a ≡ true → settings .columns ≡ 4294967295) → (a ≡ false → settings .columns ≡ 4294967295 → ⊥)
         → (b : Bool) → (b ≡ true → mostBytes < length bytes) → (b ≡ false → length bytes ≤ mostBytes)
         → (c : Bool) → (c ≡ false → settings .columns ≡ 0 → ⊥)
-        → Said settings bytes changes ends (elim a as (λ _. Page.Answer) [
+        → Said settings bytes changes ends marks (elim a as (λ _. Page.Answer) [
           | true ↦ Page.refusal 6
           | false ↦ elim b as (λ _. Page.Answer) [
             | true ↦ Page.refusal 7
-            | false ↦ elim c as (λ _. Page.Answer) [ true ↦ Page.refusal 0 | false ↦ readPage (settingsOf settings) (bitsOf bytes) (length changes) (length ends) ]
+            | false ↦ elim c as (λ _. Page.Answer) [ true ↦ Page.refusal 0 | false ↦ readPage (settingsOf settings) (bitsOf bytes) (length changes) (placesIn ends marks) ]
           ]
         ])
     tests true p q b r s c t = is-six (p refl)
@@ -57,19 +58,19 @@ said settings bytes changes ends = tests (tooWide (settings .columns)) (eqb-true
 
 -- ---- What holds of every answer of the rules
 
-pub record Fine (settings : DecodeSettings) (bytes changes ends : List ℕ) (a : Page.Answer) : Type 0 where
+pub record Fine (settings : DecodeSettings) (bytes changes ends marks : List ℕ) (a : Page.Answer) : Type 0 where
   pub at-most-7 : a .number ≤ 7
   pub six : (a .number ≡ 6) ↔ (settings .columns ≡ 4294967295)
   pub seven : (a .number ≡ 7) ↔ ((settings .columns ≡ 4294967295 → ⊥) × (mostBytes < length bytes))
   pub refused : 6 ≤ a .number → a ≡ Page.refusal (a .number)
-  pub rows-fit : length (a .rows) ≤ length ends
+  pub rows-fit : length (a .rows) ≤ placesIn ends marks
   pub entries-fit : entries (a .rows) + length (a .loose) ≤ length changes
   pub rising : Rows (settings .columns) (a .rows)
   pub clean : a .number ≡ 0 → a .loose ≡ []
   pub few-rows : length (a .rows) ≤ 8 * length bytes + 1
   pub none : settings .columns ≡ 0 → (a .rows ≡ []) × (length bytes ≤ mostBytes → a .number ≡ 0)
 
-fine : {settings : DecodeSettings} {bytes changes ends : List ℕ} {a : Page.Answer} → settings .columns ≤ 4294967295 → Said settings bytes changes ends a → Fine settings bytes changes ends a
+fine : {settings : DecodeSettings} {bytes changes ends marks : List ℕ} {a : Page.Answer} → settings .columns ≤ 4294967295 → Said settings bytes changes ends marks a → Fine settings bytes changes ends marks a
 unfolding entries
 fine h (is-six e) = record {
   at-most-7 = omega arith;
@@ -107,10 +108,10 @@ fine h (no-columns n l) = record {
   few-rows = omega arith;
   none = λ q. (refl, λ k. refl);
 }
-fine {settings} {bytes} {changes} {ends} h (is-read n l z) =
+fine {settings} {bytes} {changes} {ends} {marks} h (is-read n l z) =
     let w : 0 < settings .columns = positive (settings .columns) z in
     let b : Bytes (bitsOf bytes) = record { count = length bytes; whole = length-bitsOf bytes } in
-    let a = read-answered (settingsOf settings .encoding) (settingsOf settings) w (bitsOf bytes) b (length changes) (length ends) refl in
+    let a = read-answered (settingsOf settings .encoding) (settingsOf settings) w (bitsOf bytes) b (length changes) (placesIn ends marks) refl in
     record {
       at-most-7 = omega (arith, a .numbered);
       six = ((λ q. absurd (omega (arith, a .numbered))), λ q. absurd (n q));
@@ -130,7 +131,7 @@ fine {settings} {bytes} {changes} {ends} h (is-read n l z) =
 
 -- ---- The answer and the arrays that an answer of the rules permits
 
-module _ (a : Page.Answer) (changes ends : List ℕ) (r : Answer) (changes′ ends′ : List ℕ) (given : Gives a changes ends r changes′ ends′) where
+module _ (a : Page.Answer) (changes ends marks : List ℕ) (r : Answer) (changes′ ends′ marks′ : List ℕ) (given : Gives a changes ends marks r changes′ ends′ marks′) where
   number-is : r .number ≡ a .number
   number-is = ap (λ (x : Answer). x .number) (given .answer)
 
@@ -164,6 +165,21 @@ module _ (a : Page.Answer) (changes ends : List ℕ) (r : Answer) (changes′ en
   pub ends-front : take (r .rows) ends′ ≡ endsFrom 0 (a .rows)
   ends-front = ap (take (r .rows)) ends-are ∙ take-at (endsFrom 0 (a .rows)) _ (r .rows) ends-length
 
+  marks-are : marks′ ≡ a .marks ++ drop (length (a .marks)) marks
+  unfolding marksAfter overlaid
+  marks-are = given .marks
+
+  -- as many marks as rows
+  module _ (as-many : length (a .marks) ≡ length (a .rows)) where
+    marks-length : length (a .marks) ≡ r .rows
+    marks-length = as-many ∙ sym rows-are
+
+    pub marks-front : take (r .rows) marks′ ≡ a .marks
+    marks-front = ap (take (r .rows)) marks-are ∙ take-at (a .marks) _ (r .rows) marks-length
+
+    later-marks : drop (r .rows) marks′ ≡ drop (r .rows) marks
+    later-marks = ap (drop (r .rows)) marks-are ∙ drop-at (a .marks) _ (r .rows) marks-length ∙ ap (λ (n : ℕ). drop n marks) marks-length
+
   later-changes : drop (r .entries + r .loose) changes′ ≡ drop (r .entries + r .loose) changes
   later-changes = ap (drop (r .entries + r .loose)) changes-are ∙ drop-at (joined (a .rows) ++ a .loose) _ (r .entries + r .loose) front-length ∙ ap (λ (n : ℕ). drop n changes) front-length
 
@@ -176,8 +192,8 @@ module _ (a : Page.Answer) (changes ends : List ℕ) (r : Answer) (changes′ en
       ap₂ (λ (x y : List ℕ). rowsIn 0 x y) (changes-are ∙ append-assoc (joined (a .rows)) (a .loose) (drop (length (joined (a .rows) ++ a .loose)) changes)) ends-front
       ∙ rows-back (a .rows) (a .loose ++ drop (length (joined (a .rows) ++ a .loose)) changes)
 
-  module _ (settings : DecodeSettings) (bytes : List ℕ) (f : Fine settings bytes changes ends a) where
-    listed : Listed bytes settings changes ends r changes′ ends′
+  module _ (settings : DecodeSettings) (bytes : List ℕ) (f : Fine settings bytes changes ends marks a) where
+    listed : Listed bytes settings changes ends marks r changes′ ends′ marks′
     listed = record {
       at-most-7 = omega (arith, number-is, f .at-most-7);
       six = ((λ q. f .six .0 (sym number-is ∙ q)), λ q. number-is ∙ f .six .1 q);
@@ -185,51 +201,64 @@ module _ (a : Page.Answer) (changes ends : List ℕ) (r : Answer) (changes′ en
       no-columns = λ q l. number-is ∙ f .none q .1 l;
     }
 
-    refused : 6 ≤ r .number → Refused bytes settings changes ends r changes′ ends′
-    unfolding changesAfter endsAfter overlaid joined endsFrom entries
+    refused : 6 ≤ r .number → Refused bytes settings changes ends marks r changes′ ends′ marks′
+    unfolding changesAfter endsAfter marksAfter overlaid joined endsFrom entries
     refused h =
         let e = f .refused (omega (arith, number-is)) in
         record {
           same-changes = given .changes ∙ ap (λ (x : Page.Answer). changesAfter x changes) e;
           same-ends = given .ends ∙ ap (λ (x : Page.Answer). endsAfter x ends) e;
+          same-marks = given .marks ∙ ap (λ (x : Page.Answer). marksAfter x marks) e;
           counts = (rows-are ∙ ap (λ (x : Page.Answer). length (x .rows)) e, entries-are ∙ ap (λ (x : Page.Answer). entries (x .rows)) e, loose-is ∙ ap (λ (x : Page.Answer). length (x .loose)) e, ap (λ (x : Answer). x .bytes) (given .answer) ∙ ap (λ (x : Page.Answer). x .bytes) e);
         }
 
-    stored : Stored bytes settings changes ends r changes′ ends′
-    stored = record {
+    stored : length (a .marks) ≡ length (a .rows) → Stored bytes settings changes ends marks r changes′ ends′ marks′
+    stored as-many = record {
       rows-fit = omega (arith, rows-are, f .rows-fit);
+      marks-fit = omega (arith, rows-are, f .rows-fit);
       entries-fit = omega (arith, entries-are, loose-is, f .entries-fit);
       counted = ap entries in-store ∙ sym entries-are;
       rising = subst (Rows (settings .columns)) (sym in-store) (f .rising);
       later-changes = later-changes;
       later-ends = later-ends;
+      later-marks = later-marks as-many;
       clean = λ q. loose-is ∙ ap length (f .clean (sym number-is ∙ q));
       no-rows = λ q. rows-are ∙ ap length (f .none q .0);
       few-rows = omega (arith, rows-are, f .few-rows);
     }
 
+-- every answer of the rules has as many marks as rows
+pub all-marked : (settings : DecodeSettings) (bytes changes ends marks : List ℕ)
+    → length (decode (settingsOf settings) bytes (length changes) (placesIn ends marks) .marks) ≡ length (decode (settingsOf settings) bytes (length changes) (placesIn ends marks) .rows)
+all-marked settings bytes changes ends marks = came-as-many (decode-came (settingsOf settings) bytes (length changes) (placesIn ends marks) .1)
+
 -- Demand 1, for the page form.
 pub decode-answers : DecodeAnswers
-decode-answers bytes settings changes ends r changes′ ends′ h called =
-    let f = fine h (said settings bytes changes ends) in
-    (listed _ changes ends r changes′ ends′ called settings bytes f, refused _ changes ends r changes′ ends′ called settings bytes f, stored _ changes ends r changes′ ends′ called settings bytes f)
+decode-answers bytes settings changes ends marks r changes′ ends′ marks′ h called =
+    let f = fine h (said settings bytes changes ends marks) in
+    (listed _ changes ends marks r changes′ ends′ marks′ called settings bytes f, refused _ changes ends marks r changes′ ends′ marks′ called settings bytes f, stored _ changes ends marks r changes′ ends′ marks′ called settings bytes f (all-marked settings bytes changes ends marks))
 
 -- More room never changes an answer from 0 to 3.
 pub more-room : MoreRoom
-more-room bytes settings changes ends larger-changes larger-ends r s changes′ ends′ larger-changes′ larger-ends′ hc he called later n =
-    (is, fronts, row-fronts)
+more-room bytes settings changes ends marks larger-changes larger-ends larger-marks r s changes′ ends′ marks′ larger-changes′ larger-ends′ larger-marks′ hc he hm called later n =
+    (is, fronts, row-fronts, mark-fronts)
   where
-    same : decode (settingsOf settings) bytes (length larger-changes) (length larger-ends) ≡ decode (settingsOf settings) bytes (length changes) (length ends)
-    same = decode-stays (settingsOf settings) (length changes) (length larger-changes) (length ends) (length larger-ends) hc he bytes (omega (arith, number-is _ changes ends r changes′ ends′ called))
+    same : decode (settingsOf settings) bytes (length larger-changes) (placesIn larger-ends larger-marks) ≡ decode (settingsOf settings) bytes (length changes) (placesIn ends marks)
+    same = decode-stays (settingsOf settings) (length changes) (length larger-changes) (placesIn ends marks) (placesIn larger-ends larger-marks) hc (omega arith) bytes (omega (arith, number-is _ changes ends marks r changes′ ends′ marks′ called))
 
     is : s ≡ r
     is = later .answer ∙ ap answerOf same ∙ sym (called .answer)
 
-    large : Gives (decode (settingsOf settings) bytes (length changes) (length ends)) larger-changes larger-ends r larger-changes′ larger-ends′
-    large = subst₂ (λ (x : Page.Answer) (y : Answer). Gives x larger-changes larger-ends y larger-changes′ larger-ends′) same is later
+    large : Gives (decode (settingsOf settings) bytes (length changes) (placesIn ends marks)) larger-changes larger-ends larger-marks r larger-changes′ larger-ends′ larger-marks′
+    large = subst₂ (λ (x : Page.Answer) (y : Answer). Gives x larger-changes larger-ends larger-marks y larger-changes′ larger-ends′ larger-marks′) same is later
 
     fronts : take (r .entries + r .loose) larger-changes′ ≡ take (r .entries + r .loose) changes′
-    fronts = changes-front _ larger-changes larger-ends r larger-changes′ larger-ends′ large ∙ sym (changes-front _ changes ends r changes′ ends′ called)
+    fronts = changes-front _ larger-changes larger-ends larger-marks r larger-changes′ larger-ends′ larger-marks′ large ∙ sym (changes-front _ changes ends marks r changes′ ends′ marks′ called)
 
     row-fronts : take (r .rows) larger-ends′ ≡ take (r .rows) ends′
-    row-fronts = ends-front _ larger-changes larger-ends r larger-changes′ larger-ends′ large ∙ sym (ends-front _ changes ends r changes′ ends′ called)
+    row-fronts = ends-front _ larger-changes larger-ends larger-marks r larger-changes′ larger-ends′ larger-marks′ large ∙ sym (ends-front _ changes ends marks r changes′ ends′ marks′ called)
+
+    mark-fronts : take (r .rows) larger-marks′ ≡ take (r .rows) marks′
+    mark-fronts =
+        let m = all-marked settings bytes changes ends marks in
+        marks-front _ larger-changes larger-ends larger-marks r larger-changes′ larger-ends′ larger-marks′ large m ∙ sym (marks-front _ changes ends marks r changes′ ends′ marks′ called m)

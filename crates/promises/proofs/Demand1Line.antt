@@ -17,7 +17,7 @@ use Rattle.rules.proofs.Bits.{length-bitsOf}
 use Rattle.rules.proofs.Ascending.{Rising}
 use Rattle.rules.proofs.Lines.{read-whole, read-broken, data-bound}
 use Rattle.rules.proofs.Store.{length-joined}
-use Rattle.error.specs.Error.{answerOf}
+use Rattle.error.specs.Error.{rowAnswerOf}
 use Rattle.error.specs.declared.Answer.{Answer}
 use Rattle.promises.specs.Demand1Line.{LineListed, LineRefused, LineStored, ReadLineAnswers}
 
@@ -141,7 +141,7 @@ module _ (bytes : List ℕ) (at columns : ℕ) (strict : Bool) (reference change
 
   -- ---- What that says of the answer and the array that the contract permits
 
-  module _ (a : Page.Answer) (r : Answer) (changes′ : List ℕ) (answered : r ≡ answerOf a) (stored : changes′ ≡ changesAfter a changes) (f : Fine a) where
+  module _ (a : Page.Answer) (r : Answer) (changes′ : List ℕ) (answered : r ≡ rowAnswerOf a) (stored : changes′ ≡ changesAfter a changes) (f : Fine a) where
     number-is : r .number ≡ a .number
     number-is = ap (λ (x : Answer). x .number) answered
 

@@ -11,13 +11,13 @@ use Rattle.rules.specs.Bits.{bitsOf}
 use Rattle.rules.specs.Rows.{bytesTo}
 use Rattle.rules.specs.Lines.{two}
 use Rattle.rules.specs.Pages as Page
-use Rattle.rules.specs.Pages.{mostBytes, entries, joined, overlaid, decode, readOneLine, changesAfter}
+use Rattle.rules.specs.Pages.{mostBytes, entries, joined, overlaid, decode, placesIn, readOneLine, changesAfter}
 use Rattle.rules.specs.Write.{mostMakeup, pageBits, rowsIn, writeLine, writePage}
 use Rattle.rules.proofs.Bits.{length-bitsOf}
-use Rattle.rules.proofs.PageBack.{Rows, Plain, whole}
+use Rattle.rules.proofs.PageBack.{Rows, Plain, whole, allClean}
 use Rattle.rules.proofs.ReadBack.{rows-same}
 use Rattle.rules.proofs.RoundTrip.{line-returns, bits-split, page-returns, page-cut, line-written, PageWritten, page-written}
-use Rattle.error.specs.Error.{answerOf}
+use Rattle.error.specs.Error.{answerOf, rowAnswerOf}
 use Rattle.error.specs.declared.Answer.{Answer}
 use Rattle.rows.specs.declared.DecodeSettings.{DecodeSettings}
 use Rattle.rows.specs.Settings.{encodingOf, settingsOf}
@@ -30,11 +30,11 @@ use Rattle.promises.proofs.Demand1.{in-store}
 
 -- an answer of one whole row
 back : (bytes : List ℕ) (at columns : ℕ) (strict : Bool) (reference row changes : List ℕ) (after : ℕ) (r : Answer) (changes′ : List ℕ)
-    → readOneLine bytes at columns strict reference (length changes) ≡ record { number = 0; place = 0; bytes = after; rows = row ∷ []; loose = [] }
+    → readOneLine bytes at columns strict reference (length changes) ≡ record { number = 0; place = 0; bytes = after; rows = row ∷ []; marks = 0 ∷ []; loose = [] }
     → ReadOne bytes at columns strict reference changes r changes′ → Back row after r changes′
 unfolding entries joined changesAfter overlaid
 back bytes at columns strict reference row changes after r changes′ e c =
-    let a = c .answer ∙ ap answerOf e in
+    let a = c .answer ∙ ap rowAnswerOf e in
     record {
       done = ap (λ (x : Answer). x .number) a;
       one-row = ap (λ (x : Answer). x .rows) a;
@@ -128,12 +128,12 @@ module _ (columns : ℕ) (changes ends out : List ℕ) (w : Answer) (out′ : Li
   read-whole : (bytes : List ℕ) → length bytes ≤ mostBytes → take (w .bytes) bytes ≡ take (w .bytes) out′ → (settings : DecodeSettings) → Plainly columns settings
       → (settings .rows ≡ 0) ⊎ (settings .rows ≡ length (rowsIn 0 changes ends)) → (store places : ℕ)
       → entries (rowsIn 0 changes ends) ≤ store → length (rowsIn 0 changes ends) ≤ places
-      → decode (settingsOf settings) bytes store places ≡ whole (length P) (rowsIn 0 changes ends)
+      → decode (settingsOf settings) bytes store places ≡ whole (length P) (rowsIn 0 changes ends) (allClean (rowsIn 0 changes ends))
   read-whole bytes small e settings s counted store places roomy placed =
       let f = fronted bytes e in
       page-returns mostMakeup (omega arith) (omega arith) (settingsOf settings) (plain settings s) (omega (arith, p .narrow, s .same-columns)) (rowsIn 0 changes ends)
       (rises settings s) bytes small (f .0) (for-settings settings s bytes (f .0) (f .1)) counted store places roomy placed
-      ∙ ap (λ (n : ℕ). whole n (rowsIn 0 changes ends)) (same-size settings s)
+      ∙ ap (λ (n : ℕ). whole n (rowsIn 0 changes ends) (allClean (rowsIn 0 changes ends))) (same-size settings s)
 
   read-cut : length out′ ≤ mostBytes → (cut : ℕ) (settings : DecodeSettings) → Plainly columns settings → (store places : ℕ)
       → (n : ℕ) × (decode (settingsOf settings) (take cut out′) store places .rows ≡ take n (rowsIn 0 changes ends))
@@ -148,24 +148,24 @@ count-rows base changes [] = refl
 count-rows base changes (e ∷ es) = ap suc (count-rows e changes es)
 
 pub written-page-reads-back : WrittenPageReadsBack
-written-page-reads-back columns changes ends out w out′ narrow written z bytes small e settings s counted store places r store′ places′ roomy placed called = (
+written-page-reads-back columns changes ends out w out′ narrow written z bytes small e settings s counted store places marks r store′ places′ marks′ roomy placed marked called = (
   ap (λ (x : Answer). x .number) a,
   ap (λ (x : Answer). x .bytes) a ∙ sym (page-bytes columns changes ends out w out′ narrow written z),
-  in-store _ store places r store′ places′ called ∙ ap (λ (x : Page.Answer). x .rows) is,
+  in-store _ store places marks r store′ places′ marks′ called ∙ ap (λ (x : Page.Answer). x .rows) is,
 )
   where
-    is : decode (settingsOf settings) bytes (length store) (length places) ≡ whole (length (P columns changes ends out w out′ narrow written z)) (rowsIn 0 changes ends)
+    is : decode (settingsOf settings) bytes (length store) (placesIn places marks) ≡ whole (length (P columns changes ends out w out′ narrow written z)) (rowsIn 0 changes ends) (allClean (rowsIn 0 changes ends))
     is =
         read-whole columns changes ends out w out′ narrow written z bytes small e settings s
-        (subst (λ (n : ℕ). (settings .rows ≡ 0) ⊎ (settings .rows ≡ n)) (sym (count-rows 0 changes ends)) counted) (length store) (length places) roomy
+        (subst (λ (n : ℕ). (settings .rows ≡ 0) ⊎ (settings .rows ≡ n)) (sym (count-rows 0 changes ends)) counted) (length store) (placesIn places marks) roomy
         (omega (arith, count-rows 0 changes ends))
 
-    a : r ≡ answerOf (whole (length (P columns changes ends out w out′ narrow written z)) (rowsIn 0 changes ends))
+    a : r ≡ answerOf (whole (length (P columns changes ends out w out′ narrow written z)) (rowsIn 0 changes ends) (allClean (rowsIn 0 changes ends)))
     a = called .answer ∙ ap answerOf is
 
 pub cut-page-gives-first-rows : CutPageGivesFirstRows
-cut-page-gives-first-rows columns changes ends out w out′ narrow written z cut settings s store places r store′ places′ called =
+cut-page-gives-first-rows columns changes ends out w out′ narrow written z cut settings s store places marks r store′ places′ marks′ called =
     let c =
     read-cut columns changes ends out w out′ narrow written z
-    (omega (arith, written .size, p columns changes ends out w out′ narrow written z .short)) cut settings s (length store) (length places) in
-    (c .0, in-store _ store places r store′ places′ called ∙ c .1)
+    (omega (arith, written .size, p columns changes ends out w out′ narrow written z .short)) cut settings s (length store) (placesIn places marks) in
+    (c .0, in-store _ store places marks r store′ places′ marks′ called ∙ c .1)

@@ -12,10 +12,10 @@ use Rattle.rules.specs.Machine.{Out, more, done, run, ends}
 use Rattle.rules.specs.Bits.{firstBit}
 use Rattle.rules.specs.Lines.{Rules, Line, newLine, Went, went, failed, push, Kind, one, two, readLine}
 use Rattle.rules.specs.Eols.{Eols, skipToEol}
-use Rattle.rules.specs.Rows.{Encoding, group4, group3-1D, group3-2D, Settings, State, pageStart, RowOut, row, stop, rulesOf, alignedIf}
+use Rattle.rules.specs.Rows.{Encoding, group4, group3-1D, group3-2D, Settings, State, recoveredMark, RowOut, row, stop, rulesOf, alignedIf}
 use Rattle.rules.specs.Group4.{eolsBefore, afterLine4, row4}
 use Rattle.rules.specs.Group3.{Tagging, untagged, tagged, eols3, Before, line-at, end-at, no-eol-at, judged, searched, missing, checked, before, taggedLine, lineOfTag, line3, kept, whitened, recovered, afterLine3, row3}
-use Rattle.rules.specs.Pages.{Answer, Kept, entries, pageOf, rowOf, rowsLeft, readPage}
+use Rattle.rules.specs.Pages.{Answer, Kept, noneKept, withRow, endWith, entries, pageOf, rowOf, rowsLeft, readPage}
 use Rattle.rules.proofs.Machine.{ends-ind, ends-stops}
 use Rattle.rules.proofs.Eols.{EolAt, eols3-ahead, eols3-read}
 use Rattle.rules.proofs.Budget.{Bytes}
@@ -93,7 +93,7 @@ module _ (S : Settings) (bs : List Bool) (room : ℕ) (st : State) where
   R = rulesOf S room
 
   abbrev RowTold : RowOut → Type 0
-  RowTold (row r next) = Unit {0}
+  RowTold (row r mark next) = Unit {0}
   RowTold (stop n p b loose) = 1 ≤ n → n ≤ 3 → RowFault S bs room st n p
 
   row4-told : S .encoding ≡ group4 → RowTold (row4 S bs room st)
@@ -129,7 +129,7 @@ module _ (S : Settings) (bs : List Bool) (room : ℕ) (st : State) where
         cases false i o q = subst₂ (λ (m j : ℕ). RowFault S bs room st m j) (let z : 2 ≡ n = cc in z) (let z : length bs ≡ p = cc in z) (no-tag g e (o refl))
 
     -- what is left of a recovered line fails with 4 alone
-    mended : (t : Tagging) → S .strict ≡ false → (l : Line) (w : Went) → push R 0 (R .width - l .position) (whitened S t bs l) ≡ w → RowTold (kept S t bs st expected at w)
+    mended : (t : Tagging) → S .strict ≡ false → (l : Line) (w : Went) → push R 0 (R .width - l .position) (whitened S t bs l) ≡ w → RowTold (kept S t bs st expected at recoveredMark w)
     mended t f l (went u) e = tt
     mended t f l (failed n p u) e = λ a b.
         let s = push-why R 0 (R .width - l .position) (whitened S t bs l) n p u e b .strict in
@@ -187,9 +187,9 @@ module _ (S : Settings) (wide : 0 < S .columns) (bs : List Bool) (bytes : Bytes 
       base : (k : Kept) (a : Answer) → stepped k ≡ done a → Tells k a
       base k a =
           page-cases (S .encoding) S wide bs bytes store places k (λ o. o ≡ done a → Tells k a)
-          (λ r next e l q. absurd (let z : _≡_ {A = ℕ} 0 1 = cc in omega arith))
-          (λ r next e l q. subst (Tells k) (let g : record { number = 5; place = 0; bytes = 0; rows = k .rows; loose = r } ≡ a = cc in g) (λ x y. absurd (omega arith)))
-          (λ n p b loose e q. subst (Tells k) (let g : record { number = n; place = p; bytes = b; rows = k .rows; loose = loose } ≡ a = cc in g)
+          (λ r mark next e l q. absurd (let z : _≡_ {A = ℕ} 0 1 = cc in omega arith))
+          (λ r mark next e l q. subst (Tells k) (let g : endWith k 5 0 0 r ≡ a = cc in g) (λ x y. absurd (omega arith)))
+          (λ n p b loose e q. subst (Tells k) (let g : endWith k n p b loose ≡ a = cc in g)
           (λ x y. record {
             rows = 0;
             kept = k;
@@ -212,9 +212,9 @@ module _ (S : Settings) (wide : 0 < S .columns) (bs : List Bool) (bytes : Bytes 
           longer : stepped k ≡ more j → length (j .rows) ≡ length (k .rows) + 1
           longer =
               page-cases (S .encoding) S wide bs bytes store places k (λ o. o ≡ more j → length (j .rows) ≡ length (k .rows) + 1)
-              (λ r next e l q. let g : record { state = next; rows = k .rows ++ r ∷ [] } ≡ j = cc in
+              (λ r mark next e l q. let g : withRow k r mark next ≡ j = cc in
               sym (ap (λ (x : Kept). length (x .rows)) g) ∙ length-append (k .rows) (r ∷ []))
-              (λ r next e l q. absurd (let z : _≡_ {A = ℕ} 0 1 = cc in omega arith))
+              (λ r mark next e l q. absurd (let z : _≡_ {A = ℕ} 0 1 = cc in omega arith))
               (λ n p b loose e q. absurd (let z : _≡_ {A = ℕ} 0 1 = cc in omega arith))
 
   abbrev page : Answer
@@ -223,7 +223,7 @@ module _ (S : Settings) (wide : 0 < S .columns) (bs : List Bool) (bytes : Bytes 
   pub page-fault : 1 ≤ page .number → page .number ≤ 3 → PageFault S bs store places (length (page .rows)) (page .number) (page .place)
   unfolding readPage
   page-fault =
-      let k : Kept = record { state = pageStart; rows = [] } in
+      let k : Kept = noneKept in
       let p = ends-stops stepped (rowsLeft bs) (page-falls (S .encoding) S wide bs bytes store places) k in
       subst (λ (a : Answer). 1 ≤ a .number → a .number ≤ 3 → PageFault S bs store places (length (a .rows)) (a .number) (a .place)) (sym (ap pageOf (p .1)))
       (λ x y. let t = page-told k (p .0) (p .1) x y in

@@ -10,7 +10,8 @@ use Rattle.lent.specs.Lent.{LendsAt, tested}
 use Rattle.promises.specs.Pinned.{DecodePinned, ReadLinePinned, WritersPinned, PushPinned}
 
 pub decode-pinned : DecodePinned
-decode-pinned bytes settings changes ends r s xs ys es fs g h = (g .answer ∙ sym (h .answer), g .changes ∙ sym (h .changes), g .ends ∙ sym (h .ends))
+decode-pinned bytes settings changes ends marks r s xs ys es fs ms ns g h =
+    (g .answer ∙ sym (h .answer), g .changes ∙ sym (h .changes), g .ends ∙ sym (h .ends), g .marks ∙ sym (h .marks))
 
 pub read-line-pinned : ReadLinePinned
 read-line-pinned bytes at columns strict reference changes r s xs ys g h = (g .answer ∙ sym (h .answer), g .store ∙ sym (h .store))

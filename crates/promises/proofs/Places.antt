@@ -8,12 +8,12 @@ use lib.ListN.{length}
 use Rattle.rules.specs.Bits.{bitsOf}
 use Rattle.rules.specs.Lines.{Rules, Went, went, failed, two, readLine}
 use Rattle.rules.specs.Pages as Page
-use Rattle.rules.specs.Pages.{decode, oneLine, readOneLine}
+use Rattle.rules.specs.Pages.{decode, placesIn, oneLine, readOneLine}
 use Rattle.rules.proofs.Bits.{length-bitsOf}
 use Rattle.rules.proofs.Budget.{Bytes}
 use Rattle.rules.proofs.Places.{Fault, read-placed, page-placed}
 use Rattle.rules.proofs.Places as Law
-use Rattle.error.specs.Error.{answerOf}
+use Rattle.error.specs.Error.{answerWith}
 use Rattle.error.specs.declared.Answer.{Answer}
 use Rattle.rows.specs.declared.DecodeSettings.{DecodeSettings}
 use Rattle.rows.specs.Settings.{settingsOf}
@@ -35,8 +35,8 @@ pub writers-name-none : WritersNameNone
 writers-name-none w out r out′ called = ap (λ (x : Answer). x .place) (called .answer)
 
 -- what the rules' answer names, the contract's names too
-placed : (bytes : List ℕ) (a : Page.Answer) (r : Answer) → r ≡ answerOf a → Fault (bitsOf bytes) (a .number) (a .place) → Placed bytes r
-placed bytes a r e f =
+placed : (bytes : List ℕ) (a : Page.Answer) (mark : ℕ) (r : Answer) → r ≡ answerWith mark a → Fault (bitsOf bytes) (a .number) (a .place) → Placed bytes r
+placed bytes a mark r e f =
     let n = ap (λ (x : Answer). x .number) e in
     let p = ap (λ (x : Answer). x .place) e in
     record {
@@ -51,7 +51,7 @@ refused bs n = record { inside = omega arith; none = λ z. refl; later = λ l. r
 
 -- ---- The page form
 
-module _ (bytes : List ℕ) (settings : DecodeSettings) (changes ends : List ℕ) where
+module _ (bytes : List ℕ) (settings : DecodeSettings) (changes ends marks : List ℕ) where
   whole : Bytes (bitsOf bytes)
   whole = record { count = length bytes; whole = length-bitsOf bytes }
 
@@ -59,30 +59,30 @@ module _ (bytes : List ℕ) (settings : DecodeSettings) (changes ends : List ℕ
   positive zero z = absurd (z refl)
   positive (suc n) z = omega arith
 
-  page-placed′ : {a : Page.Answer} → Paged.Said settings bytes changes ends a → Fault (bitsOf bytes) (a .number) (a .place)
+  page-placed′ : {a : Page.Answer} → Paged.Said settings bytes changes ends marks a → Fault (bitsOf bytes) (a .number) (a .place)
   page-placed′ (Paged.is-six e) = refused (bitsOf bytes) 6
   page-placed′ (Paged.is-seven n l) = refused (bitsOf bytes) 7
   page-placed′ (Paged.no-columns n l) = refused (bitsOf bytes) 0
   page-placed′ (Paged.is-read n l z) =
-      page-placed (settingsOf settings .encoding) (settingsOf settings) (positive (settings .columns) z) (bitsOf bytes) whole (length changes) (length ends) refl
+      page-placed (settingsOf settings .encoding) (settingsOf settings) (positive (settings .columns) z) (bitsOf bytes) whole (length changes) (placesIn ends marks) refl
 
   abbrev Blames : Page.Answer → Type 0
-  Blames a = 1 ≤ a .number → a .number ≤ 3 → PageFault (settingsOf settings) (bitsOf bytes) (length changes) (length ends) (length (a .rows)) (a .number) (a .place)
+  Blames a = 1 ≤ a .number → a .number ≤ 3 → PageFault (settingsOf settings) (bitsOf bytes) (length changes) (placesIn ends marks) (length (a .rows)) (a .number) (a .place)
 
-  page-blames : {a : Page.Answer} → Paged.Said settings bytes changes ends a → Blames a
+  page-blames : {a : Page.Answer} → Paged.Said settings bytes changes ends marks a → Blames a
   page-blames (Paged.is-six e) = λ x y. absurd (omega arith)
   page-blames (Paged.is-seven n l) = λ x y. absurd (omega arith)
   page-blames (Paged.no-columns n l) = λ x y. absurd (omega arith)
-  page-blames (Paged.is-read n l z) = Pages.page-fault (settingsOf settings) (positive (settings .columns) z) (bitsOf bytes) whole (length changes) (length ends)
+  page-blames (Paged.is-read n l z) = Pages.page-fault (settingsOf settings) (positive (settings .columns) z) (bitsOf bytes) whole (length changes) (placesIn ends marks)
 
 pub decode-places : DecodePlaces
-decode-places bytes settings changes ends r changes′ ends′ called =
-    placed bytes (decode (settingsOf settings) bytes (length changes) (length ends)) r (called .answer) (page-placed′ bytes settings changes ends (Paged.said settings bytes changes ends))
+decode-places bytes settings changes ends marks r changes′ ends′ marks′ called =
+    placed bytes (decode (settingsOf settings) bytes (length changes) (placesIn ends marks)) 0 r (called .answer) (page-placed′ bytes settings changes ends marks (Paged.said settings bytes changes ends marks))
 
 pub decode-faults : DecodeFaults
-decode-faults bytes settings changes ends r changes′ ends′ called =
-    subst (λ (x : Answer). 1 ≤ x .number → x .number ≤ 3 → PageFault (settingsOf settings) (bitsOf bytes) (length changes) (length ends) (x .rows) (x .number) (x .place)) (sym (called .answer))
-    (page-blames bytes settings changes ends (Paged.said settings bytes changes ends))
+decode-faults bytes settings changes ends marks r changes′ ends′ marks′ called =
+    subst (λ (x : Answer). 1 ≤ x .number → x .number ≤ 3 → PageFault (settingsOf settings) (bitsOf bytes) (length changes) (placesIn ends marks) (x .rows) (x .number) (x .place)) (sym (called .answer))
+    (page-blames bytes settings changes ends marks (Paged.said settings bytes changes ends marks))
 
 -- ---- One line
 
@@ -128,7 +128,7 @@ read-line-places bytes at columns strict reference changes r changes′ called =
     let s = Lined.said bytes at columns strict reference changes in
     let n = ap (λ (x : Answer). x .number) (called .answer) in
     let p = ap (λ (x : Answer). x .place) (called .answer) in (
-      placed bytes (readOneLine bytes at columns strict reference (length changes)) r (called .answer) (line-placed bytes at columns strict reference changes s),
+      placed bytes (readOneLine bytes at columns strict reference (length changes)) _ r (called .answer) (line-placed bytes at columns strict reference changes s),
       λ q l. p ∙ starts-past bytes at columns strict reference changes s (sym n ∙ q) l,
     )
 

@@ -22,8 +22,8 @@ Follows rows reference row = (before after : List (List ℕ)) × ([] ∷ rows �
 -- where its line fits the output, `write_line` writes it, and `read_line` reads it back
 abbrev pub RowsGoBack : Type 0
 RowsGoBack =
-    (bytes : List ℕ) (settings : DecodeSettings) (changes ends : List ℕ) (r : Answer) (changes′ ends′ : List ℕ) → settings .columns ≤ 4294967295
-    → Decodes bytes settings changes ends r changes′ ends′
+    (bytes : List ℕ) (settings : DecodeSettings) (changes ends marks : List ℕ) (r : Answer) (changes′ ends′ marks′ : List ℕ) → settings .columns ≤ 4294967295
+    → Decodes bytes settings changes ends marks r changes′ ends′ marks′
     → (reference row : List ℕ) → Follows (rowsIn 0 changes′ (take (r .rows) ends′)) reference row
     → (out : List ℕ) (at : ℕ) (w : Answer) (out′ : List ℕ) → length out ≤ mostBytes
     → at + length (lineBits mostMakeup (settings .columns) (two reference) row) ≤ 8 * length out

@@ -15,8 +15,8 @@ use Rattle.ccitt.specs.Decode.{Decodes}
 
 -- ---- The page form
 
--- a call of `decode` on bytes, with settings and two arrays of changes and row ends: its answer, and the arrays after it
-module _ (bytes : List ℕ) (settings : DecodeSettings) (changes ends : List ℕ) (r : Answer) (changes′ ends′ : List ℕ) where
+-- a call of `decode` on bytes, with settings and three arrays of changes, row ends and marks: its answer, and the arrays after it
+module _ (bytes : List ℕ) (settings : DecodeSettings) (changes ends marks : List ℕ) (r : Answer) (changes′ ends′ marks′ : List ℕ) where
   -- a number of the list: 0 to 5, or a refusal with 6 or 7, each exactly when 01 says so; without columns, and without a refusal, it is 0
   pub record Listed : Type 0 where
     pub at-most-7 : r .number ≤ 7
@@ -28,17 +28,20 @@ module _ (bytes : List ℕ) (settings : DecodeSettings) (changes ends : List ℕ
   pub record Refused : Type 0 where
     pub same-changes : changes′ ≡ changes
     pub same-ends : ends′ ≡ ends
+    pub same-marks : marks′ ≡ marks
     pub counts : (r .rows ≡ 0) × (r .entries ≡ 0) × (r .loose ≡ 0) × (r .bytes ≡ 0)
 
   -- The counts fit the arrays; the rows that lie in the store ascend strictly below the width, and their entries are as many as the answer says;
   -- every later entry keeps its value; after 0 there are no loose entries; without columns there are no rows; and rows never exceed 8 × bytes + 1.
   pub record Stored : Type 0 where
     pub rows-fit : r .rows ≤ length ends
+    pub marks-fit : r .rows ≤ length marks
     pub entries-fit : r .entries + r .loose ≤ length changes
     pub counted : entries (rowsIn 0 changes′ (take (r .rows) ends′)) ≡ r .entries
     pub rising : Rows (settings .columns) (rowsIn 0 changes′ (take (r .rows) ends′))
     pub later-changes : drop (r .entries + r .loose) changes′ ≡ drop (r .entries + r .loose) changes
     pub later-ends : drop (r .rows) ends′ ≡ drop (r .rows) ends
+    pub later-marks : drop (r .rows) marks′ ≡ drop (r .rows) marks
     pub clean : r .number ≡ 0 → r .loose ≡ 0
     pub no-rows : settings .columns ≡ 0 → r .rows ≡ 0
     pub few-rows : r .rows ≤ 8 * length bytes + 1
@@ -46,18 +49,20 @@ module _ (bytes : List ℕ) (settings : DecodeSettings) (changes ends : List ℕ
 -- whatever `decode` is called on
 abbrev pub DecodeAnswers : Type 0
 DecodeAnswers =
-    (bytes : List ℕ) (settings : DecodeSettings) (changes ends : List ℕ) (r : Answer) (changes′ ends′ : List ℕ)
+    (bytes : List ℕ) (settings : DecodeSettings) (changes ends marks : List ℕ) (r : Answer) (changes′ ends′ marks′ : List ℕ)
     → settings .columns ≤ 4294967295
-    → Decodes bytes settings changes ends r changes′ ends′
-    → Listed bytes settings changes ends r changes′ ends′ × (6 ≤ r .number → Refused bytes settings changes ends r changes′ ends′) × Stored bytes settings changes ends r changes′ ends′
+    → Decodes bytes settings changes ends marks r changes′ ends′ marks′
+    → Listed bytes settings changes ends marks r changes′ ends′ marks′ × (6 ≤ r .number → Refused bytes settings changes ends marks r changes′ ends′ marks′) × Stored bytes settings changes ends marks r changes′ ends′ marks′
 
 -- more room never changes an answer from 0 to 3: same number, counts, and the same front of the arrays
 abbrev pub MoreRoom : Type 0
 MoreRoom =
-    (bytes : List ℕ) (settings : DecodeSettings) (changes ends larger-changes larger-ends : List ℕ) (r s : Answer) (changes′ ends′ larger-changes′ larger-ends′ : List ℕ)
+    (bytes : List ℕ) (settings : DecodeSettings) (changes ends marks larger-changes larger-ends larger-marks : List ℕ) (r s : Answer) (changes′ ends′ marks′ larger-changes′ larger-ends′ larger-marks′ : List ℕ)
     → length changes ≤ length larger-changes
     → length ends ≤ length larger-ends
-    → Decodes bytes settings changes ends r changes′ ends′
-    → Decodes bytes settings larger-changes larger-ends s larger-changes′ larger-ends′
+    → length marks ≤ length larger-marks
+    → Decodes bytes settings changes ends marks r changes′ ends′ marks′
+    → Decodes bytes settings larger-changes larger-ends larger-marks s larger-changes′ larger-ends′ larger-marks′
     → r .number ≤ 3
     → (s ≡ r) × (take (r .entries + r .loose) larger-changes′ ≡ take (r .entries + r .loose) changes′) × (take (r .rows) larger-ends′ ≡ take (r .rows) ends′)
+    × (take (r .rows) larger-marks′ ≡ take (r .rows) marks′)

@@ -70,8 +70,8 @@ WrittenPageReadsBack =
     → Answers (writePage mostMakeup columns changes ends out) out w out′ → w .number ≡ 0
     → (bytes : List ℕ) → length bytes ≤ mostBytes → take (w .bytes) bytes ≡ take (w .bytes) out′
     → (settings : DecodeSettings) → Plainly columns settings → (settings .rows ≡ 0) ⊎ (settings .rows ≡ length ends)
-    → (store places : List ℕ) (r : Answer) (store′ places′ : List ℕ) → entries (rowsIn 0 changes ends) ≤ length store → length ends ≤ length places
-    → Decodes bytes settings store places r store′ places′
+    → (store places marks : List ℕ) (r : Answer) (store′ places′ marks′ : List ℕ) → entries (rowsIn 0 changes ends) ≤ length store → length ends ≤ length places → length ends ≤ length marks
+    → Decodes bytes settings store places marks r store′ places′ marks′
     → (r .number ≡ 0) × (r .bytes ≡ w .bytes) × (rowsIn 0 store′ (take (r .rows) places′) ≡ rowsIn 0 changes ends)
 
 -- cut after any byte, it gives only its own first rows, each whole
@@ -80,6 +80,6 @@ CutPageGivesFirstRows =
     (columns : ℕ) (changes ends out : List ℕ) (w : Answer) (out′ : List ℕ) → columns ≤ 4294967295
     → Answers (writePage mostMakeup columns changes ends out) out w out′ → w .number ≡ 0
     → (cut : ℕ) (settings : DecodeSettings) → Plainly columns settings
-    → (store places : List ℕ) (r : Answer) (store′ places′ : List ℕ)
-    → Decodes (take cut out′) settings store places r store′ places′
+    → (store places marks : List ℕ) (r : Answer) (store′ places′ marks′ : List ℕ)
+    → Decodes (take cut out′) settings store places marks r store′ places′ marks′
     → (n : ℕ) × (rowsIn 0 store′ (take (r .rows) places′) ≡ take n (rowsIn 0 changes ends))

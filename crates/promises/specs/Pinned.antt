@@ -16,10 +16,10 @@ use Rattle.writer.specs.Outcome.{Answers}
 
 abbrev pub DecodePinned : Type 0
 DecodePinned =
-    (bytes : List ℕ) (settings : DecodeSettings) (changes ends : List ℕ) (r s : Answer) (xs ys es fs : List ℕ)
-    → Decodes bytes settings changes ends r xs es
-    → Decodes bytes settings changes ends s ys fs
-    → (r ≡ s) × (xs ≡ ys) × (es ≡ fs)
+    (bytes : List ℕ) (settings : DecodeSettings) (changes ends marks : List ℕ) (r s : Answer) (xs ys es fs ms ns : List ℕ)
+    → Decodes bytes settings changes ends marks r xs es ms
+    → Decodes bytes settings changes ends marks s ys fs ns
+    → (r ≡ s) × (xs ≡ ys) × (es ≡ fs) × (ms ≡ ns)
 
 abbrev pub ReadLinePinned : Type 0
 ReadLinePinned =

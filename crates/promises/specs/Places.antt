@@ -14,10 +14,10 @@ use Rattle.rules.specs.Runs.{ok, fault, Sum, For, readRun}
 use Rattle.rules.specs.Modes as Rule
 use Rattle.rules.specs.Modes.{pass, horizontal, VR, VL, known, unknown, modeByTable, Moded, moded, readMode}
 use Rattle.rules.specs.Lines.{Rules, Line, newLine, movedTo, went, pushRun, b1, b2, Kind, one, two, codeOf, lineStep}
-use Rattle.rules.specs.Rows.{group4, group3-1D, group3-2D, Settings, State, pageStart, rulesOf}
+use Rattle.rules.specs.Rows.{group4, group3-1D, group3-2D, Settings, State, rulesOf}
 use Rattle.rules.specs.Group4.{eolsBefore}
 use Rattle.rules.specs.Group3.{untagged, tagged, line-at, before}
-use Rattle.rules.specs.Pages.{Kept, entries, pageStep, rowOf}
+use Rattle.rules.specs.Pages.{Kept, noneKept, entries, pageStep, rowOf, placesIn}
 use Rattle.rules.specs.Write.{Written, codesBits}
 use Rattle.rules.proofs.Eols.{EolAt}
 use Rattle.error.specs.declared.Answer.{Answer}
@@ -41,8 +41,8 @@ pub record Placed (bytes : List ℕ) (r : Answer) : Type 0 where
 
 abbrev pub DecodePlaces : Type 0
 DecodePlaces =
-    (bytes : List ℕ) (settings : DecodeSettings) (changes ends : List ℕ) (r : Answer) (changes′ ends′ : List ℕ)
-    → Decodes bytes settings changes ends r changes′ ends′
+    (bytes : List ℕ) (settings : DecodeSettings) (changes ends marks : List ℕ) (r : Answer) (changes′ ends′ marks′ : List ℕ)
+    → Decodes bytes settings changes ends marks r changes′ ends′ marks′
     → Placed bytes r
 
 -- "a start past the data points at the end of data"
@@ -183,13 +183,13 @@ pub data RowFault (S : Settings) (bs : List Bool) (room : ℕ) (st : State) : �
 -- a page: rows are kept, and the next one fails
 pub record PageFault (S : Settings) (bs : List Bool) (store places rows n place : ℕ) : Type 0 where
   pub kept : Kept
-  pub reached : run (pageStep (rowOf (S .encoding) S bs) store places) rows (record { state = pageStart; rows = [] }) ≡ more kept
+  pub reached : run (pageStep (rowOf (S .encoding) S bs) store places) rows noneKept ≡ more kept
   pub fails : RowFault S bs (store - entries (kept .rows)) (kept .state) n place
 
 -- ".. and page forms pass the place on"
 abbrev pub DecodeFaults : Type 0
 DecodeFaults =
-    (bytes : List ℕ) (settings : DecodeSettings) (changes ends : List ℕ) (r : Answer) (changes′ ends′ : List ℕ)
-    → Decodes bytes settings changes ends r changes′ ends′
+    (bytes : List ℕ) (settings : DecodeSettings) (changes ends marks : List ℕ) (r : Answer) (changes′ ends′ marks′ : List ℕ)
+    → Decodes bytes settings changes ends marks r changes′ ends′ marks′
     → 1 ≤ r .number → r .number ≤ 3
-    → PageFault (settingsOf settings) (bitsOf bytes) (length changes) (length ends) (r .rows) (r .number) (r .place)
+    → PageFault (settingsOf settings) (bitsOf bytes) (length changes) (placesIn ends marks) (r .rows) (r .number) (r .place)

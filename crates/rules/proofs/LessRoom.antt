@@ -15,7 +15,7 @@ use Rattle.rules.specs.Codes.{differ}
 use Rattle.rules.specs.Runs.{Res, ok, fault, Sum, sum, readRun, unreachable}
 use Rattle.rules.specs.Modes.{Mode, pass, horizontal, VR, VL, Moded, readMode}
 use Rattle.rules.specs.Lines.{Rules, Line, line, newLine, turned, movedTo, withCut, Went, went, failed, next, lastColour, recorded, add, push, pushTurn, afterRun, pushRun, b1, b2, vertical, apply, afterMode, code2D, Kind, one, two, codeOf, goOn, lineOf, lineStep, lineEnd, readLine}
-use Rattle.rules.specs.Rows.{Encoding, group4, group3-1D, group3-2D, Settings, State, RowOut, row, stop, rulesOf}
+use Rattle.rules.specs.Rows.{Encoding, group4, group3-1D, group3-2D, Settings, State, readMark, recoveredMark, RowOut, row, stop, rulesOf}
 use Rattle.rules.specs.Group4.{row4, afterLine4, lineOrEnd, eolsBefore, over}
 use Rattle.rules.specs.Group3.{Tagging, untagged, tagged, Before, line-at, end-at, no-eol-at, before, taggedLine, lineOfTag, line3, kept, whitened, recovered, afterLine3, rowFrom, row3}
 use Rattle.rules.specs.Pages.{rowOf}
@@ -232,7 +232,7 @@ line-fills width strict room kind bs at = line-both width strict room room (omeg
 
 -- the changes of a row, or the loose ones
 abbrev pub changesIn : RowOut → List ℕ
-changesIn (row r next) = r
+changesIn (row r mark next) = r
 changesIn (stop n place bytes loose) = loose
 
 -- as `Cut`, of a row
@@ -242,7 +242,7 @@ pub data RowCut (n : ℕ) : RowOut → RowOut → Type 0 where
 
 -- as `Fills`, of a row
 abbrev pub RowFills : ℕ → RowOut → Type 0
-RowFills room (row r next) = Unit {0}
+RowFills room (row r mark next) = Unit {0}
 RowFills room (stop n place bytes loose) = n ≡ 4 → room ≤ length loose
 
 -- a line that found no room is no row, whatever more room makes of it
@@ -264,8 +264,8 @@ module _ (S : Settings) (bs : List Bool) (small large : ℕ) (le : small ≤ lar
   line-of : (kind : Kind) (at : ℕ) → BothLines [] (readLine (rulesOf S small) kind bs at) (readLine (rulesOf S large) kind bs at)
   line-of kind at = line-both (S .columns) (S .strict) small large le kind bs at
 
-  -- what comes after a line: a row where it is whole, and its failure where not
-  module _ (after : Went → RowOut) (next : Line → State) (kept′ : (l : Line) → after (went l) ≡ row (l .changes) (next l))
+  -- what comes after a line: a row with its mark where it is whole, and its failure where not
+  module _ (after : Went → RowOut) (mark : Line → ℕ) (next : Line → State) (kept′ : (l : Line) → after (went l) ≡ row (l .changes) (mark l) (next l))
       (ended : (n place : ℕ) (l : Line) → after (failed n place l) ≡ stop n place 0 (l .changes)) where
     after-line : {v w : Went} → Cut small v w → RowCut small (after v) (after w)
     after-line (same {w = went l} h) = rw (kept′ l) (row-same h)
@@ -288,8 +288,8 @@ module _ (S : Settings) (bs : List Bool) (small large : ℕ) (le : small ≤ lar
     where
       after : {v w : Went} → BothLines [] v w → RowBoth (afterLine4 S bs st v) (afterLine4 S bs st w)
       after {w = w} b = record {
-        cuts = after-line (afterLine4 S bs st) _ (λ l. refl) (λ n place l. refl) (b .cuts (omega arith));
-        fills = line-filled (afterLine4 S bs st) _ (λ l. refl) (λ n place l. refl) w (b .fills);
+        cuts = after-line (afterLine4 S bs st) readMark _ (λ l. refl) (λ n place l. refl) (b .cuts (omega arith));
+        fills = line-filled (afterLine4 S bs st) readMark _ (λ l. refl) (λ n place l. refl) w (b .fills);
       }
 
       tests : (b : Bool) → RowBoth (lineOrEnd S bs small st (eolsBefore S bs st) b) (lineOrEnd S bs large st (eolsBefore S bs st) b)
@@ -316,15 +316,15 @@ module _ (S : Settings) (bs : List Bool) (small large : ℕ) (le : small ≤ lar
 
       recovered-cut : (n place : ℕ) (l : Line) (b : Bool) → length (l .changes) ≤ small
           → RowCut small (recovered S t bs (rulesOf S small) st at expected n place l b) (recovered S t bs (rulesOf S large) st at expected n place l b)
-      recovered-cut n place l true h = after-line (kept S t bs st expected at) _ (λ l. refl) (λ n place l. refl) (white-both l .cuts h)
+      recovered-cut n place l true h = after-line (kept S t bs st expected at recoveredMark) (λ l. recoveredMark) _ (λ l. refl) (λ n place l. refl) (white-both l .cuts h)
       recovered-cut n place l false h = row-same h
 
       recovered-filled : (n place : ℕ) (l : Line) (b : Bool) → (n ≡ 4 → large ≤ length (l .changes)) → RowFills large (recovered S t bs (rulesOf S large) st at expected n place l b)
-      recovered-filled n place l true f = line-filled (kept S t bs st expected at) _ (λ l. refl) (λ n place l. refl) (push (rulesOf S large) 0 (S .columns - l .position) (whitened S t bs l)) (white-both l .fills)
+      recovered-filled n place l true f = line-filled (kept S t bs st expected at recoveredMark) (λ l. recoveredMark) _ (λ l. refl) (λ n place l. refl) (push (rulesOf S large) 0 (S .columns - l .position) (whitened S t bs l)) (white-both l .fills)
       recovered-filled n place l false f = f
 
       recovered-begins : (n place : ℕ) (l : Line) (b : Bool) → Begins (l .changes) (changesIn (recovered S t bs (rulesOf S large) st at expected n place l b))
-      recovered-begins n place l true = line-begins (kept S t bs st expected at) _ (λ l. refl) (λ n place l. refl) (push (rulesOf S large) 0 (S .columns - l .position) (whitened S t bs l)) (white-both l .grows)
+      recovered-begins n place l true = line-begins (kept S t bs st expected at recoveredMark) (λ l. recoveredMark) _ (λ l. refl) (λ n place l. refl) (push (rulesOf S large) 0 (S .columns - l .position) (whitened S t bs l)) (white-both l .grows)
       recovered-begins n place l false = begins-same (l .changes)
 
       -- 4 is never recovered from

@@ -8,14 +8,15 @@ use Prim.Native.Nat.{ℕ, zero, suc, min, _+_, _-_, _*_, _≤_, _<_}
 use native.Mathlib.Omega.{arith}
 use lib.Dec.{eqb, leb, ltb}
 use lib.ListN.{length, take, length-append, drop-of-length-le}
+use lib.Seq.{take-at}
 use borrow.Author.Tests.{ltb-true, ltb-false, leb-true, eqb-false}
 use Rattle.rules.specs.Machine.{Out, more, done, ends}
 use Rattle.rules.specs.Bits.{bitsOf}
 use Rattle.rules.specs.Lines.{Rules, Went, went, failed, two, readLine}
-use Rattle.rules.specs.Rows.{Encoding, group4, group3-1D, group3-2D, Settings, State, pageStart, RowOut, row, stop, rulesOf, finished}
+use Rattle.rules.specs.Rows.{Encoding, group4, group3-1D, group3-2D, Settings, State, readMark, recoveredMark, RowOut, row, stop, rulesOf, finished}
 use Rattle.rules.specs.Group4.{eolsBefore, afterLine4, row4}
 use Rattle.rules.specs.Group3.{Tagging, untagged, tagged, line3, kept, afterLine3, row3}
-use Rattle.rules.specs.Pages.{Answer, Kept, entries, rowsLeft, pageOf, rowOf, readPage, mostBytes, tooWide, ascends, decode, oneLine, readOneLine}
+use Rattle.rules.specs.Pages.{Answer, Kept, noneKept, withRow, endWith, entries, rowsLeft, pageOf, rowOf, readPage, mostBytes, tooWide, ascends, decode, oneLine, readOneLine}
 use Rattle.rules.proofs.Bits.{length-bitsOf}
 use Rattle.rules.proofs.Machine.{Falls, ends-more, ends-done, ends-ind, ends-stops}
 use Rattle.rules.proofs.PageBack.{entries-snoc}
@@ -25,8 +26,9 @@ use Rattle.rules.proofs.Eols.{eols-ahead, reaches}
 use Rattle.rules.proofs.Budget.{Budgeted, Budget, Due, Bytes, Starts, Sets, before-sets}
 use Rattle.rules.proofs.Rows.{row4-cases, row3-cases, mended-cases, line3-damaged}
 use Rattle.rules.proofs.Pages.{Does, Fitting, row-does, Held, held-start, held-next, read-answered, step, page-cases, page-kept, page-full, page-stopped, page-falls}
+use Rattle.rules.proofs.Marks.{decode-came, came-as-many}
 use Rattle.rules.proofs.LessRoom.{Cut, same, short, line-cut, Fills, line-fills, changesIn, RowFills, row-fills, RowCut, row-cut, row-cut-cases}
-use Rattle.rules.proofs.Within.{four, five, withinFrom, within, within-all, within-loose, within-four, within-five, within-kept, Cuts, cuts, cuts-four, cuts-five}
+use Rattle.rules.proofs.Within.{cutBehind, four, withinFrom, within, within-all, within-loose, within-four, within-five, within-kept, Cuts, cuts, Front, cuts-front, cuts-four, cuts-five}
 
 -- ---- A page with less room
 
@@ -43,11 +45,12 @@ module _ (S : Settings) (wide : 0 < S .columns) (bs : List Bool) (bytes : Bytes 
   abbrev rowIn : ℕ → Kept → RowOut
   rowIn n k = rowOf (S .encoding) S bs (n - entries (k .rows)) (k .state)
 
-  -- from rows that are kept in both: the larger room's answer has them, and then others, and the smaller room cuts it
+  -- From rows that are kept in both, each with its mark: the larger room's answer has them, and then others, and the smaller room cuts it.
   abbrev Cutting : Kept → Answer → Type 0
   Cutting k a =
       (rest : List (List ℕ)) × (a .rows ≡ k .rows ++ rest)
-      × (entries (k .rows) ≤ store → length (k .rows) ≤ places → ends small (rowsLeft bs) k ≡ done (withinFrom store places a (k .rows) rest))
+      × (later : List ℕ) × (a .marks ≡ k .marks ++ later)
+      × (length (k .marks) ≡ length (k .rows) → entries (k .rows) ≤ store → length (k .rows) ≤ places → ends small (rowsLeft bs) k ≡ done (withinFrom store places a (k .rows) rest))
 
   module _ (k : Kept) where
     abbrev left : ℕ
@@ -66,68 +69,75 @@ module _ (S : Settings) (wide : 0 < S .columns) (bs : List Bool) (bytes : Bytes 
     ends-with : (a b : Answer) → small k ≡ done b → a ≡ b → ends small (rowsLeft bs) k ≡ done a
     ends-with a b e q = ends-done small (rowsLeft bs) small-falls k b e ∙ ap done (sym q)
 
-    -- the larger room has no row end left
-    full : (r : List ℕ) (next : State) → rowIn store′ k ≡ row r next → places′ ≤ length (k .rows) → Cutting k (five (k .rows) r)
-    full r next e l = (
-      [],
-      sym (append-nil (k .rows)),
-      λ h i. less (row r next) (Done (five (k .rows) r) []) e
-          (λ f q. ends-with _ (five (k .rows) r) (page-full (S .encoding) S wide bs bytes store places k r next q (omega arith)) (within-all store places (five (k .rows) r) (k .rows) f))
-          (λ f q. ends-with _ (four (k .rows) (take left r)) (page-stopped (S .encoding) S wide bs bytes store places k 4 0 0 (take left r) q) (within-loose store places (five (k .rows) r) (k .rows) f)),
-    )
+    module _ (a : Answer) (later : List ℕ) (y : a .marks ≡ k .marks ++ later) (marked : length (k .marks) ≡ length (k .rows)) where
+      -- the rows kept have the answer's first marks
+      ends-cut : (n : ℕ) (rest : List (List ℕ)) (loose : List ℕ) → small k ≡ done (endWith k n 0 0 loose) → withinFrom store places a (k .rows) rest ≡ cutBehind a n (k .rows) loose → Done a rest
+      ends-cut n rest loose e q = ends-with _ (endWith k n 0 0 loose) e (q ∙ (let m = ap (take (length (k .rows))) y ∙ take-at (k .marks) later (length (k .rows)) marked in cc))
 
-    -- the page ends in it
-    ended : (n place b : ℕ) (loose : List ℕ) → rowIn store′ k ≡ stop n place b loose → Cutting k (record { number = n; place = place; bytes = b; rows = k .rows; loose = loose })
-    ended n place b loose e = (
+      stops : (rest : List (List ℕ)) (loose : List ℕ) → rowIn store k ≡ stop 4 0 0 loose → withinFrom store places a (k .rows) rest ≡ four a (k .rows) loose → Done a rest
+      stops rest loose e = ends-cut 4 rest loose (page-stopped (S .encoding) S wide bs bytes store places k 4 0 0 loose e)
+
+    -- the larger room ends the page here, and the smaller one too where the changes fit
+    last : (n place b : ℕ) (o : RowOut) → rowIn store′ k ≡ o → (rowIn store k ≡ o → small k ≡ done (endWith k n place b (changesIn o))) → Cutting k (endWith k n place b (changesIn o))
+    last n place b o e same-end = (
       [],
       sym (append-nil (k .rows)),
-      λ h i. less (stop n place b loose) (Done a []) e
-          (λ f q. ends-with _ a (page-stopped (S .encoding) S wide bs bytes store places k n place b loose q) (within-all store places a (k .rows) f))
-          (λ f q. ends-with _ (four (k .rows) (take left loose)) (page-stopped (S .encoding) S wide bs bytes store places k 4 0 0 (take left loose) q) (within-loose store places a (k .rows) f)),
+      [],
+      sym (append-nil (k .marks)),
+      λ marked h i. less o (Done a []) e
+          (λ f q. ends-with _ a (same-end q) (within-all store places a (k .rows) f))
+          (λ f q. stops a [] (sym (append-nil (k .marks))) marked [] (take left (changesIn o)) q (within-loose store places a (k .rows) f)),
     )
       where
         a : Answer
-        a = record { number = n; place = place; bytes = b; rows = k .rows; loose = loose }
+        a = endWith k n place b (changesIn o)
 
     -- it keeps a row
-    keeps : (r : List ℕ) (next : State) (a : Answer) → rowIn store′ k ≡ row r next → Cutting (record { state = next; rows = k .rows ++ r ∷ [] }) a → Cutting k a
-    keeps r next a e (rest, x, f) = (
+    keeps : (r : List ℕ) (mark : ℕ) (next : State) (a : Answer) → rowIn store′ k ≡ row r mark next → Cutting (withRow k r mark next) a → Cutting k a
+    keeps r mark next a e (rest, x, later, y, f) = (
       r ∷ rest,
       x ∙ append-assoc (k .rows) (r ∷ []) rest,
-      λ h i. less (row r next) (Done a (r ∷ rest)) e
-          (λ g q. tests h g q (ltb (length (k .rows)) places) (ltb-true _ _) (ltb-false _ _))
-          (λ g q. ends-with _ (four (k .rows) (take left r)) (page-stopped (S .encoding) S wide bs bytes store places k 4 0 0 (take left r) q) (within-four store places a (k .rows) r rest g)),
+      mark ∷ later,
+      z,
+      λ marked h i. less (row r mark next) (Done a (r ∷ rest)) e
+          (λ g q. tests marked h g q (ltb (length (k .rows)) places) (ltb-true _ _) (ltb-false _ _))
+          (λ g q. stops a (mark ∷ later) z marked (r ∷ rest) (take left r) q (within-four store places a (k .rows) r rest g)),
     )
       where
-        tests : entries (k .rows) ≤ store → length r ≤ left → rowIn store k ≡ row r next → (b : Bool) → (b ≡ true → length (k .rows) < places) → (b ≡ false → places ≤ length (k .rows)) → Done a (r ∷ rest)
-        tests h g q true l m =
-            ends-more small (rowsLeft bs) small-falls k _ (page-kept (S .encoding) S wide bs bytes store places k r next q (l refl))
-            ∙ f (omega (arith, entries-snoc (k .rows) r)) (omega (arith, l refl, length-append (k .rows) (r ∷ [])))
+        z : a .marks ≡ k .marks ++ mark ∷ later
+        z = y ∙ append-assoc (k .marks) (mark ∷ []) later
+
+        tests : length (k .marks) ≡ length (k .rows) → entries (k .rows) ≤ store → length r ≤ left → rowIn store k ≡ row r mark next
+            → (b : Bool) → (b ≡ true → length (k .rows) < places) → (b ≡ false → places ≤ length (k .rows)) → Done a (r ∷ rest)
+        tests marked h g q true l m =
+            ends-more small (rowsLeft bs) small-falls k _ (page-kept (S .encoding) S wide bs bytes store places k r mark next q (l refl))
+            ∙ f (omega (arith, length-append (k .marks) (mark ∷ []), length-append (k .rows) (r ∷ []))) (omega (arith, entries-snoc (k .rows) r)) (omega (arith, l refl, length-append (k .rows) (r ∷ [])))
             ∙ ap done (sym (within-kept store places a (k .rows) r rest g (l refl)))
-        tests h g q false l m =
-            ends-with _ (five (k .rows) r) (page-full (S .encoding) S wide bs bytes store places k r next q (m refl)) (within-five store places a (k .rows) r rest g (m refl))
+        tests marked h g q false l m =
+            ends-cut a (mark ∷ later) z marked 5 (r ∷ rest) r (page-full (S .encoding) S wide bs bytes store places k r mark next q (m refl)) (within-five store places a (k .rows) r rest g (m refl))
 
   base : (k : Kept) (a : Answer) → large k ≡ done a → Cutting k a
   base k a =
       page-cases (S .encoding) S wide bs bytes store′ places′ k (λ o. o ≡ done a → Cutting k a)
-      (λ r next e l q. absurd (let z : _≡_ {A = ℕ} 0 1 = cc in omega arith))
-      (λ r next e l q. subst (Cutting k) (let g : five (k .rows) r ≡ a = cc in g) (full k r next e l))
-      (λ n p b loose e q. subst (Cutting k) (let g : record { number = n; place = p; bytes = b; rows = k .rows; loose = loose } ≡ a = cc in g) (ended k n p b loose e))
+      (λ r mark next e l q. absurd (let z : _≡_ {A = ℕ} 0 1 = cc in omega arith))
+      (λ r mark next e l q. subst (Cutting k) (let g : endWith k 5 0 0 r ≡ a = cc in g)
+      (last k 5 0 0 (row r mark next) e (λ i. page-full (S .encoding) S wide bs bytes store places k r mark next i (omega arith))))
+      (λ n p b loose e q. subst (Cutting k) (let g : endWith k n p b loose ≡ a = cc in g)
+      (last k n p b (stop n p b loose) e (page-stopped (S .encoding) S wide bs bytes store places k n p b loose)))
 
   onward : (k j : Kept) (a : Answer) → large k ≡ more j → Cutting j a → Cutting k a
   onward k j a =
       page-cases (S .encoding) S wide bs bytes store′ places′ k (λ o. o ≡ more j → Cutting j a → Cutting k a)
-      (λ r next e l q c. keeps k r next a e (subst (λ (x : Kept). Cutting x a) (let g : j ≡ record { state = next; rows = k .rows ++ r ∷ [] } = cc in g) c))
-      (λ r next e l q c. absurd (let z : _≡_ {A = ℕ} 0 1 = cc in omega arith))
+      (λ r mark next e l q c. keeps k r mark next a e (subst (λ (x : Kept). Cutting x a) (let g : j ≡ withRow k r mark next = cc in g) c))
+      (λ r mark next e l q c. absurd (let z : _≡_ {A = ℕ} 0 1 = cc in omega arith))
       (λ n p b loose e q c. absurd (let z : _≡_ {A = ℕ} 0 1 = cc in omega arith))
 
   pub page-within : readPage S bs store places ≡ within store places (readPage S bs store′ places′)
   unfolding readPage entries
   page-within =
-      let k : Kept = record { state = pageStart; rows = [] } in
-      let p = ends-stops large (rowsLeft bs) (page-falls (S .encoding) S wide bs bytes store′ places′) k in
-      let c = ends-ind large Cutting base onward (rowsLeft bs) k (p .0) (p .1) in
-      ap pageOf (c .2 (omega arith) (omega arith))
+      let p = ends-stops large (rowsLeft bs) (page-falls (S .encoding) S wide bs bytes store′ places′) noneKept in
+      let c = ends-ind large Cutting base onward (rowsLeft bs) noneKept (p .0) (p .1) in
+      ap pageOf (c .4 refl (omega arith) (omega arith))
       ∙ ap (withinFrom store places (p .0) []) (sym (c .1))
       ∙ ap (λ (o : Out Kept Answer). within store places (pageOf o)) (sym (p .1))
 
@@ -146,8 +156,8 @@ module _ (S : Settings) (wide : 0 < S .columns) (bs : List Bool) (bytes : Bytes 
   abbrev Few : RowOut → Type 0
   Few o = (m : ℕ) → (st .count ≡ 0 → m ≡ 0) → Budget bs st m → m + length (changesIn o) ≤ 2 * length bs
 
-  row-few : (r : List ℕ) (next : State) → Does′ (row r next) → Few (row r next)
-  row-few r next d m z b = budget-few bs (next .at) (m + length r) (next .eols) (d .inside) (d .budget m z b)
+  row-few : (r : List ℕ) (mark : ℕ) (next : State) → Does′ (row r mark next) → Few (row r mark next)
+  row-few r mark next d m z b = budget-few bs (next .at) (m + length r) (next .eols) (d .inside) (d .budget m z b)
 
   none-few : (o : RowOut) → changesIn o ≡ [] → Few o
   none-few o e m z w = omega (arith, ap length e, budget-few bs (st .at) m (st .eols) inside w)
@@ -159,7 +169,7 @@ module _ (S : Settings) (wide : 0 < S .columns) (bs : List Bool) (bytes : Bytes 
       at4 = eolsBefore S bs st .at
 
       cases : (w : Went) → readLine (rulesOf S room) (two (st .reference)) bs at4 ≡ w → Does′ (afterLine4 S bs st w) → Few (afterLine4 S bs st w)
-      cases (went l) e d = row-few (l .changes) _ d
+      cases (went l) e d = row-few (l .changes) (readMark l) _ d
       cases (failed n p l) e d = λ m z b.
           let a = eols-ahead (cond (S .endOfBlock) 2 (length bs)) bs (st .at) in
           let f = read-broken (rulesOf S room) wide (two (st .reference)) bs at4 (length bs) (data-bound bs) (a .inside inside) n p l e in
@@ -175,8 +185,8 @@ module _ (S : Settings) (wide : 0 < S .columns) (bs : List Bool) (bytes : Bytes 
       R = rulesOf S room
 
       -- behind a line at which EOLs are expected the entries before it are no more than the bits
-      mended-few : (at : ℕ) (expected : Bool) → Starts bs st at expected → expected ≡ true → (w : Went) → Does′ (kept S t bs st expected at w) → Few (kept S t bs st expected at w)
-      mended-few at expected f q (went u) d = row-few (u .changes) _ d
+      mended-few : (at : ℕ) (expected : Bool) → Starts bs st at expected → expected ≡ true → (w : Went) → Does′ (kept S t bs st expected at recoveredMark w) → Few (kept S t bs st expected at recoveredMark w)
+      mended-few at expected f q (went u) d = row-few (u .changes) recoveredMark _ d
       mended-few at expected f q (failed n p u) d = λ m z b. let v : m ≤ at = subst (Due bs at m) q (f .due m z b) in omega (arith, d .short, f .inside inside)
 
       due-few : (at m : ℕ) (b : Bool) → Due bs at m b → m ≤ at + length bs
@@ -185,7 +195,7 @@ module _ (S : Settings) (wide : 0 < S .columns) (bs : List Bool) (bytes : Bytes 
 
       cases : (at : ℕ) (expected : Bool) → Starts bs st at expected → (w : Went) → line3 S t bs R (st .reference) at t ≡ w
           → Does′ (afterLine3 S t bs R st at expected w) → Few (afterLine3 S t bs R st at expected w)
-      cases at expected f (went l) e = λ d. row-few (l .changes) _ d
+      cases at expected f (went l) e = λ d. row-few (l .changes) (readMark l) _ d
       cases at expected f (failed n p l) e =
           let g = line3-damaged S t bs R wide (st .reference) at (f .inside inside) n p l e in
           let i = reaches bs at .inside in
@@ -217,11 +227,10 @@ module _ (S : Settings) (wide : 0 < S .columns) (bs : List Bool) (bytes : Bytes 
   unfolding entries
   used-last k a =
       page-cases (S .encoding) S wide bs bytes store places k (λ o. o ≡ done a → Held′ k → Used a)
-      (λ r next e l q h. absurd (let z : _≡_ {A = ℕ} 0 1 = cc in omega arith))
-      (λ r next e l q h. subst Used (let g : record { number = 5; place = 0; bytes = 0; rows = k .rows; loose = r } ≡ a = cc in g)
-      (record { four = λ z. absurd (omega arith); five = λ z. omega (arith, h .placed); few = few-of h (row r next) e }))
-      (λ n p b loose e q h. subst Used (let g : record { number = n; place = p; bytes = b; rows = k .rows; loose = loose } ≡ a = cc in g)
-      (stopped h n p b loose e))
+      (λ r mark next e l q h. absurd (let z : _≡_ {A = ℕ} 0 1 = cc in omega arith))
+      (λ r mark next e l q h. subst Used (let g : endWith k 5 0 0 r ≡ a = cc in g)
+      (record { four = λ z. absurd (omega arith); five = λ z. omega (arith, h .placed); few = few-of h (row r mark next) e }))
+      (λ n p b loose e q h. subst Used (let g : endWith k n p b loose ≡ a = cc in g) (stopped h n p b loose e))
     where
       does : Held′ k → Does S bs (store - entries (k .rows)) (k .state) (rowFor k)
       does h = row-does S wide bs bytes (store - entries (k .rows)) (k .state) (S .encoding) (h .fitting) (h .inside)
@@ -231,7 +240,7 @@ module _ (S : Settings) (wide : 0 < S .columns) (bs : List Bool) (bytes : Bytes 
           subst (λ (u : RowOut). entries (k .rows) + length (changesIn u) ≤ 2 * length bs) e
           (any-few S wide bs bytes (store - entries (k .rows)) (k .state) (h .inside) (S .encoding) (h .fitting) (does h) (entries (k .rows)) (λ z. ap entries (drop-of-length-le (k .rows) {i = 0} (omega (arith, h .counted)))) (h .budget))
 
-      stopped : Held′ k → (n p b : ℕ) (loose : List ℕ) → rowFor k ≡ stop n p b loose → Used (record { number = n; place = p; bytes = b; rows = k .rows; loose = loose })
+      stopped : Held′ k → (n p b : ℕ) (loose : List ℕ) → rowFor k ≡ stop n p b loose → Used (endWith k n p b loose)
       stopped h n p b loose e =
           let m = subst (Does S bs (store - entries (k .rows)) (k .state)) e (does h) in
           let f = subst (RowFills (store - entries (k .rows))) e (row-fills S bs (store - entries (k .rows)) (S .encoding) (k .state)) in
@@ -240,7 +249,7 @@ module _ (S : Settings) (wide : 0 < S .columns) (bs : List Bool) (bytes : Bytes 
   pub page-used : Used (readPage S bs store places)
   unfolding readPage
   page-used =
-      let k : Kept = record { state = pageStart; rows = [] } in
+      let k : Kept = noneKept in
       let s = step (S .encoding) S wide bs bytes store places in
       let p = ends-stops s (rowsLeft bs) (page-falls (S .encoding) S wide bs bytes store places) k in
       subst (λ (o : Out Kept Answer). Used (pageOf o)) (sym (p .1))
@@ -250,7 +259,7 @@ module _ (S : Settings) (wide : 0 < S .columns) (bs : List Bool) (bytes : Bytes 
 
 -- an answer with nothing in it, which is the same in any room
 abbrev nothing : ℕ → ℕ → Answer
-nothing n place = record { number = n; place = place; bytes = 0; rows = []; loose = [] }
+nothing n place = record { number = n; place = place; bytes = 0; rows = []; marks = []; loose = [] }
 
 nothing-within : (store places n place : ℕ) → nothing n place ≡ within store places (nothing n place)
 nothing-within store places n place = sym (within-all store places (nothing n place) [] (omega arith))
@@ -303,6 +312,10 @@ module _ (S : Settings) (bytes : List ℕ) where
     pub decode-cuts : Cuts store places (decode S bytes store′ places′) (decode S bytes store places)
     decode-cuts = subst (Cuts store places (decode S bytes store′ places′)) (sym (decode-within store store′ places places′ le le′)) (cuts store places (decode S bytes store′ places′))
 
+    -- and what it keeps
+    pub decode-front : Front (decode S bytes store′ places′) (decode S bytes store places)
+    decode-front = cuts-front (came-as-many (decode-came S bytes store′ places′ .1)) decode-cuts
+
     -- after 4, a longer array of changes takes more of them,
     pub four-wants : store < store′ → decode S bytes store places .number ≡ 4 → store < entries (decode S bytes store′ places′ .rows) + length (decode S bytes store′ places′ .loose)
     four-wants h q =
@@ -331,9 +344,9 @@ line-within {small} (same {w = went l} h) =
     sym (within-kept small 1 (oneLine (went l)) [] (l .changes) [] (omega arith) (omega arith) ∙ within-all small 1 (oneLine (went l)) (l .changes ∷ []) (omega arith))
 line-within {small} (same {w = failed n place l} h) = sym (within-all small 1 (oneLine (failed n place l)) [] (omega arith))
 line-within {small} (short {w = went l} h e) =
-    ap (four []) (e ∙ ap (λ (n : ℕ). take n (l .changes)) (let q : small ≡ small - 0 = omega arith in q)) ∙ sym (within-four small 1 (oneLine (went l)) [] (l .changes) [] (omega arith))
+    ap (four (oneLine (went l)) []) (e ∙ ap (λ (n : ℕ). take n (l .changes)) (let q : small ≡ small - 0 = omega arith in q)) ∙ sym (within-four small 1 (oneLine (went l)) [] (l .changes) [] (omega arith))
 line-within {small} (short {w = failed n place l} h e) =
-    ap (four []) (e ∙ ap (λ (n : ℕ). take n (l .changes)) (let q : small ≡ small - 0 = omega arith in q)) ∙ sym (within-loose small 1 (oneLine (failed n place l)) [] (omega arith))
+    ap (four (oneLine (failed n place l)) []) (e ∙ ap (λ (n : ℕ). take n (l .changes)) (let q : small ≡ small - 0 = omega arith in q)) ∙ sym (within-loose small 1 (oneLine (failed n place l)) [] (omega arith))
 
 module _ (bytes : List ℕ) (at columns : ℕ) (strict : Bool) (reference : List ℕ) where
   abbrev R : ℕ → Rules
@@ -362,18 +375,19 @@ module _ (bytes : List ℕ) (at columns : ℕ) (strict : Bool) (reference : List
       one-cases (λ f. f small ≡ within small 1 (f large)) (λ n place p q. nothing-within small 1 n place)
       (λ wide i. line-within (line-cut columns strict small large le (two reference) (bitsOf bytes) at))
 
-  -- 4 only where no entry is left, 5 never; one row at most; no more changes than columns, nor than the bits from the line's first on
+  -- 4 only where no entry is left, 5 never; one row at most, with its mark; no more changes than columns, nor than the bits from the line's first on
   pub record LineSpent (room : ℕ) (a : Answer) : Type 0 where
     pub four : a .number ≡ 4 → entries (a .rows) + length (a .loose) ≡ room
     pub five : a .number ≡ 5 → ⊥
     pub one-row : length (a .rows) ≤ 1
+    pub marked : length (a .marks) ≡ length (a .rows)
     pub few : entries (a .rows) + length (a .loose) ≤ min columns (8 * length bytes - at)
 
   pub one-spent : (room : ℕ) → LineSpent room (readOneLine bytes at columns strict reference room)
   unfolding entries
   one-spent room =
       one-cases (λ f. LineSpent room (f room))
-      (λ n place p q. record { four = λ e. absurd (p e); five = q; one-row = omega arith; few = omega arith })
+      (λ n place p q. record { four = λ e. absurd (p e); five = q; one-row = omega arith; marked = refl; few = omega arith })
       (λ wide i. cases wide i (readLine (R room) (two reference) (bitsOf bytes) at) refl (line-fills columns strict room (two reference) (bitsOf bytes) at))
     where
       cases : 0 < columns → at ≤ length (bitsOf bytes) → (w : Went) → readLine (R room) (two reference) (bitsOf bytes) at ≡ w → Fills room w → LineSpent room (oneLine w)
@@ -383,6 +397,7 @@ module _ (bytes : List ℕ) (at columns : ℕ) (strict : Bool) (reference : List
             four = λ z. absurd (omega arith);
             five = λ z. omega arith;
             one-row = omega arith;
+            marked = refl;
             few = omega (arith, g .few, g .inside, length-bitsOf bytes, rises-length (omega arith) (g .rising));
           }
       cases wide i (failed n place l) e f =
@@ -391,6 +406,7 @@ module _ (bytes : List ℕ) (at columns : ℕ) (strict : Bool) (reference : List
             four = λ z. omega (arith, f z, g .line .roomy);
             five = λ z. omega (arith, g .numbered);
             one-row = omega arith;
+            marked = refl;
             few = omega (arith, g .line .few, g .line .inside, g .line .fits, length-bitsOf bytes, rises-length (omega arith) (g .line .rising));
           }
 
@@ -398,6 +414,10 @@ module _ (bytes : List ℕ) (at columns : ℕ) (strict : Bool) (reference : List
     -- the smaller answer, by cases
     pub one-cuts : Cuts small 1 (readOneLine bytes at columns strict reference large) (readOneLine bytes at columns strict reference small)
     one-cuts = subst (Cuts small 1 (readOneLine bytes at columns strict reference large)) (sym (one-within small large le)) (cuts small 1 (readOneLine bytes at columns strict reference large))
+
+    -- and what it keeps
+    pub one-front : Front (readOneLine bytes at columns strict reference large) (readOneLine bytes at columns strict reference small)
+    one-front = cuts-front (one-spent large .marked) one-cuts
 
     -- after 4, a longer array takes more changes
     pub one-wants : small < large → readOneLine bytes at columns strict reference small .number ≡ 4

@@ -14,25 +14,31 @@ use Rattle.rules.proofs.PageBack.{entries-snoc}
 
 -- ---- The rule
 
--- "4: a change is to be recorded and no entry is left"
-abbrev pub four : List (List ℕ) → List ℕ → Answer
-four kept loose = record { number = 4; place = 0; bytes = 0; rows = kept; loose = loose }
+-- an answer that a larger room gave
+module _ (a : Answer) where
+  -- an end behind its first rows, which keep their marks
+  abbrev pub cutBehind : ℕ → List (List ℕ) → List ℕ → Answer
+  cutBehind n kept loose = record { number = n; place = 0; bytes = 0; rows = kept; marks = take (length kept) (a .marks); loose = loose }
 
--- "5: a row is complete and no row end is left"
-abbrev pub five : List (List ℕ) → List ℕ → Answer
-five kept loose = record { number = 5; place = 0; bytes = 0; rows = kept; loose = loose }
+  -- "4: a change is to be recorded and no entry is left"
+  abbrev pub four : List (List ℕ) → List ℕ → Answer
+  four = cutBehind 4
 
--- an answer that a larger room gave, in a store of so many change entries and so many row ends
+  -- "5: a row is complete and no row end is left", nor a place for its mark (A5)
+  abbrev pub five : List (List ℕ) → List ℕ → Answer
+  five = cutBehind 5
+
+-- that answer, in a store of so many change entries and places for so many row ends with their marks
 module _ (store places : ℕ) (a : Answer) where
   -- Behind the rows kept so far come the rest of the answer's rows, and then its loose entries. What does not fit the entries left is 4, and its front that fits
-  -- is loose; a row that fits where no end is left is 5, and is loose; where everything fits, it is the answer itself.
+  -- is loose; a row that fits where no place is left for its end with its mark is 5, and is loose; where everything fits, it is the answer itself.
   unfoldable pub withinFrom : List (List ℕ) → List (List ℕ) → Answer
   withinFrom kept [] =
-      elim (leb (length (a .loose)) (store - entries kept)) [ true ↦ a | false ↦ four kept (take (store - entries kept) (a .loose)) ]
+      elim (leb (length (a .loose)) (store - entries kept)) [ true ↦ a | false ↦ four a kept (take (store - entries kept) (a .loose)) ]
   withinFrom kept (r ∷ rows) =
       elim (leb (length r) (store - entries kept)) [
-        | false ↦ four kept (take (store - entries kept) r)
-        | true ↦ elim (ltb (length kept) places) [ false ↦ five kept r | true ↦ withinFrom (kept ++ r ∷ []) rows ]
+        | false ↦ four a kept (take (store - entries kept) r)
+        | true ↦ elim (ltb (length kept) places) [ false ↦ five a kept r | true ↦ withinFrom (kept ++ r ∷ []) rows ]
       ]
 
   abbrev pub within : Answer
@@ -44,16 +50,16 @@ module _ (store places : ℕ) (a : Answer) (kept : List (List ℕ)) where
   unfolding withinFrom
   within-all h = rw (le-leb (length (a .loose)) (store - entries kept) h, withinFrom)
 
-  pub within-loose : store - entries kept < length (a .loose) → withinFrom store places a kept [] ≡ four kept (take (store - entries kept) (a .loose))
+  pub within-loose : store - entries kept < length (a .loose) → withinFrom store places a kept [] ≡ four a kept (take (store - entries kept) (a .loose))
   unfolding withinFrom
   within-loose h = rw (lt-leb (length (a .loose)) (store - entries kept) h, withinFrom)
 
   module _ (r : List ℕ) (rows : List (List ℕ)) where
-    pub within-four : store - entries kept < length r → withinFrom store places a kept (r ∷ rows) ≡ four kept (take (store - entries kept) r)
+    pub within-four : store - entries kept < length r → withinFrom store places a kept (r ∷ rows) ≡ four a kept (take (store - entries kept) r)
     unfolding withinFrom
     within-four h = rw (lt-leb (length r) (store - entries kept) h, withinFrom)
 
-    pub within-five : length r ≤ store - entries kept → places ≤ length kept → withinFrom store places a kept (r ∷ rows) ≡ five kept r
+    pub within-five : length r ≤ store - entries kept → places ≤ length kept → withinFrom store places a kept (r ∷ rows) ≡ five a kept r
     unfolding withinFrom
     within-five h l = rw (le-leb (length r) (store - entries kept) h, le-ltb (length kept) places l, withinFrom)
 
@@ -71,9 +77,9 @@ next a rest = getD rest 0 (a .loose)
 pub data Cuts (store places : ℕ) (a : Answer) : Answer → Type 0 where
   all-fit : entries (a .rows) + length (a .loose) ≤ store → length (a .rows) ≤ places → Cuts store places a a
   no-entry : (kept rest : List (List ℕ)) → a .rows ≡ kept ++ rest → entries kept ≤ store → length kept ≤ places → store - entries kept < length (next a rest)
-      → Cuts store places a (four kept (take (store - entries kept) (next a rest)))
+      → Cuts store places a (four a kept (take (store - entries kept) (next a rest)))
   no-end : (kept rest : List (List ℕ)) (r : List ℕ) → a .rows ≡ kept ++ r ∷ rest → entries kept + length r ≤ store → length kept ≡ places
-      → Cuts store places a (five kept r)
+      → Cuts store places a (five a kept r)
 
 module _ (store places : ℕ) (a : Answer) where
   cuts-from : (kept rest : List (List ℕ)) → a .rows ≡ kept ++ rest → entries kept ≤ store → length kept ≤ places → Cuts store places a (withinFrom store places a kept rest)
@@ -113,10 +119,11 @@ unfolding entries
 next-few a [] = omega arith
 next-few a (r ∷ rest) = omega arith
 
--- the rows kept are the first of the answer's, and the loose entries the front of what comes behind them: the next row, or the answer's own loose entries
+-- the rows kept are the first of the answer's, with their marks, and the loose entries the front of what comes behind them: the next row, or the answer's own loose entries
 pub record Front (a b : Answer) : Type 0 where
   pub fewer : length (b .rows) ≤ length (a .rows)
   pub rows : b .rows ≡ take (length (b .rows)) (a .rows)
+  pub marks : b .marks ≡ take (length (b .rows)) (a .marks)
   pub loose : b .loose ≡ take (length (b .loose)) (getD (a .rows) (length (b .rows)) (a .loose))
 
 getD-behind : (kept rest : List (List ℕ)) (xs : List ℕ) → getD (kept ++ rest) (length kept) xs ≡ getD rest 0 xs
@@ -125,10 +132,11 @@ getD-behind (r ∷ kept) rest xs = getD-behind kept rest xs
 
 -- where the rows kept are the first of the answer's
 front-of : {a : Answer} (n : ℕ) (kept rest : List (List ℕ)) (loose : List ℕ) → a .rows ≡ kept ++ rest → loose ≡ take (length loose) (next a rest)
-    → Front a (record { number = n; place = 0; bytes = 0; rows = kept; loose = loose })
+    → Front a (cutBehind a n kept loose)
 front-of {a} n kept rest loose e f = record {
   fewer = omega (arith, ap length e, length-append kept rest);
   rows = sym (ap (take (length kept)) e ∙ take-at kept rest (length kept) refl);
+  marks = refl;
   loose = f ∙ ap (take (length loose)) (sym (ap (λ (l : List (List ℕ)). getD l (length kept) (a .loose)) e ∙ getD-behind kept rest (a .loose)));
 }
 
@@ -137,14 +145,15 @@ take-length : (n : ℕ) (xs : List ℕ) → n < length xs → take n xs ≡ take
 take-length n xs h = ap (λ (k : ℕ). take k xs) (let q : n ≡ length (take n xs) = omega (arith, length-take n xs) in q)
 
 module _ {store places : ℕ} {a : Answer} where
-  pub cuts-front : {b : Answer} → Cuts store places a b → Front a b
-  cuts-front (all-fit h k) = record {
+  pub cuts-front : {b : Answer} → length (a .marks) ≡ length (a .rows) → Cuts store places a b → Front a b
+  cuts-front marked (all-fit h k) = record {
     fewer = omega arith;
     rows = sym (take-all (length (a .rows)) (a .rows) (omega arith));
+    marks = sym (take-all (length (a .rows)) (a .marks) (omega arith));
     loose = sym (ap (take (length (a .loose))) (List·getD-eq-default (a .rows) (a .loose) (omega arith)) ∙ take-all (length (a .loose)) (a .loose) (omega arith));
   }
-  cuts-front (no-entry kept rest e h k l) = front-of 4 kept rest (take (store - entries kept) (next a rest)) e (take-length (store - entries kept) (next a rest) l)
-  cuts-front (no-end kept rest r e h k) = front-of 5 kept (r ∷ rest) r e (sym (take-all (length r) r (omega arith)))
+  cuts-front marked (no-entry kept rest e h k l) = front-of 4 kept rest (take (store - entries kept) (next a rest)) e (take-length (store - entries kept) (next a rest) l)
+  cuts-front marked (no-end kept rest r e h k) = front-of 5 kept (r ∷ rest) r e (sym (take-all (length r) r (omega arith)))
 
   -- a 4 is the answer's own, or the answer has more entries than there are
   pub cuts-four : {b : Answer} → Cuts store places a b → b .number ≡ 4 → (b ≡ a) ⊎ (store < entries (a .rows) + length (a .loose))
