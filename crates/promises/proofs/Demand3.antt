@@ -71,6 +71,12 @@ prefix xs ys zs ws e h =
     sym (take-append-drop (length zs) xs)
     ∙ ap (λ (l : List Bool). l ++ drop (length zs) xs) (sym (take-append-le (length zs) xs ys h) ∙ ap (take (length zs)) e ∙ take-at zs ws (length zs) refl)
 
+-- as many rows as row ends
+count-rows : (base : ℕ) (changes ends : List ℕ) → length (rowsIn base changes ends) ≡ length ends
+unfolding rowsIn
+count-rows base changes [] = refl
+count-rows base changes (e ∷ es) = ap suc (count-rows e changes es)
+
 module _ (columns : ℕ) (changes ends out : List ℕ) (w : Answer) (out′ : List ℕ) (narrow : columns ≤ 4294967295)
     (written : Answers (writePage mostMakeup columns changes ends out) out w out′) (z : w .number ≡ 0) where
   number : writePage mostMakeup columns changes ends out .number ≡ 0
@@ -79,7 +85,7 @@ module _ (columns : ℕ) (changes ends out : List ℕ) (w : Answer) (out′ : Li
   p : PageWritten mostMakeup columns changes ends out (writePage mostMakeup columns changes ends out)
   p = page-written mostMakeup columns narrow changes ends out number
 
-  P : List Bool
+  pub P : List Bool
   P = pageBits mostMakeup columns (rowsIn 0 changes ends)
 
   page-bytes : w .bytes ≡ bytesTo (length P)
@@ -135,17 +141,21 @@ module _ (columns : ℕ) (changes ends out : List ℕ) (w : Answer) (out′ : Li
       (rises settings s) bytes small (f .0) (for-settings settings s bytes (f .0) (f .1)) counted store places roomy placed
       ∙ ap (λ (n : ℕ). whole n (rowsIn 0 changes ends) (allClean (rowsIn 0 changes ends))) (same-size settings s)
 
+  -- as `decode` is called
+  pub page-is-whole : (bytes : List ℕ) → length bytes ≤ mostBytes → take (w .bytes) bytes ≡ take (w .bytes) out′ → (settings : DecodeSettings) → Plainly columns settings
+      → (settings .rows ≡ 0) ⊎ (settings .rows ≡ length ends) → (store places marks : List ℕ)
+      → entries (rowsIn 0 changes ends) ≤ length store → length ends ≤ length places → length ends ≤ length marks
+      → decode (settingsOf settings) bytes (length store) (placesIn places marks) ≡ whole (length P) (rowsIn 0 changes ends) (allClean (rowsIn 0 changes ends))
+  page-is-whole bytes small e settings s counted store places marks roomy placed marked =
+      read-whole bytes small e settings s
+      (subst (λ (n : ℕ). (settings .rows ≡ 0) ⊎ (settings .rows ≡ n)) (sym (count-rows 0 changes ends)) counted) (length store) (placesIn places marks) roomy
+      (omega (arith, count-rows 0 changes ends))
+
   read-cut : length out′ ≤ mostBytes → (cut : ℕ) (settings : DecodeSettings) → Plainly columns settings → (store places : ℕ)
       → (n : ℕ) × (decode (settingsOf settings) (take cut out′) store places .rows ≡ take n (rowsIn 0 changes ends))
   read-cut small cut settings s store places =
       page-cut mostMakeup (omega arith) (omega arith) (settingsOf settings) (plain settings s) (omega (arith, p .narrow, s .same-columns)) (rowsIn 0 changes ends)
       (rises settings s) out′ small (p .rest) (for-settings settings s out′ (p .rest) out-bits) cut store places
-
--- as many rows as row ends
-count-rows : (base : ℕ) (changes ends : List ℕ) → length (rowsIn base changes ends) ≡ length ends
-unfolding rowsIn
-count-rows base changes [] = refl
-count-rows base changes (e ∷ es) = ap suc (count-rows e changes es)
 
 pub written-page-reads-back : WrittenPageReadsBack
 written-page-reads-back columns changes ends out w out′ narrow written z bytes small e settings s counted store places marks r store′ places′ marks′ roomy placed marked called = (
@@ -155,10 +165,7 @@ written-page-reads-back columns changes ends out w out′ narrow written z bytes
 )
   where
     is : decode (settingsOf settings) bytes (length store) (placesIn places marks) ≡ whole (length (P columns changes ends out w out′ narrow written z)) (rowsIn 0 changes ends) (allClean (rowsIn 0 changes ends))
-    is =
-        read-whole columns changes ends out w out′ narrow written z bytes small e settings s
-        (subst (λ (n : ℕ). (settings .rows ≡ 0) ⊎ (settings .rows ≡ n)) (sym (count-rows 0 changes ends)) counted) (length store) (placesIn places marks) roomy
-        (omega (arith, count-rows 0 changes ends))
+    is = page-is-whole columns changes ends out w out′ narrow written z bytes small e settings s counted store places marks roomy placed marked
 
     a : r ≡ answerOf (whole (length (P columns changes ends out w out′ narrow written z)) (rowsIn 0 changes ends) (allClean (rowsIn 0 changes ends)))
     a = called .answer ∙ ap answerOf is

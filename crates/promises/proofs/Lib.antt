@@ -12,3 +12,4 @@ pub mod Beyond
 pub mod Faults
 pub mod PageFaults
 pub mod Places
+pub mod Marks

@@ -10,3 +10,4 @@ pub mod PinnedInside
 pub mod PinnedAround
 pub mod Beyond
 pub mod Places
+pub mod Marks
