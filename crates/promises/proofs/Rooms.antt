@@ -7,23 +7,26 @@ use native.Mathlib.Omega.{arith}
 use lib.ListN.{length, take, drop, getD, length-append}
 use lib.Seq.{take-at, drop-at, take-take}
 use Rattle.rules.specs.Pages as Page
-use Rattle.rules.specs.Pages.{entries, joined, endsFrom, overlaid, changesAfter, endsAfter, decode, readOneLine}
+use Rattle.rules.specs.Pages.{entries, joined, endsFrom, overlaid, changesAfter, endsAfter, marksAfter, decode, readOneLine}
 use Rattle.rules.proofs.Store.{length-joined}
 use Rattle.rules.proofs.Within as W
-use Rattle.rules.proofs.Within.{within, cuts-front, front-joined, front-ends}
-use Rattle.rules.proofs.Rooms.{decode-within, decode-cuts, decode-spent, four-wants, five-wants, four-never, five-never, one-within, one-cuts, one-spent, one-wants, one-never}
+use Rattle.rules.proofs.Within.{within, front-joined, front-ends}
+use Rattle.rules.proofs.Marks.{decode-came, came-as-many}
+use Rattle.rules.proofs.Rooms.{decode-within, decode-front, decode-spent, four-wants, five-wants, four-never, five-never, one-within, one-front, one-spent, one-wants, one-never}
+use Rattle.rules.specs.Lines.{headOr}
+use Rattle.error.specs.Error.{rowAnswerOf}
 use Rattle.error.specs.declared.Answer.{Answer}
 use Rattle.rows.specs.declared.DecodeSettings.{DecodeSettings}
 use Rattle.rows.specs.Settings.{settingsOf}
 use Rattle.ccitt.specs.Decode.{Gives}
-use Rattle.promises.specs.Rooms.{Call, rowsOf, looseOf, handed, Front, FourFills, FiveFills, FourGoesOn, FiveGoesOn, SmallerRoom, SmallerRoomIsFront, RoomEnough, LineCall, asCall, LineReading, LineFourFills, LineFourGoesOn, SmallerLine, SmallerLineIsFront, LineRoomEnough}
-use Rattle.promises.proofs.Demand1.{changes-front, ends-front, in-store}
+use Rattle.promises.specs.Rooms.{Call, places, rowsOf, marksOf, looseOf, handed, Front, Roomier, FourFills, FiveFills, FourGoesOn, FiveGoesOn, SmallerRoom, SmallerRoomIsFront, RoomEnough, LineCall, asCall, LineReading, LineFourFills, LineFourGoesOn, SmallerLine, SmallerLineIsFront, LineRoomEnough}
+use Rattle.promises.proofs.Demand1.{changes-front, ends-front, marks-front, in-store}
 
 -- ---- What a call handed over
 
 -- a call that gives an answer of the rules
 abbrev Answered : Page.Answer → Call → Type 0
-Answered a c = Gives a (c .changes) (c .ends) (c .answer) (c .changes′) (c .ends′)
+Answered a c = Gives a (c .changes) (c .ends) (c .marks) (c .answer) (c .changes′) (c .ends′) (c .marks′)
 
 module _ (a : Page.Answer) (c : Call) (given : Answered a c) where
   number-is : c .answer .number ≡ a .number
@@ -39,7 +42,7 @@ module _ (a : Page.Answer) (c : Call) (given : Answered a c) where
   loose-count = ap (λ (x : Answer). x .loose) (given .answer)
 
   rows-are : rowsOf c ≡ a .rows
-  rows-are = in-store a (c .changes) (c .ends) (c .answer) (c .changes′) (c .ends′) given
+  rows-are = in-store a (c .changes) (c .ends) (c .marks) (c .answer) (c .changes′) (c .ends′) (c .marks′) given
 
   loose-are : looseOf c ≡ a .loose
   unfolding changesAfter overlaid
@@ -48,29 +51,35 @@ module _ (a : Page.Answer) (c : Call) (given : Answered a c) where
       ∙ ap (take (c .answer .loose)) (drop-at (joined (a .rows)) (a .loose ++ _) (c .answer .entries) (length-joined (a .rows) ∙ sym entries-count))
       ∙ take-at (a .loose) _ (c .answer .loose) (sym loose-count)
 
-  handed-is : handed c ≡ a
-  handed-is i = record {
-    number = number-is i;
-    place = ap (λ (x : Answer). x .place) (given .answer) i;
-    bytes = ap (λ (x : Answer). x .bytes) (given .answer) i;
-    rows = rows-are i;
-    loose = loose-are i;
-  }
+  -- as many marks as rows
+  module _ (as-many : length (a .marks) ≡ length (a .rows)) where
+    marks-are : marksOf c ≡ a .marks
+    marks-are = marks-front a (c .changes) (c .ends) (c .marks) (c .answer) (c .changes′) (c .ends′) (c .marks′) given as-many
+
+    handed-is : handed c ≡ a
+    handed-is i = record {
+      number = number-is i;
+      place = ap (λ (x : Answer). x .place) (given .answer) i;
+      bytes = ap (λ (x : Answer). x .bytes) (given .answer) i;
+      rows = rows-are i;
+      marks = marks-are i;
+      loose = loose-are i;
+    }
 
   -- everything that was stored
   stored-length : length (joined (a .rows) ++ a .loose) ≡ c .answer .entries + c .answer .loose
   stored-length = length-append (joined (a .rows)) (a .loose) ∙ ap₂ (λ (x y : ℕ). x + y) (length-joined (a .rows) ∙ sym entries-count) (sym loose-count)
 
   stored-is : take (c .answer .entries + c .answer .loose) (c .changes′) ≡ joined (a .rows) ++ a .loose
-  stored-is = changes-front a (c .changes) (c .ends) (c .answer) (c .changes′) (c .ends′) given
+  stored-is = changes-front a (c .changes) (c .ends) (c .marks) (c .answer) (c .changes′) (c .ends′) (c .marks′) given
 
   ends-are : take (c .answer .rows) (c .ends′) ≡ endsFrom 0 (a .rows)
-  ends-are = ends-front a (c .changes) (c .ends) (c .answer) (c .changes′) (c .ends′) given
+  ends-are = ends-front a (c .changes) (c .ends) (c .marks) (c .answer) (c .changes′) (c .ends′) (c .marks′) given
 
 -- ---- Two rooms
 
 -- a smaller call, whose answer keeps a front of the larger one's
-module _ (a b : Page.Answer) (small large : Call) (given : Answered a small) (later : Answered b large) (f : W.Front b a) where
+module _ (a b : Page.Answer) (small large : Call) (given : Answered a small) (later : Answered b large) (f : W.Front b a) (as-many : length (a .marks) ≡ length (a .rows)) (all-marked : length (b .marks) ≡ length (b .rows)) where
   abbrev n : ℕ
   n = small .answer .entries + small .answer .loose
 
@@ -99,6 +108,10 @@ module _ (a b : Page.Answer) (small large : Call) (given : Answered a small) (la
         ∙ sym
         (sym (take-take (small .answer .rows) (large .answer .rows) (large .ends′) fewer-rows)
         ∙ ap₂ (λ (k : ℕ) (l : List ℕ). take k l) (rows-count a small given) (ends-are b large later) ∙ front-ends f);
+    marks =
+        marks-are a small given as-many ∙ f .marks
+        ∙ ap₂ (λ (k : ℕ) (l : List ℕ). take k l) (sym (rows-count a small given)) (sym (marks-are b large later all-marked))
+        ∙ take-take (small .answer .rows) (large .answer .rows) (large .marks′) fewer-rows;
   }
     where
       next : getD (b .rows) (length (a .rows)) (b .loose) ≡ getD (rowsOf large) (small .answer .rows) (looseOf large)
@@ -107,56 +120,64 @@ module _ (a b : Page.Answer) (small large : Call) (given : Answered a small) (la
           ∙ ap₂ (λ (l : List (List ℕ)) (x : List ℕ). getD l (small .answer .rows) x) (sym (rows-are b large later)) (sym (loose-are b large later))
 
 -- a smaller call, whose answer is the larger one's cut, gives what `within` makes of what the larger one handed over
-cut-gives : (store places : ℕ) (a b : Page.Answer) (small large : Call) → Answered a small → Answered b large → a ≡ within store places b
-    → Answered (within store places (handed large)) small
-cut-gives store places a b small large given later e =
-    subst (λ (x : Page.Answer). Answered x small) (e ∙ ap (within store places) (sym (handed-is b large later))) given
+cut-gives : (store places : ℕ) (a b : Page.Answer) (small large : Call) → Answered a small → Answered b large → length (b .marks) ≡ length (b .rows)
+    → a ≡ within store places b → Answered (within store places (handed large)) small
+cut-gives store places a b small large given later as-many e =
+    subst (λ (x : Page.Answer). Answered x small) (e ∙ ap (within store places) (sym (handed-is b large later as-many))) given
 
 -- ---- The page form
 
 module _ (bytes : List ℕ) (settings : DecodeSettings) where
   abbrev answerIn : Call → Page.Answer
-  answerIn c = decode (settingsOf settings) bytes (length (c .changes)) (length (c .ends))
+  answerIn c = decode (settingsOf settings) bytes (length (c .changes)) (places c)
+
+  -- it has as many marks as rows
+  as-many : (c : Call) → length (answerIn c .marks) ≡ length (answerIn c .rows)
+  as-many c = came-as-many (decode-came (settingsOf settings) bytes (length (c .changes)) (places c) .1)
+
+  -- longer arrays have no fewer places
+  more-places : (small large : Call) → Roomier bytes settings small large → places small ≤ places large
+  more-places small large t = omega (arith, t .ends, t .marks)
 
 pub four-fills : FourFills
 four-fills bytes settings c g q =
     let a = answerIn bytes settings c in
-    let s = decode-spent (settingsOf settings) bytes (length (c .changes)) (length (c .ends)) in
+    let s = decode-spent (settingsOf settings) bytes (length (c .changes)) (places c) in
     omega (arith, s .four (sym (number-is a c g) ∙ q), entries-count a c g, loose-count a c g)
 
 pub five-fills : FiveFills
 five-fills bytes settings c g q =
     let a = answerIn bytes settings c in
-    let s = decode-spent (settingsOf settings) bytes (length (c .changes)) (length (c .ends)) in
+    let s = decode-spent (settingsOf settings) bytes (length (c .changes)) (places c) in
     rows-count a c g ∙ s .five (sym (number-is a c g) ∙ q)
 
 pub four-goes-on : FourGoesOn
 four-goes-on bytes settings small large t h q =
     let a = answerIn bytes settings small in
     let b = answerIn bytes settings large in
-    omega (arith, four-wants (settingsOf settings) bytes (length (small .changes)) (length (large .changes)) (length (small .ends)) (length (large .ends)) (t .changes) (t .ends) h (sym (number-is a small (t .first)) ∙ q), entries-count b large (t .second), loose-count b large (t .second))
+    omega (arith, four-wants (settingsOf settings) bytes (length (small .changes)) (length (large .changes)) (places small) (places large) (t .changes) (more-places bytes settings small large t) h (sym (number-is a small (t .first)) ∙ q), entries-count b large (t .second), loose-count b large (t .second))
 
 pub five-goes-on : FiveGoesOn
 five-goes-on bytes settings small large t h q =
     let a = answerIn bytes settings small in
     let b = answerIn bytes settings large in
-    omega (arith, five-wants (settingsOf settings) bytes (length (small .changes)) (length (large .changes)) (length (small .ends)) (length (large .ends)) (t .changes) (t .ends) h (sym (number-is a small (t .first)) ∙ q), rows-count b large (t .second))
+    omega (arith, five-wants (settingsOf settings) bytes (length (small .changes)) (length (large .changes)) (places small) (places large) (t .changes) (more-places bytes settings small large t) h (sym (number-is a small (t .first)) ∙ q), rows-count b large (t .second))
 
 pub smaller-room : SmallerRoom
 smaller-room bytes settings small large t =
-    cut-gives (length (small .changes)) (length (small .ends)) (answerIn bytes settings small) (answerIn bytes settings large) small large (t .first) (t .second)
-    (decode-within (settingsOf settings) bytes (length (small .changes)) (length (large .changes)) (length (small .ends)) (length (large .ends)) (t .changes) (t .ends))
+    cut-gives (length (small .changes)) (places small) (answerIn bytes settings small) (answerIn bytes settings large) small large (t .first) (t .second) (as-many bytes settings large)
+    (decode-within (settingsOf settings) bytes (length (small .changes)) (length (large .changes)) (places small) (places large) (t .changes) (more-places bytes settings small large t))
 
 pub smaller-room-is-front : SmallerRoomIsFront
 smaller-room-is-front bytes settings small large t =
     is-front (answerIn bytes settings small) (answerIn bytes settings large) small large (t .first) (t .second)
-    (cuts-front (decode-cuts (settingsOf settings) bytes (length (small .changes)) (length (large .changes)) (length (small .ends)) (length (large .ends)) (t .changes) (t .ends)))
+    (decode-front (settingsOf settings) bytes (length (small .changes)) (length (large .changes)) (places small) (places large) (t .changes) (more-places bytes settings small large t)) (as-many bytes settings small) (as-many bytes settings large)
 
 pub room-enough : RoomEnough
 room-enough bytes settings c g =
     let a = answerIn bytes settings c in (
-      (λ h q. four-never (settingsOf settings) bytes (length (c .changes)) (length (c .ends)) h (sym (number-is a c g) ∙ q)),
-      λ h q. five-never (settingsOf settings) bytes (length (c .changes)) (length (c .ends)) h (sym (number-is a c g) ∙ q),
+      (λ h q. four-never (settingsOf settings) bytes (length (c .changes)) (places c) h (sym (number-is a c g) ∙ q)),
+      λ h q. five-never (settingsOf settings) bytes (length (c .changes)) (places c) h (sym (number-is a c g) ∙ q),
     )
 
 -- ---- One line
@@ -173,13 +194,27 @@ module _ (bytes : List ℕ) (at columns : ℕ) (strict : Bool) (reference : List
   one-end (r ∷ s ∷ rows) h = absurd (omega arith)
 
   -- a line's call is answered as a page's that is lent one row end
+  line-marked : (c : LineCall) → length (lineIn c .marks) ≡ length (lineIn c .rows)
+  line-marked c = one-spent bytes at columns strict reference (length (c .changes)) .marked
+
+  -- at most one mark
+  one-mark : (marks : List ℕ) → length marks ≤ 1 → headOr 0 marks ∷ [] ≡ overlaid marks (0 ∷ [])
+  unfolding overlaid
+  one-mark [] h = refl
+  one-mark (m ∷ []) h = refl
+  one-mark (m ∷ n ∷ marks) h = absurd (omega arith)
+
   line-gives : (c : LineCall) → LineReading bytes at columns strict reference c → Answered (lineIn c) (asCall c)
-  unfolding endsAfter
-  line-gives c g = record {
-    answer = g .answer;
-    changes = g .store;
-    ends = ap (λ (x : Answer). x .entries ∷ []) (g .answer) ∙ one-end (lineIn c .rows) (one-spent bytes at columns strict reference (length (c .changes)) .one-row);
-  }
+  unfolding endsAfter marksAfter
+  line-gives c g =
+      let one = one-spent bytes at columns strict reference (length (c .changes)) .one-row in
+      record {
+        answer =
+            ap (λ (x : Answer). record { number = x .number; mark = 0; rows = x .rows; entries = x .entries; loose = x .loose; bytes = x .bytes; place = x .place }) (g .answer);
+        changes = g .store;
+        ends = ap (λ (x : Answer). x .entries ∷ []) (g .answer) ∙ one-end (lineIn c .rows) one;
+        marks = ap (λ (x : Answer). x .mark ∷ []) (g .answer) ∙ one-mark (lineIn c .marks) (omega (arith, line-marked c, one));
+      }
 
 pub line-four-fills : LineFourFills
 line-four-fills bytes at columns strict reference c g =
@@ -197,17 +232,20 @@ line-four-goes-on bytes at columns strict reference small large t h q =
     omega (arith, one-wants bytes at columns strict reference (length (small .changes)) (length (large .changes)) (t .changes) h (sym (number-is a (asCall small) d) ∙ q), entries-count b (asCall large) e, loose-count b (asCall large) e)
 
 pub smaller-line : SmallerLine
-smaller-line bytes at columns strict reference small large t =
-    let g = cut-gives (length (small .changes)) 1 (lineIn bytes at columns strict reference small) (lineIn bytes at columns strict reference large) (asCall small) (asCall large)
-    (line-gives bytes at columns strict reference small (t .first)) (line-gives bytes at columns strict reference large (t .second))
-    (one-within bytes at columns strict reference (length (small .changes)) (length (large .changes)) (t .changes)) in
-    (g .answer, g .changes)
+smaller-line bytes at columns strict reference small large t = (t .first .answer ∙ ap rowAnswerOf cut, t .first .store ∙ ap (λ (x : Page.Answer). changesAfter x (small .changes)) cut)
+  where
+    cut : lineIn bytes at columns strict reference small ≡ within (length (small .changes)) 1 (handed (asCall large))
+    cut =
+        one-within bytes at columns strict reference (length (small .changes)) (length (large .changes)) (t .changes)
+        ∙ ap (within (length (small .changes)) 1)
+        (sym (handed-is (lineIn bytes at columns strict reference large) (asCall large) (line-gives bytes at columns strict reference large (t .second)) (line-marked bytes at columns strict reference large)))
 
 pub smaller-line-is-front : SmallerLineIsFront
 smaller-line-is-front bytes at columns strict reference small large t =
     is-front (lineIn bytes at columns strict reference small) (lineIn bytes at columns strict reference large) (asCall small) (asCall large)
     (line-gives bytes at columns strict reference small (t .first)) (line-gives bytes at columns strict reference large (t .second))
-    (cuts-front (one-cuts bytes at columns strict reference (length (small .changes)) (length (large .changes)) (t .changes)))
+    (one-front bytes at columns strict reference (length (small .changes)) (length (large .changes)) (t .changes)) (line-marked bytes at columns strict reference small)
+    (line-marked bytes at columns strict reference large)
 
 pub line-room-enough : LineRoomEnough
 line-room-enough bytes at columns strict reference c g h q =

@@ -11,21 +11,21 @@ use Rattle.lent.specs.Lent.{Lends}
 use Rattle.lent.specs.declared.Pushed.{Pushed}
 use Rattle.desk.specs.Line.{Says}
 use Rattle.desk.specs.Listed.{Prints}
-use Rattle.promises.specs.OneAnswer.{OneAnswer, OneWith, OneWithTwo}
+use Rattle.promises.specs.OneAnswer.{OneAnswer, OneWith, OneWithThree}
 
 -- ---- exports: the settings are those that a function's parameters stand for. The others have the contracts of read_line and the writers.
 
 -- ccitt_decode_group4
 abbrev pub ForCGroup4Pinned : Type 0
 ForCGroup4Pinned =
-    (src : List ℕ) (columns rows : ℕ) (block aligned strict : Bool) (changes ends : List ℕ)
-    → OneWithTwo (Decodes src (settingsFor columns rows block false aligned Group4 strict) changes ends)
+    (src : List ℕ) (columns rows : ℕ) (block aligned strict : Bool) (changes ends marks : List ℕ)
+    → OneWithThree (Decodes src (settingsFor columns rows block false aligned Group4 strict) changes ends marks)
 
 -- ccitt_decode_group3_1d and ccitt_decode_group3_2d
 abbrev pub ForCGroup3Pinned : Type 0
 ForCGroup3Pinned =
-    (encoding : EncodingMode) (src : List ℕ) (columns rows : ℕ) (block line aligned strict : Bool) (changes ends : List ℕ)
-    → OneWithTwo (Decodes src (settingsFor columns rows block line aligned encoding strict) changes ends)
+    (encoding : EncodingMode) (src : List ℕ) (columns rows : ℕ) (block line aligned strict : Bool) (changes ends marks : List ℕ)
+    → OneWithThree (Decodes src (settingsFor columns rows block line aligned encoding strict) changes ends marks)
 
 -- ---- lent
 

@@ -6,10 +6,10 @@ use mathlib.Core.List.{List, [], _∷_}
 use Prim.Native.Nat.{ℕ, _+_, _-_, _*_, _≤_, _<_, min}
 use lib.ListN.{length, take, drop, getD}
 use Rattle.rules.specs.Pages as Page
-use Rattle.rules.specs.Pages.{changesAfter}
+use Rattle.rules.specs.Pages.{changesAfter, placesIn}
 use Rattle.rules.specs.Write.{rowsIn}
 use Rattle.rules.proofs.Within.{within}
-use Rattle.error.specs.Error.{answerOf}
+use Rattle.error.specs.Error.{rowAnswerOf}
 use Rattle.error.specs.declared.Answer.{Answer}
 use Rattle.rows.specs.declared.DecodeSettings.{DecodeSettings}
 use Rattle.context.specs.OneLine.{ReadOne}
@@ -21,13 +21,23 @@ use Rattle.ccitt.specs.Decode.{Gives, Decodes}
 pub record Call : Type 0 where
   pub changes : List ℕ
   pub ends : List ℕ
+  pub marks : List ℕ
   pub answer : Answer
   pub changes′ : List ℕ
   pub ends′ : List ℕ
+  pub marks′ : List ℕ
+
+-- its places for an end with its mark
+abbrev pub places : Call → ℕ
+places c = placesIn (c .ends) (c .marks)
 
 -- the rows, as they lie in the store by their ends
 abbrev pub rowsOf : Call → List (List ℕ)
 rowsOf c = rowsIn 0 (c .changes′) (take (c .answer .rows) (c .ends′))
+
+-- their marks
+abbrev pub marksOf : Call → List ℕ
+marksOf c = take (c .answer .rows) (c .marks′)
 
 -- "the unfinished row's changes so far lie behind them as the loose entries"
 abbrev pub looseOf : Call → List ℕ
@@ -35,10 +45,10 @@ looseOf c = take (c .answer .loose) (drop (c .answer .entries) (c .changes′))
 
 -- the same as an answer of the rules
 abbrev pub handed : Call → Page.Answer
-handed c = record { number = c .answer .number; place = c .answer .place; bytes = c .answer .bytes; rows = rowsOf c; loose = looseOf c }
+handed c = record { number = c .answer .number; place = c .answer .place; bytes = c .answer .bytes; rows = rowsOf c; marks = marksOf c; loose = looseOf c }
 
 -- What a smaller room stored is the front of what a larger one did: the rows are the first of its rows; the loose entries are the front of the row that follows them there,
--- or of the loose entries where none follows; and so the entries and the ends that were stored are the first of its entries and ends.
+-- or of the loose entries where none follows; and so the entries, the ends and the marks that were stored are the first of its own.
 pub record Front (small large : Call) : Type 0 where
   pub fewer-rows : small .answer .rows ≤ large .answer .rows
   pub fewer-entries : small .answer .entries + small .answer .loose ≤ large .answer .entries + large .answer .loose
@@ -46,12 +56,13 @@ pub record Front (small large : Call) : Type 0 where
   pub loose : looseOf small ≡ take (small .answer .loose) (getD (rowsOf large) (small .answer .rows) (looseOf large))
   pub changes : take (small .answer .entries + small .answer .loose) (small .changes′) ≡ take (small .answer .entries + small .answer .loose) (large .changes′)
   pub ends : take (small .answer .rows) (small .ends′) ≡ take (small .answer .rows) (large .ends′)
+  pub marks : take (small .answer .rows) (small .marks′) ≡ take (small .answer .rows) (large .marks′)
 
 -- ---- The page form
 
 -- a call of `decode` on these bytes with these settings
 abbrev pub Reading : List ℕ → DecodeSettings → Call → Type 0
-Reading bytes settings c = Decodes bytes settings (c .changes) (c .ends) (c .answer) (c .changes′) (c .ends′)
+Reading bytes settings c = Decodes bytes settings (c .changes) (c .ends) (c .marks) (c .answer) (c .changes′) (c .ends′) (c .marks′)
 
 -- 4 is given only where no entry is left,
 abbrev pub FourFills : Type 0
@@ -59,9 +70,9 @@ FourFills =
     (bytes : List ℕ) (settings : DecodeSettings) (c : Call) → Reading bytes settings c
     → c .answer .number ≡ 4 → c .answer .entries + c .answer .loose ≡ length (c .changes)
 
--- and 5 only where no row end is.
+-- and 5 only where no place for an end with its mark is.
 abbrev pub FiveFills : Type 0
-FiveFills = (bytes : List ℕ) (settings : DecodeSettings) (c : Call) → Reading bytes settings c → c .answer .number ≡ 5 → c .answer .rows ≡ length (c .ends)
+FiveFills = (bytes : List ℕ) (settings : DecodeSettings) (c : Call) → Reading bytes settings c → c .answer .number ≡ 5 → c .answer .rows ≡ places c
 
 -- two calls on the same, the second with arrays that are no shorter
 pub record Roomier (bytes : List ℕ) (settings : DecodeSettings) (small large : Call) : Type 0 where
@@ -69,6 +80,7 @@ pub record Roomier (bytes : List ℕ) (settings : DecodeSettings) (small large :
   pub second : Reading bytes settings large
   pub changes : length (small .changes) ≤ length (large .changes)
   pub ends : length (small .ends) ≤ length (large .ends)
+  pub marks : length (small .marks) ≤ length (large .marks)
 
 -- After 4 a change was to be recorded: a longer array of changes takes more of them.
 abbrev pub FourGoesOn : Type 0
@@ -76,27 +88,28 @@ FourGoesOn =
     (bytes : List ℕ) (settings : DecodeSettings) (small large : Call) → Roomier bytes settings small large → length (small .changes) < length (large .changes)
     → small .answer .number ≡ 4 → length (small .changes) < large .answer .entries + large .answer .loose
 
--- After 5 a row was complete: a longer array of ends takes more rows.
+-- After 5 a row was complete: more places take more rows.
 abbrev pub FiveGoesOn : Type 0
 FiveGoesOn =
-    (bytes : List ℕ) (settings : DecodeSettings) (small large : Call) → Roomier bytes settings small large → length (small .ends) < length (large .ends)
-    → small .answer .number ≡ 5 → length (small .ends) < large .answer .rows
+    (bytes : List ℕ) (settings : DecodeSettings) (small large : Call) → Roomier bytes settings small large → places small < places large
+    → small .answer .number ≡ 5 → places small < large .answer .rows
 
 -- The smaller room's answer and arrays are, to the last entry, what `within` makes of what the larger one handed over: 4 at the first row whose changes do not all fit, with those
--- that fit loose; 5 at the first row for which no end is left, with that row loose; 4 where the loose entries do not all fit; and else the same answer.
+-- that fit loose; 5 at the first row for which no place is left, with that row loose; 4 where the loose entries do not all fit; and else the same answer.
 abbrev pub SmallerRoom : Type 0
 SmallerRoom =
     (bytes : List ℕ) (settings : DecodeSettings) (small large : Call) → Roomier bytes settings small large
-    → Gives (within (length (small .changes)) (length (small .ends)) (handed large)) (small .changes) (small .ends) (small .answer) (small .changes′) (small .ends′)
+    → Gives (within (length (small .changes)) (places small) (handed large)) (small .changes) (small .ends) (small .marks) (small .answer) (small .changes′) (small .ends′)
+        (small .marks′)
 
 abbrev pub SmallerRoomIsFront : Type 0
 SmallerRoomIsFront = (bytes : List ℕ) (settings : DecodeSettings) (small large : Call) → Roomier bytes settings small large → Front small large
 
--- With 16 entries for each byte of the data 4 is never given, and with 8 row ends for each byte and one more 5 is never given.
+-- With 16 entries for each byte of the data 4 is never given, and with 8 places for each byte and one more 5 is never given.
 abbrev pub RoomEnough : Type 0
 RoomEnough =
     (bytes : List ℕ) (settings : DecodeSettings) (c : Call) → Reading bytes settings c
-    → (16 * length bytes ≤ length (c .changes) → c .answer .number ≡ 4 → ⊥) × (8 * length bytes + 1 ≤ length (c .ends) → c .answer .number ≡ 5 → ⊥)
+    → (16 * length bytes ≤ length (c .changes) → c .answer .number ≡ 4 → ⊥) × (8 * length bytes + 1 ≤ places c → c .answer .number ≡ 5 → ⊥)
 
 -- ---- One line
 
@@ -106,9 +119,18 @@ pub record LineCall : Type 0 where
   pub answer : Answer
   pub changes′ : List ℕ
 
--- "A line read whole counts as one kept row": it ends behind its entries
+-- "A line read whole counts as one kept row": it ends behind its entries, and its mark, which a line has in its answer, lies beside the end
 abbrev pub asCall : LineCall → Call
-asCall c = record { changes = c .changes; ends = 0 ∷ []; answer = c .answer; changes′ = c .changes′; ends′ = c .answer .entries ∷ [] }
+asCall c = record {
+  changes = c .changes;
+  ends = 0 ∷ [];
+  marks = 0 ∷ [];
+  answer =
+      record { number = c .answer .number; mark = 0; rows = c .answer .rows; entries = c .answer .entries; loose = c .answer .loose; bytes = c .answer .bytes; place = c .answer .place };
+  changes′ = c .changes′;
+  ends′ = c .answer .entries ∷ [];
+  marks′ = c .answer .mark ∷ [];
+}
 
 module _ (bytes : List ℕ) (at columns : ℕ) (strict : Bool) (reference : List ℕ) where
   -- a call of `read_line` on these
@@ -137,7 +159,7 @@ LineFourGoesOn =
 abbrev pub SmallerLine : Type 0
 SmallerLine =
     (bytes : List ℕ) (at columns : ℕ) (strict : Bool) (reference : List ℕ) (small large : LineCall) → LineRoomier bytes at columns strict reference small large
-    → (small .answer ≡ answerOf (within (length (small .changes)) 1 (handed (asCall large))))
+    → (small .answer ≡ rowAnswerOf (within (length (small .changes)) 1 (handed (asCall large))))
     × (small .changes′ ≡ changesAfter (within (length (small .changes)) 1 (handed (asCall large))) (small .changes))
 
 abbrev pub SmallerLineIsFront : Type 0
