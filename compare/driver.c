@@ -14,16 +14,16 @@ void free(void *memory);
 void exit(int status);
 
 struct Answer {
-    u32 number;
+    u32 number, mark;
     u64 rows, entries, loose, bytes, place;
 };
 
 struct Answer ccitt_decode_group4(const u8 *src, u64 src_len, u32 columns, u32 rows, _Bool end_of_block, _Bool rows_are_byte_aligned, _Bool strict,
-    u32 *changes, u64 changes_len, u64 *ends, u64 ends_len);
+    u32 *changes, u64 changes_len, u64 *ends, u64 ends_len, u8 *marks, u64 marks_len);
 struct Answer ccitt_decode_group3_1d(const u8 *src, u64 src_len, u32 columns, u32 rows, _Bool end_of_block, _Bool end_of_line, _Bool rows_are_byte_aligned, _Bool strict,
-    u32 *changes, u64 changes_len, u64 *ends, u64 ends_len);
+    u32 *changes, u64 changes_len, u64 *ends, u64 ends_len, u8 *marks, u64 marks_len);
 struct Answer ccitt_decode_group3_2d(const u8 *src, u64 src_len, u32 columns, u32 rows, _Bool end_of_block, _Bool end_of_line, _Bool rows_are_byte_aligned, _Bool strict,
-    u32 *changes, u64 changes_len, u64 *ends, u64 ends_len);
+    u32 *changes, u64 changes_len, u64 *ends, u64 ends_len, u8 *marks, u64 marks_len);
 struct Answer ccitt_read_line(const u8 *src, u64 src_len, u64 at, u32 columns, _Bool strict,
     const u32 *reference, u64 reference_len, u32 *changes, u64 changes_len);
 #ifdef WRITERS
@@ -36,7 +36,7 @@ struct Answer ccitt_write_page(u32 columns, const u32 *changes, u64 changes_len,
 
 enum { MARGIN = 2, BYTE_MARGIN = 8 };
 
-// One call as it stands in a batch; the data and the two lists follow it.
+// One call as it stands in a batch; the data and the two lists follow it. `out` counts the marks of a reader, and a writer's bytes.
 struct Call {
     u32 form, flags, columns, rows;
     u64 at, tail;
@@ -86,12 +86,12 @@ static void *zeroed(u64 size) {
 
 static u32 pattern(u32 fill, u64 index) { return ((u32)index + 1) * 0x9E3779B1u ^ fill; }
 
-static struct Answer read_from(const struct Call *c, const u8 *src, u64 src_len, const u32 *first, u32 *changes, u64 *ends) {
+static struct Answer read_from(const struct Call *c, const u8 *src, u64 src_len, const u32 *first, u32 *changes, u64 *ends, u8 *marks) {
     _Bool eob = c->flags & 1, eol = c->flags >> 1 & 1, aligned = c->flags >> 2 & 1, strict = c->flags >> 3 & 1;
     switch (c->form) {
-    case 0: return ccitt_decode_group4(src, src_len, c->columns, c->rows, eob, aligned, strict, changes, c->changes, ends, c->ends);
-    case 1: return ccitt_decode_group3_1d(src, src_len, c->columns, c->rows, eob, eol, aligned, strict, changes, c->changes, ends, c->ends);
-    case 2: return ccitt_decode_group3_2d(src, src_len, c->columns, c->rows, eob, eol, aligned, strict, changes, c->changes, ends, c->ends);
+    case 0: return ccitt_decode_group4(src, src_len, c->columns, c->rows, eob, aligned, strict, changes, c->changes, ends, c->ends, marks, c->out);
+    case 1: return ccitt_decode_group3_1d(src, src_len, c->columns, c->rows, eob, eol, aligned, strict, changes, c->changes, ends, c->ends, marks, c->out);
+    case 2: return ccitt_decode_group3_2d(src, src_len, c->columns, c->rows, eob, eol, aligned, strict, changes, c->changes, ends, c->ends, marks, c->out);
     default: return ccitt_read_line(src, src_len, c->at, c->columns, strict, first, c->first_len, changes, c->changes);
     }
 }
@@ -103,22 +103,22 @@ static u64 widened(u32 word) { return (u64)~word << 32 | word; }
 static u32 narrowed(u32 before, u64 end) { return end == widened(before) ? before : end >> 32 ? ~before : (u32)end; }
 
 // Lead and tail are zeroed memory, which costs nothing until it is looked at.
-static struct Answer read_around(const struct Call *c, const u8 *src, const u32 *first, u32 *changes, u64 *ends) {
-    if (!c->lead && !c->tail) return read_from(c, src, c->src_len, first, changes, ends);
+static struct Answer read_around(const struct Call *c, const u8 *src, const u32 *first, u32 *changes, u64 *ends, u8 *marks) {
+    if (!c->lead && !c->tail) return read_from(c, src, c->src_len, first, changes, ends, marks);
     u64 size = c->tail + c->src_len + c->lead;
     u8 *all = zeroed(size);
     copy(all + c->lead, src, c->src_len);
-    struct Answer answer = read_from(c, all, size, first, changes, ends);
+    struct Answer answer = read_from(c, all, size, first, changes, ends, marks);
     free(all);
     return answer;
 }
 
 // A reader's call.
-static struct Answer do_read(const struct Call *c, const u8 *src, const u32 *first, u32 *words) {
+static struct Answer do_read(const struct Call *c, const u8 *src, const u32 *first, u32 *words, u8 *bytes) {
     u32 *changes = words + MARGIN, *back = changes + c->changes;
     u64 count = (u64)c->ends + 2 * MARGIN, *wide = memory(8 * count);
     for (u64 i = 0; i < count; i++) wide[i] = widened(back[i]);
-    struct Answer answer = read_around(c, src, first, changes, wide + MARGIN);
+    struct Answer answer = read_around(c, src, first, changes, wide + MARGIN, bytes + BYTE_MARGIN);
     for (u64 i = 0; i < count; i++) back[i] = narrowed(back[i], wide[i]);
     free(wide);
     return answer;
@@ -134,7 +134,7 @@ static struct Answer write_to(const struct Call *c, const u32 *first, const u32 
     return answer;
 #else
     (void)c, (void)first, (void)second, (void)out, (void)out_len;
-    return (struct Answer){ ~0u, 0, 0, 0, 0, 0 };
+    return (struct Answer){ ~0u, 0, 0, 0, 0, 0, 0 };
 #endif
 }
 
@@ -162,18 +162,12 @@ static void one(const u8 **from, u8 **to) {
 
     struct Answer *answer = (struct Answer *)*to;
     u32 *words = (u32 *)(*to + sizeof *answer);
-    if (c->form < 4) {
-        u64 count = (u64)c->changes + c->ends + 3 * MARGIN;
-        for (u64 i = 0; i < count; i++) words[i] = pattern(c->fill, i);
-        *answer = do_read(c, src, first, words);
-        *to = (u8 *)words + padded(4 * count);
-    } else {
-        u8 *bytes = (u8 *)words;
-        u64 count = (u64)c->out + 2 * BYTE_MARGIN;
-        for (u64 i = 0; i < count; i++) bytes[i] = (u8)(pattern(c->fill, i) >> 24);
-        *answer = do_write(c, first, second, bytes);
-        *to = bytes + padded(count);
-    }
+    u64 word_count = c->form < 4 ? (u64)c->changes + c->ends + 3 * MARGIN : 0, byte_count = (u64)c->out + 2 * BYTE_MARGIN;
+    u8 *bytes = (u8 *)words + padded(4 * word_count);
+    for (u64 i = 0; i < word_count; i++) words[i] = pattern(c->fill, i);
+    for (u64 i = 0; i < byte_count; i++) bytes[i] = (u8)(pattern(c->fill, i) >> 24);
+    *answer = c->form < 4 ? do_read(c, src, first, words, bytes) : do_write(c, first, second, bytes);
+    *to = bytes + padded(byte_count);
 }
 
 int main(void) {

@@ -1,9 +1,19 @@
 
-// Added for the comparison: what the crate keeps to itself. Nothing above is changed.
+// Added for the comparison: what the crate keeps to itself.
 impl DecoderContext {
     /// The changes of the row that was not finished.
     pub fn unfinished(&self) -> &[u32] {
         &self.coding_changes
+    }
+
+    /// The mark of the row that was not finished: 1 where a count was shortened in it.
+    pub fn mark(&self) -> u8 {
+        self.mark
+    }
+
+    /// The marks of the rows handed over: 1 where a count was shortened, 2 where `recover` ran, else 0.
+    pub fn marks(&self) -> &[u8] {
+        &self.marks
     }
 
     /// Read one 2D line from the given bit on, and return the bit after it. Its changes are then

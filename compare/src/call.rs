@@ -7,6 +7,7 @@ use crate::settings::{Encoding, Settings};
 #[derive(Clone, Copy, Debug, Default, PartialEq, Eq)]
 pub struct Answer {
     pub number: u32,
+    pub mark: u32,
     pub rows: u64,
     pub entries: u64,
     pub loose: u64,
@@ -107,10 +108,10 @@ pub fn with_zeros(lead: usize, src: &[u8], tail: usize) -> Vec<u8> {
     long
 }
 
-/// How much is lent: changes and row ends to a reader, bytes to a writer.
+/// How much is lent: changes, row ends and marks to a reader, bytes to a writer.
 #[derive(Clone, Copy, Debug, PartialEq, Eq)]
 pub enum Room {
-    Rows { changes: usize, ends: usize },
+    Rows { changes: usize, ends: usize, marks: usize },
     Bytes(usize),
 }
 
@@ -124,23 +125,21 @@ impl Room {
     /// The words lent, laid out as margin, changes, margin, ends, margin.
     pub fn words(self) -> usize {
         match self {
-            Room::Rows { changes, ends } => changes + ends + 3 * MARGIN,
+            Room::Rows { changes, ends, .. } => changes + ends + 3 * MARGIN,
             Room::Bytes(_) => 0,
         }
     }
 
-    /// The bytes lent, laid out as margin, output, margin.
+    /// The bytes lent, laid out as margin, marks or output, margin.
     pub fn bytes(self) -> usize {
-        match self {
-            Room::Rows { .. } => 0,
-            Room::Bytes(length) => length + 2 * BYTE_MARGIN,
-        }
+        let (Room::Rows { marks: length, .. } | Room::Bytes(length)) = self;
+        length + 2 * BYTE_MARGIN
     }
 
     /// Where the changes and the ends lie among the words.
     pub fn places(self) -> (std::ops::Range<usize>, std::ops::Range<usize>) {
         match self {
-            Room::Rows { changes, ends } => {
+            Room::Rows { changes, ends, .. } => {
                 let ends_at = 2 * MARGIN + changes;
                 (MARGIN..MARGIN + changes, ends_at..ends_at + ends)
             }

@@ -162,7 +162,8 @@ fn difference_of(plan: &Plan, reply: &Reply) -> Option<String> {
     }
     let bytes = wanted_bytes(plan);
     let at = first_difference(&bytes, reply.bytes)?;
-    Some(format!("output byte {} is {:02x}, not {:02x}", at as i64 - BYTE_MARGIN as i64, reply.bytes[at], bytes[at]))
+    let name = if matches!(plan.room, Room::Rows { .. }) { "mark" } else { "output byte" };
+    Some(format!("{name} {} is {:02x}, not {:02x}", at as i64 - BYTE_MARGIN as i64, reply.bytes[at], bytes[at]))
 }
 
 fn wanted_words(plan: &Plan) -> Vec<u32> {
@@ -177,9 +178,8 @@ fn wanted_words(plan: &Plan) -> Vec<u32> {
 fn wanted_bytes(plan: &Plan) -> Vec<u8> {
     let mut bytes = vec![0; plan.room.bytes()];
     fill_bytes(&mut bytes, plan.fill);
-    if let Some(out) = &plan.wanted.out {
-        bytes[BYTE_MARGIN..BYTE_MARGIN + out.len()].copy_from_slice(out);
-    }
+    let written = plan.wanted.out.as_ref().unwrap_or(&plan.wanted.marks);
+    bytes[BYTE_MARGIN..BYTE_MARGIN + written.len()].copy_from_slice(written);
     bytes
 }
 
@@ -214,7 +214,8 @@ fn describe(index: u64, ask: &Ask, plan: &Plan, text: &str) -> String {
         let _ = writeln!(out, "  at bit {}, lists {:?} and {:?}", ask.at, ask.first, ask.second);
     }
     let _ = writeln!(out, "  lent: {:?}, filled by {:08x}", plan.room, plan.fill);
-    let _ = writeln!(out, "  it must answer {}, changes {:?}, ends {:?}", show(&plan.wanted.answer), plan.wanted.changes, plan.wanted.ends);
+    let Wanted { answer, changes, ends, marks, .. } = &plan.wanted;
+    let _ = writeln!(out, "  it must answer {}, changes {changes:?}, ends {ends:?}, marks {marks:?}", show(answer));
     if let Some(written) = &plan.wanted.out {
         let _ = writeln!(out, "  and write {}", hex(written));
     }
@@ -223,7 +224,7 @@ fn describe(index: u64, ask: &Ask, plan: &Plan, text: &str) -> String {
 }
 
 fn show(a: &Answer) -> String {
-    format!("{}, rows {}, entries {}, loose {}, bytes {}, place {}", a.number, a.rows, a.entries, a.loose, a.bytes, a.place)
+    format!("{}, mark {}, rows {}, entries {}, loose {}, bytes {}, place {}", a.number, a.mark, a.rows, a.entries, a.loose, a.bytes, a.place)
 }
 
 pub fn hex(bytes: &[u8]) -> String {

@@ -16,11 +16,11 @@ pub mod repeated;
 #[rustfmt::skip]
 unsafe extern "C" {
     fn ccitt_decode_group4(answer: *mut Answer, src: *const u8, src_len: usize, columns: u32, rows: u32, end_of_block: bool, rows_are_byte_aligned: bool, strict: bool,
-        changes: *mut u32, changes_len: usize, ends: *mut u64, ends_len: usize) -> *mut Answer;
+        changes: *mut u32, changes_len: usize, ends: *mut u64, ends_len: usize, marks: *mut u8, marks_len: usize) -> *mut Answer;
     fn ccitt_decode_group3_1d(answer: *mut Answer, src: *const u8, src_len: usize, columns: u32, rows: u32, end_of_block: bool, end_of_line: bool, rows_are_byte_aligned: bool, strict: bool,
-        changes: *mut u32, changes_len: usize, ends: *mut u64, ends_len: usize) -> *mut Answer;
+        changes: *mut u32, changes_len: usize, ends: *mut u64, ends_len: usize, marks: *mut u8, marks_len: usize) -> *mut Answer;
     fn ccitt_decode_group3_2d(answer: *mut Answer, src: *const u8, src_len: usize, columns: u32, rows: u32, end_of_block: bool, end_of_line: bool, rows_are_byte_aligned: bool, strict: bool,
-        changes: *mut u32, changes_len: usize, ends: *mut u64, ends_len: usize) -> *mut Answer;
+        changes: *mut u32, changes_len: usize, ends: *mut u64, ends_len: usize, marks: *mut u8, marks_len: usize) -> *mut Answer;
     fn ccitt_read_line(answer: *mut Answer, src: *const u8, src_len: usize, at: u64, columns: u32, strict: bool,
         reference: *const u32, reference_len: usize, changes: *mut u32, changes_len: usize) -> *mut Answer;
     #[cfg(feature = "writers")]
@@ -64,7 +64,8 @@ fn one(call: &Call, words: &mut [u32], bytes: &mut [u8]) -> Answer {
             let (changes, ends) = call.room.places();
             let (front, back) = words.split_at_mut(ends.start - MARGIN);
             let mut wide: Vec<u64> = back.iter().copied().map(widened).collect();
-            let answer = read(call, &mut front[changes], &mut wide[MARGIN..MARGIN + ends.len()]);
+            let marks = BYTE_MARGIN..bytes.len() - BYTE_MARGIN;
+            let answer = read(call, &mut front[changes], &mut wide[MARGIN..MARGIN + ends.len()], &mut bytes[marks]);
             for (word, end) in back.iter_mut().zip(wide) {
                 *word = narrowed(*word, end);
             }
@@ -86,47 +87,47 @@ fn narrowed(before: u32, end: u64) -> u32 {
     if end == widened(before) { before } else { u32::try_from(end).unwrap_or(!before) }
 }
 
-fn read(call: &Call, changes: &mut [u32], ends: &mut [u64]) -> Answer {
+fn read(call: &Call, changes: &mut [u32], ends: &mut [u64], marks: &mut [u8]) -> Answer {
     let ask = call.ask;
     if ask.lead == 0 && ask.tail == 0 {
-        return read_from(call, &ask.src, changes, ends);
+        return read_from(call, &ask.src, changes, ends, marks);
     }
-    read_from(call, &ask.data(), changes, ends)
+    read_from(call, &ask.data(), changes, ends, marks)
 }
 
-fn read_from(call: &Call, src: &[u8], changes: &mut [u32], ends: &mut [u64]) -> Answer {
+fn read_from(call: &Call, src: &[u8], changes: &mut [u32], ends: &mut [u64], marks: &mut [u8]) -> Answer {
     match call.ask.form {
         Form::ReadLine => read_line(call, src, changes),
-        _ => page(&call.ask.settings, src, changes, ends),
+        _ => page(&call.ask.settings, src, changes, ends, marks),
     }
 }
 
 /// The page form.
-pub fn page(s: &Settings, src: &[u8], changes: &mut [u32], ends: &mut [u64]) -> Answer {
-    // SAFETY: both arrays are lent whole.
-    unsafe { page_into(s, src, changes, ends) }
+pub fn page(s: &Settings, src: &[u8], changes: &mut [u32], ends: &mut [u64], marks: &mut [u8]) -> Answer {
+    // SAFETY: the arrays are lent whole.
+    unsafe { page_into(s, src, changes, ends, marks) }
 }
 
 /// The page form with arrays that repeat: only the last entries that were written can be looked at, which is all that it looks at itself.
-pub fn page_repeated(s: &Settings, src: &[u8], changes: &Repeated, ends: &Repeated) -> Answer {
-    // SAFETY: both arrays are there to be written, and apart. An entry of them is another's too, and so is not kept; the page form
-    // writes ends and reads none, and of the changes it reads the row before, which is shorter than the block that repeats.
-    unsafe { page_into(s, src, changes.entries(), ends.entries()) }
+pub fn page_repeated(s: &Settings, src: &[u8], changes: &Repeated, ends: &Repeated, marks: &Repeated) -> Answer {
+    // SAFETY: the arrays are there to be written, and apart. An entry of them is another's too, and so is not kept; the page form
+    // writes ends and marks and reads none, and of the changes it reads the row before, which is shorter than the block that repeats.
+    unsafe { page_into(s, src, changes.entries(), ends.entries(), marks.entries()) }
 }
 
-/// The page form into two arrays, which must be there to be written, and apart.
+/// The page form into three arrays, which must be there to be written, and apart.
 #[rustfmt::skip]
-unsafe fn page_into(s: &Settings, src: &[u8], changes: *mut [u32], ends: *mut [u64]) -> Answer {
+unsafe fn page_into(s: &Settings, src: &[u8], changes: *mut [u32], ends: *mut [u64], marks: *mut [u8]) -> Answer {
     let mut answer = Answer::default();
-    // SAFETY: each pointer stands with the length of its slice, and the two lent arrays and the answer are apart.
+    // SAFETY: each pointer stands with the length of its slice, and the three lent arrays and the answer are apart.
     unsafe {
         match s.encoding {
             Encoding::Group4 => ccitt_decode_group4(&mut answer, src.as_ptr(), src.len(), s.columns, s.rows, s.end_of_block, s.aligned, s.strict,
-                changes.cast(), changes.len(), ends.cast(), ends.len()),
+                changes.cast(), changes.len(), ends.cast(), ends.len(), marks.cast(), marks.len()),
             Encoding::Group3OneD => ccitt_decode_group3_1d(&mut answer, src.as_ptr(), src.len(), s.columns, s.rows, s.end_of_block, s.end_of_line, s.aligned, s.strict,
-                changes.cast(), changes.len(), ends.cast(), ends.len()),
+                changes.cast(), changes.len(), ends.cast(), ends.len(), marks.cast(), marks.len()),
             Encoding::Group3TwoD => ccitt_decode_group3_2d(&mut answer, src.as_ptr(), src.len(), s.columns, s.rows, s.end_of_block, s.end_of_line, s.aligned, s.strict,
-                changes.cast(), changes.len(), ends.cast(), ends.len()),
+                changes.cast(), changes.len(), ends.cast(), ends.len(), marks.cast(), marks.len()),
         }
     };
     answer

@@ -95,7 +95,7 @@ fn request_of(calls: &[Call]) -> Vec<u8> {
 fn put_call(out: &mut Vec<u8>, call: &Call) {
     let ask = call.ask;
     let (changes, ends, bytes) = match call.room {
-        Room::Rows { changes, ends } => (changes, ends, 0),
+        Room::Rows { changes, ends, marks } => (changes, ends, marks),
         Room::Bytes(bytes) => (0, 0, bytes),
     };
     let words = [
@@ -152,6 +152,7 @@ fn replies_of(calls: &[Call], reply: &[u8]) -> Replies {
     for call in calls {
         let answer = Answer {
             number: word(reply, at),
+            mark: word(reply, at + 4),
             rows: long(reply, at + 8),
             entries: long(reply, at + 16),
             loose: long(reply, at + 24),

@@ -76,12 +76,17 @@ fn chosen(source: &dyn Source, seed: u64) -> Vec<(Ask, Plan)> {
 
 fn is_small(ask: &Ask, plan: &Plan) -> bool {
     let (changes, ends) = rooms(plan);
-    ask.src.len() + ask.tail <= LONGEST && changes <= MOST_CHANGES && ends <= MOST_ENDS && ask.first.len() <= LONGEST_REFERENCE
+    has_marks(plan) && ask.src.len() + ask.tail <= LONGEST && changes <= MOST_CHANGES && ends <= MOST_ENDS && ask.first.len() <= LONGEST_REFERENCE
 }
 
 fn rooms(plan: &Plan) -> (usize, usize) {
-    let Room::Rows { changes, ends } = plan.room else { unreachable!("readers only") };
+    let Room::Rows { changes, ends, .. } = plan.room else { unreachable!("readers only") };
     (changes, ends)
+}
+
+/// The program lends as many marks as row ends.
+fn has_marks(plan: &Plan) -> bool {
+    matches!(plan.room, Room::Rows { ends, marks, .. } if ends == marks)
 }
 
 /// One line of decimal numbers: thirteen, the reference, the data. The thirteen are the form (0 Group 4,
@@ -103,22 +108,24 @@ fn put_question(out: &mut String, ask: &Ask, plan: &Plan) {
     let _ = writeln!(out, "{}", words.join(" "));
 }
 
-/// One line: number, rows, entries, loose, bytes, place; then every entry of the changes and of the row ends that
-/// were lent, `-` for one that was left alone.
+/// One line: number, mark, rows, entries, loose, bytes, place; then every entry of the changes, of the row ends and of
+/// the marks that were lent, `-` for one that was left alone.
 fn put_answer(out: &mut String, plan: &Plan) {
     let a = &plan.wanted.answer;
     let (changes, ends) = rooms(plan);
     let _ = writeln!(
         out,
-        "{} {} {} {} {} {} :{} :{}",
+        "{} {} {} {} {} {} {} :{} :{} :{}",
         a.number,
+        a.mark,
         a.rows,
         a.entries,
         a.loose,
         a.bytes,
         a.place,
         entries(&plan.wanted.changes, changes),
-        entries(&plan.wanted.ends, ends)
+        entries(&plan.wanted.ends, ends),
+        entries(&plan.wanted.marks.iter().copied().map(u32::from).collect::<Vec<_>>(), ends)
     );
 }
 

@@ -45,9 +45,14 @@ pub enum Fault {
     FallingEnds,
     PlaceOfFour,
     PlaceBehind,
+    Mark,
+    MarkLate,
+    BehindMarks,
+    MarkOfALine,
+    FiveForNoMark,
 }
 
-pub const FAULTS: [Fault; 29] = [
+pub const FAULTS: [Fault; 34] = [
     Fault::Number,
     Fault::Rows,
     Fault::Entries,
@@ -77,6 +82,11 @@ pub const FAULTS: [Fault; 29] = [
     Fault::FallingEnds,
     Fault::PlaceOfFour,
     Fault::PlaceBehind,
+    Fault::Mark,
+    Fault::MarkLate,
+    Fault::BehindMarks,
+    Fault::MarkOfALine,
+    Fault::FiveForNoMark,
 ];
 
 pub struct Standin(pub Fault);
@@ -86,7 +96,7 @@ impl Ours for Standin {
         let mut replies = Replies::default();
         for call in calls {
             replies.lend(call, |words, bytes| match call.room {
-                Room::Rows { .. } => self.read(call, words),
+                Room::Rows { .. } => self.read(call, words, bytes),
                 Room::Bytes(_) => self.write(call, bytes),
             });
         }
@@ -99,7 +109,7 @@ impl Ours for Standin {
 }
 
 impl Standin {
-    fn read(&self, call: &Call, words: &mut [u32]) -> Answer {
+    fn read(&self, call: &Call, words: &mut [u32], bytes: &mut [u8]) -> Answer {
         let wanted = match call.ask.form {
             Form::ReadLine => self.line(call.ask).line_within(self.room(call.room)),
             _ => self.page(call.ask).page_within(self.room(call.room)),
@@ -107,15 +117,20 @@ impl Standin {
         let (changes, ends) = call.room.places();
         words[changes.clone()][..wanted.changes.len()].copy_from_slice(&wanted.changes);
         words[ends.clone()][..wanted.ends.len()].copy_from_slice(&wanted.ends);
+        let end = bytes.len() - BYTE_MARGIN;
+        let marks = &mut bytes[BYTE_MARGIN..end];
+        marks[..wanted.marks.len()].copy_from_slice(&wanted.marks);
         self.spoil_words(&wanted, words, changes, ends);
+        self.spoil_marks(&wanted, marks);
         self.spoil_answer(call.ask, wanted.answer)
     }
 
     /// The room that it takes itself to have.
     fn room(&self, room: Room) -> Room {
         match (self.0, room) {
-            (Fault::FourEarly, Room::Rows { changes, ends }) => Room::Rows { changes: changes.saturating_sub(1), ends },
-            (Fault::FiveEarly, Room::Rows { changes, ends }) => Room::Rows { changes, ends: ends.saturating_sub(1) },
+            (Fault::FourEarly, Room::Rows { changes, ends, marks }) => Room::Rows { changes: changes.saturating_sub(1), ends, marks },
+            (Fault::FiveEarly, Room::Rows { changes, ends, marks }) => Room::Rows { changes, ends: ends.saturating_sub(1), marks },
+            (Fault::FiveForNoMark, Room::Rows { changes, ends, marks }) => Room::Rows { changes, ends: ends.min(marks + 1), marks: ends.min(marks + 1) },
             _ => room,
         }
     }
@@ -160,6 +175,16 @@ impl Standin {
         }
     }
 
+    fn spoil_marks(&self, wanted: &Wanted, marks: &mut [u8]) {
+        let kept = wanted.marks.len();
+        match self.0 {
+            Fault::Mark if wanted.marks.contains(&2) => marks[..kept].iter_mut().for_each(|mark| *mark = (*mark).min(1)),
+            Fault::MarkLate if kept > 1 => marks[..kept].rotate_right(1),
+            Fault::BehindMarks if kept < marks.len() => marks[kept] = 0,
+            _ => {}
+        }
+    }
+
     fn spoil_answer(&self, ask: &Ask, mut answer: Answer) -> Answer {
         match self.0 {
             Fault::Number if answer.number == 3 => answer.number = 1,
@@ -170,6 +195,7 @@ impl Standin {
             Fault::BytesOfAFailure if answer.number == 4 => answer.bytes = 1,
             Fault::PlaceOfFour if answer.number == 4 => answer.place = 1,
             Fault::PlaceBehind if answer.number == 2 => answer.place += 1,
+            Fault::MarkOfALine if ask.form == Form::ReadLine => answer.mark = 0,
             Fault::FiveForFour if answer.number == 4 => answer.number = 5,
             Fault::LineEndsOnAByte if ask.form == Form::ReadLine => answer.bytes = answer.bytes.div_ceil(8) * 8,
             _ => {}
@@ -297,7 +323,7 @@ fn slipped_page(ask: &Ask, src: &[u8]) -> Outcome {
     if number != 0 {
         sink.changes.extend_from_slice(context.unfinished());
     }
-    Outcome { number, place, bytes, changes: sink.changes, ends: sink.ends }
+    Outcome { number, place, bytes, changes: sink.changes, ends: sink.ends, marks: context.marks().to_vec() }
 }
 
 fn slipped_line(ask: &Ask) -> Outcome {
@@ -305,8 +331,8 @@ fn slipped_line(ask: &Ask) -> Outcome {
     let result = context.read_line(&ask.src, ask.at as usize, &ask.first);
     let changes = context.unfinished().to_vec();
     match result {
-        Ok(bit) => Outcome { number: 0, place: 0, bytes: bit as u64, ends: vec![changes.len() as u32], changes },
-        Err(error) => Outcome { number: slipped_number(error), place: slipped::place::last() as u64, bytes: 0, ends: Vec::new(), changes },
+        Ok(bit) => Outcome { number: 0, place: 0, bytes: bit as u64, ends: vec![changes.len() as u32], marks: vec![context.mark()], changes },
+        Err(error) => Outcome { number: slipped_number(error), place: slipped::place::last() as u64, bytes: 0, ends: Vec::new(), marks: Vec::new(), changes },
     }
 }
 

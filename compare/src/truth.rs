@@ -18,6 +18,8 @@ pub struct Outcome {
     pub changes: Vec<u32>,
     /// Where each whole row ends among them.
     pub ends: Vec<u32>,
+    /// And its mark: 0 clean, 1 cut, 2 recovered.
+    pub marks: Vec<u8>,
 }
 
 /// What must come back from one call: the answer, and what the lent arrays begin with. Everything
@@ -27,6 +29,7 @@ pub struct Wanted {
     pub answer: Answer,
     pub changes: Vec<u32>,
     pub ends: Vec<u32>,
+    pub marks: Vec<u8>,
     /// A writer's whole output, if it is not to stay as it was.
     pub out: Option<Vec<u8>>,
 }
@@ -34,14 +37,14 @@ pub struct Wanted {
 impl Wanted {
     /// An answer that leaves everything as it was.
     pub fn untouched(answer: Answer) -> Self {
-        Wanted { answer, changes: Vec::new(), ends: Vec::new(), out: None }
+        Wanted { answer, changes: Vec::new(), ends: Vec::new(), marks: Vec::new(), out: None }
     }
 }
 
 impl Outcome {
     /// An answer that leaves everything as it was.
     pub fn bare(number: u32, place: u64) -> Self {
-        Outcome { number, place, bytes: 0, changes: Vec::new(), ends: Vec::new() }
+        Outcome { number, place, bytes: 0, changes: Vec::new(), ends: Vec::new(), marks: Vec::new() }
     }
 
     /// A page: tests 6 and 7, then what the crate gives.
@@ -61,22 +64,25 @@ impl Outcome {
     fn of_crate(settings: &Settings, src: &[u8]) -> Self {
         let mut sink = Sink::default();
         let mut context = hayro_ccitt::DecoderContext::new(settings.for_crate());
-        match hayro_ccitt::decode(src, &mut sink, &mut context) {
-            Ok(bytes) => Outcome { number: 0, place: 0, bytes: bytes as u64, changes: sink.changes, ends: sink.ends },
-            Err(error) => Self::of_failing_page(settings, src, crate_number(error), sink),
-        }
+        let (number, bytes) =
+            hayro_ccitt::decode(src, &mut sink, &mut context).map_or_else(|error| (crate_number(error), 0), |bytes| (0, bytes));
+        Self::of_open_crate(settings, src, number, bytes, sink)
     }
 
-    /// The crate hands out no unfinished row and no place, so the copy that does is asked again. It must
+    /// The crate hands out no unfinished row and no place, and marks no row, so the copy that does is asked again. It must
     /// agree with the crate in everything else.
-    fn of_failing_page(settings: &Settings, src: &[u8], number: u32, sink: Sink) -> Self {
+    fn of_open_crate(settings: &Settings, src: &[u8], number: u32, bytes: usize, sink: Sink) -> Self {
         let mut again = Sink::default();
         let mut context = hayro_ccitt_open::DecoderContext::new(settings.for_open_crate());
-        let error = hayro_ccitt_open::decode(src, &mut again, &mut context).expect_err("the crate fails here");
-        assert!(open_crate_number(error) == number && again == sink, "the opened copy is not the crate");
+        let told = hayro_ccitt_open::decode(src, &mut again, &mut context).map_or_else(|error| (open_crate_number(error), 0), |bytes| (0, bytes));
+        assert!(told == (number, bytes) && again == sink, "the opened copy is not the crate");
         let mut changes = sink.changes;
-        changes.extend_from_slice(context.unfinished());
-        Outcome { number, place: hayro_ccitt_open::place::last() as u64, bytes: 0, changes, ends: sink.ends }
+        let mut place = 0;
+        if number != 0 {
+            changes.extend_from_slice(context.unfinished());
+            place = hayro_ccitt_open::place::last() as u64;
+        }
+        Outcome { number, place, bytes: bytes as u64, changes, ends: sink.ends, marks: context.marks().to_vec() }
     }
 
     /// One line: tests 6, 7 and 8, a start past the data, then what the crate's reading of a line gives.
@@ -102,7 +108,7 @@ impl Outcome {
         match context.read_line(src, at as usize, reference) {
             Ok(bit) => {
                 let changes = context.unfinished().to_vec();
-                Outcome { number: 0, place: 0, bytes: bit as u64, ends: vec![changes.len() as u32], changes }
+                Outcome { number: 0, place: 0, bytes: bit as u64, ends: vec![changes.len() as u32], marks: vec![context.mark()], changes }
             }
             Err(error) => Outcome {
                 number: open_crate_number(error),
@@ -110,20 +116,21 @@ impl Outcome {
                 bytes: 0,
                 changes: context.unfinished().to_vec(),
                 ends: Vec::new(),
+                marks: Vec::new(),
             },
         }
     }
 
     /// What a page gives within the room that is lent. Changes are recorded one after the other and
-    /// never taken back, so the first one without an entry, or the first row without an end, decides.
+    /// never taken back, so the first one without an entry, or the first row without a place for its end and its mark, decides.
     pub fn page_within(&self, room: Room) -> Wanted {
-        let Room::Rows { changes, ends } = room else { unreachable!("a reader is lent rows") };
+        let Room::Rows { changes, ends, marks } = room else { unreachable!("a reader is lent rows") };
         let mut base = 0;
         for (row, end) in self.ends.iter().map(|&end| end as usize).enumerate() {
             if end > changes {
                 return self.stopped(4, row, base, changes);
             }
-            if row == ends {
+            if row == ends.min(marks) {
                 return self.stopped(5, row, base, end);
             }
             base = end;
@@ -134,11 +141,13 @@ impl Outcome {
         self.stopped(self.number, self.ends.len(), base, self.changes.len())
     }
 
-    /// A line has no row ends, so it can't run out of them.
+    /// A line has no row ends and its mark in the answer, so it can't run out of places.
     pub fn line_within(&self, room: Room) -> Wanted {
         let Room::Rows { changes, .. } = room else { unreachable!("a reader is lent rows") };
-        let mut wanted = self.page_within(Room::Rows { changes, ends: 1 });
+        let mut wanted = self.page_within(Room::Rows { changes, ends: 1, marks: 1 });
+        wanted.answer.mark = wanted.marks.first().copied().map_or(0, u32::from);
         wanted.ends.clear();
+        wanted.marks.clear();
         wanted
     }
 
@@ -147,6 +156,7 @@ impl Outcome {
         Wanted {
             answer: Answer {
                 number,
+                mark: 0,
                 rows: rows as u64,
                 entries: entries as u64,
                 loose: (written - entries) as u64,
@@ -155,6 +165,7 @@ impl Outcome {
             },
             changes: self.changes[..written].to_vec(),
             ends: self.ends[..rows].to_vec(),
+            marks: self.marks[..rows].to_vec(),
             out: None,
         }
     }

@@ -31,12 +31,14 @@ impl Page {
 struct Store {
     changes: Vec<u32>,
     ends: Vec<u64>,
+    marks: Vec<u8>,
 }
 
 impl Store {
     fn cleared(&mut self) -> &mut Self {
         self.changes.fill(0);
         self.ends.fill(0);
+        self.marks.fill(0);
         self
     }
 }
@@ -59,7 +61,7 @@ impl hayro_ccitt::Decoder for Sink<'_> {
 }
 
 pub fn run(texts: &[Text]) {
-    let mut store = Store { changes: vec![0; CHANGES], ends: vec![0; ENDS] };
+    let mut store = Store { changes: vec![0; CHANGES], ends: vec![0; ENDS], marks: vec![0; ENDS] };
     println!("median of {RUNS} runs, release builds, arrays cleared before each; the crate's sink copies rows into one array");
     let pages: Vec<Page> = texts.iter().map(|text| Page::of(text.settings, text.src.clone())).collect();
     for encoding in [Encoding::Group4, Encoding::Group3OneD] {
@@ -83,7 +85,7 @@ fn compare(name: &str, pages: &[&Page], store: &mut Store) {
 fn time_ours(page: &Page, store: &mut Store) -> Duration {
     let store = store.cleared();
     let began = Instant::now();
-    let answer = linked::page(&page.settings, &page.src, &mut store.changes, &mut store.ends);
+    let answer = linked::page(&page.settings, &page.src, &mut store.changes, &mut store.ends, &mut store.marks);
     let took = began.elapsed();
     assert!(answer.number == page.number && answer.rows as usize == page.rows, "ours answers as the crate does");
     took

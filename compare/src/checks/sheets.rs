@@ -4,6 +4,7 @@
 use crate::call::{Answer, Ask, Room};
 use crate::check::{Case, Plan, Source};
 use crate::random::Random;
+use crate::rooms::line_room;
 use crate::settings::{Encoding, Settings};
 use crate::truth::{Outcome, Wanted};
 
@@ -26,9 +27,10 @@ struct Sheet {
     answer: Answer,
     changes: &'static [u32],
     ends: &'static [u32],
+    marks: &'static [u8],
 }
 
-const PLENTY: Room = Room::Rows { changes: 9, ends: 9 };
+const PLENTY: Room = Room::Rows { changes: 9, ends: 9, marks: 9 };
 
 const fn settings(encoding: Encoding, columns: u32, rows: u32, strict: bool) -> Settings {
     Settings { encoding, columns, rows, end_of_block: false, end_of_line: false, aligned: false, strict }
@@ -43,7 +45,7 @@ const fn one_d(rows: u32, strict: bool) -> Settings {
 }
 
 const fn answer(number: u32, rows: u64, entries: u64, loose: u64, bytes: u64) -> Answer {
-    Answer { number, rows, entries, loose, bytes, place: 0 }
+    Answer { number, mark: 0, rows, entries, loose, bytes, place: 0 }
 }
 
 /// A fault after so many white rows, and the bit at which its code began.
@@ -51,13 +53,18 @@ const fn fault(number: u32, rows: u64, place: u64) -> Answer {
     Answer { place, ..answer(number, rows, 0, 0, 0) }
 }
 
+/// The ends of white rows.
+const ENDS: &[u32] = &[0; 9];
+
 /// A sheet with room to spare and no black pixel.
-const fn white(settings: Settings, src: &'static [u8], answer: Answer, ends: &'static [u32]) -> Sheet {
-    Sheet { settings, src, room: PLENTY, answer, changes: &[], ends }
+const fn white(settings: Settings, src: &'static [u8], answer: Answer, marks: &'static [u8]) -> Sheet {
+    let (ends, _) = ENDS.split_at(marks.len());
+    Sheet { settings, src, room: PLENTY, answer, changes: &[], ends, marks }
 }
 
 const fn black(room: Room, answer: Answer, ends: &'static [u32], changes: &'static [u32]) -> Sheet {
-    Sheet { settings: group4(8, 1, true), src: &[0x31, 0xC0], room, answer, changes, ends }
+    let marks: &[u8] = if ends.is_empty() { &[] } else { &[0] };
+    Sheet { settings: group4(8, 1, true), src: &[0x31, 0xC0], room, answer, changes, ends, marks }
 }
 
 const fn with_eols(settings: Settings) -> Settings {
@@ -69,7 +76,7 @@ const fn with_end(settings: Settings) -> Settings {
 }
 
 #[rustfmt::skip]
-const SHEETS: [Sheet; 20] = [
+const SHEETS: [Sheet; 22] = [
     white(with_end(group4(8, 0, true)), &[0x80, 0x08, 0x00, 0x80], answer(0, 1, 0, 0, 4), &[0]),
     white(with_end(group4(8, 0, true)), &[0x00, 0x10, 0x01], answer(0, 0, 0, 0, 3), &[]),
     white(group4(8, 0, true), &[0x80], fault(1, 1, 1), &[0]),
@@ -79,19 +86,21 @@ const SHEETS: [Sheet; 20] = [
     white(group4(3, 0, true), &[0x04], fault(2, 0, 7), &[]),
     white(group4(3, 0, false), &[0x04], fault(2, 0, 7), &[]),
     white(group4(8, 1, true), &[0x60], fault(1, 0, 0), &[]),
-    white(group4(8, 1, false), &[0x60], answer(0, 1, 0, 0, 1), &[0]),
-    black(Room::Rows { changes: 2, ends: 1 }, answer(0, 1, 2, 0, 2), &[2], &[3, 5]),
-    black(Room::Rows { changes: 1, ends: 1 }, answer(4, 0, 0, 1, 0), &[], &[3]),
-    black(Room::Rows { changes: 2, ends: 0 }, answer(5, 0, 0, 2, 0), &[], &[3, 5]),
+    white(group4(8, 1, false), &[0x60], answer(0, 1, 0, 0, 1), &[1]),
+    white(group4(8, 1, false), &[0x33, 0x40], answer(0, 1, 0, 0, 2), &[1]),
+    black(Room::Rows { changes: 2, ends: 1, marks: 1 }, answer(0, 1, 2, 0, 2), &[2], &[3, 5]),
+    black(Room::Rows { changes: 1, ends: 1, marks: 1 }, answer(4, 0, 0, 1, 0), &[], &[3]),
+    black(Room::Rows { changes: 2, ends: 0, marks: 1 }, answer(5, 0, 0, 2, 0), &[], &[3, 5]),
+    black(Room::Rows { changes: 2, ends: 1, marks: 0 }, answer(5, 0, 0, 2, 0), &[], &[3, 5]),
     white(one_d(1, true), &[0x98], answer(0, 1, 0, 0, 1), &[0]),
     white(one_d(0, true), &[0x98], fault(2, 1, 5), &[0]),
-    white(with_eols(one_d(0, false)), &[], answer(0, 1, 0, 0, 0), &[0]),
+    white(with_eols(one_d(0, false)), &[], answer(0, 1, 0, 0, 0), &[2]),
     white(one_d(0, false), &[], fault(2, 0, 0), &[]),
-    white(one_d(0, false), &[0x00, 0x01], answer(0, 1, 0, 0, 2), &[0]),
+    white(one_d(0, false), &[0x00, 0x01], answer(0, 1, 0, 0, 2), &[2]),
     white(one_d(0, true), &[0x00, 0x01], fault(2, 0, 16), &[]),
     Sheet {
         settings: one_d(2, false), src: &[0x00, 0x17, 0x80, 0x06, 0x60], room: PLENTY,
-        answer: answer(0, 2, 2, 0, 5), changes: &[2, 5], ends: &[2, 2],
+        answer: answer(0, 2, 2, 0, 5), changes: &[2, 5], ends: &[2, 2], marks: &[2, 0],
     },
 ];
 
@@ -120,7 +129,7 @@ const PARTINGS: [Sheet; 25] = [
     white(group4(8, 1, true), &[0x33, 0x0D, 0xC0], answer(0, 1, 0, 0, 3), &[0]),
     Sheet {
         settings: group4(8, 2, true), src: &[0x2E, 0xA0, 0xE0], room: PLENTY,
-        answer: answer(0, 2, 3, 0, 3), changes: &[2, 3, 5], ends: &[2, 3],
+        answer: answer(0, 2, 3, 0, 3), changes: &[2, 3, 5], ends: &[2, 3], marks: &[0, 0],
     },
     white(group4(8, 1, true), &[0x00, 0x18], answer(0, 1, 0, 0, 2), &[0]),
     white(with_end(group4(8, 0, true)), &[0xFF], answer(0, 8, 0, 0, 1), &[0; 8]),
@@ -155,7 +164,7 @@ const PLACES: [Sheet; 13] = [
     white(one_d(2, true), &[0x9E, 0xCD, 0x40], fault(1, 1, 5), &[0]),
     white(one_d(0, true), &[0x00, 0x01, 0x9C, 0xC0], fault(1, 1, 21), &[0]),
     white(two_d(0), &[0x00, 0x01], fault(2, 0, 16), &[]),
-    white(one_d(2, false), &[0x00, 0x01, 0x00, 0x80, 0x0C, 0xC0], answer(0, 2, 0, 0, 6), &[0; 2]),
+    white(one_d(2, false), &[0x00, 0x01, 0x00, 0x80, 0x0C, 0xC0], answer(0, 2, 0, 0, 6), &[2, 0]),
 ];
 
 /// Every page that is listed above.
@@ -184,7 +193,8 @@ impl Source for Sheets {
 }
 
 fn page_sheet(sheet: &Sheet, fill: u32) -> Case {
-    let wanted = Wanted { answer: sheet.answer, changes: sheet.changes.to_vec(), ends: sheet.ends.to_vec(), out: None };
+    let (changes, ends, marks) = (sheet.changes.to_vec(), sheet.ends.to_vec(), sheet.marks.to_vec());
+    let wanted = Wanted { answer: sheet.answer, changes, ends, marks, out: None };
     let of_crate = Outcome::of_page(&sheet.settings, sheet.src, 0).page_within(sheet.room);
     let agrees = of_crate == wanted;
     let plans = vec![Plan { room: sheet.room, fill, wanted }];
@@ -196,12 +206,11 @@ fn line_sheet(index: usize, fill: u32) -> Case {
     let (columns, reference, row, code) = LINES[index];
     let mut bits = crate::bits::Bits::default();
     bits.code(code);
-    let wanted =
-        Wanted { answer: answer(0, 1, row.len() as u64, 0, code.len() as u64), changes: row.to_vec(), ends: Vec::new(), out: None };
+    let wanted = Wanted { changes: row.to_vec(), ..Wanted::untouched(answer(0, 1, row.len() as u64, 0, code.len() as u64)) };
     let src = bits.into_bytes();
     let of_crate = Outcome::of_line(columns, true, &src, 0, 0, reference).line_within(PLENTY);
     let agrees = of_crate == wanted;
-    let plans = vec![Plan { room: Room::Rows { changes: row.len() + 1, ends: 0 }, fill, wanted }];
+    let plans = vec![Plan { room: line_room(row.len() + 1), fill, wanted }];
     Case { ask: Ask::read_line(columns, true, src, 0, reference.to_vec()), plans, complaint: None }
         .require(agrees, || "the crate does not give what the sheet says".to_string())
 }

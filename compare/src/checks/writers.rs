@@ -144,7 +144,7 @@ fn misread(random: &mut Random, columns: u32, rows: &[Vec<u32>], page: &Bits) ->
     let settings = Settings { end_of_block: true, rows: number, ..Settings::of_line(columns, true) };
     let count = random.index(5);
     let followed = [src.clone(), random.bytes(count)].concat();
-    let whole = Outcome { number: 0, place: 0, bytes: src.len() as u64, changes, ends };
+    let whole = Outcome { number: 0, place: 0, bytes: src.len() as u64, changes, marks: vec![0; ends.len()], ends };
     if Outcome::of_page(&settings, &followed, 0) != whole {
         return Some("the crate does not read back the page".to_string());
     }

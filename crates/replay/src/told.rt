@@ -37,6 +37,7 @@ fn ask(
     reference: &[u32],
     changes: &mut [u32],
     ends: &mut [u64],
+    marks: &mut [u8],
 ) -> Answer {
     if n[0] == 3 {
         return context::read::read_line(
@@ -48,7 +49,7 @@ fn ask(
             changes,
         );
     }
-    ccitt::decode(src, settings(n), changes, ends)
+    ccitt::decode(src, settings(n), changes, ends, marks)
 }
 
 // The number, or `most`, which no question of the sample passes.
@@ -59,16 +60,18 @@ fn within(n: u32, most: usize) -> usize
     if most < wide { most } else { wide }
 }
 
-// Asks with as much of each array as the question says, in the last four of its numbers.
+// Asks with as much of each array as the question says, in the last four of its numbers: there are as many marks as row ends.
 fn ask_within(
     n: &[u32; 13],
     src: &[u8],
     reference: &[u32],
     changes: &mut [u32],
     ends: &mut [u64],
+    marks: &mut [u8],
 ) -> Answer {
     let c = within(n[9], changes.len());
     let e = within(n[10], ends.len());
+    let m = within(n[10], marks.len());
     let r = within(n[11], reference.len());
     let d = within(n[12], src.len());
     ask(
@@ -77,6 +80,7 @@ fn ask_within(
         &reference[..r],
         &mut changes[..c],
         &mut ends[..e],
+        &mut marks[..m],
     )
 }
 
@@ -116,8 +120,28 @@ fn row_ends(array: &[u64], n: u32) {
     }
 }
 
+// No mark is 255.
+fn mark(n: u8) {
+    if n == 255 {
+        io::write_all(STDOUT_FILENO, b" -");
+        return;
+    }
+    entry(n as u64);
+}
+
+fn row_marks(array: &[u8], n: u32) {
+    io::write_all(STDOUT_FILENO, b":");
+    let end = within(n, array.len());
+    let mut k = 0;
+    while k < end {
+        mark(array[k]);
+        k += 1;
+    }
+}
+
 fn tell(answer: Answer) {
     number(answer.number as u64);
+    number(answer.mark as u64);
     number(answer.rows);
     number(answer.entries);
     number(answer.loose);
@@ -154,14 +178,17 @@ pub(crate) fn replay(input: &[u8], from: usize) -> usize {
     let mut src = [0u8; 128];
     let mut changes = [4294967295u32; 256];
     let mut ends = [4294967295u64; 64];
+    let mut marks = [255u8; 64];
     let head = asked::numbers(input, from, 13, &mut n);
     let data = asked::numbers(input, head, n[11], &mut reference);
     let next = asked::numbers(input, data, n[12], &mut words);
     narrow(&words, &mut src);
-    tell(ask_within(&n, &src, &reference, &mut changes, &mut ends));
+    tell(ask_within(&n, &src, &reference, &mut changes, &mut ends, &mut marks));
     entries(&changes, n[9]);
     io::write_all(STDOUT_FILENO, b" ");
     row_ends(&ends, n[10]);
+    io::write_all(STDOUT_FILENO, b" ");
+    row_marks(&marks, n[10]);
     io::write_all(STDOUT_FILENO, b"\n");
     next
 }

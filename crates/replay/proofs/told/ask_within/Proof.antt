@@ -1,6 +1,6 @@
 -- Each array lends as much as was counted off. Assumes nothing.
-use mathlib.Core.Path.{sym}
 use lib.Seq.{length-take-le}
+use mathlib.Core.Path.{sym}
 use borrow.Author.Needs.{needs}
 use Rattle.replay.proofs.told.ask_within.Statement.{statement}
 use Rattle.replay.proofs.told.ask_within.Tie as tie
@@ -29,23 +29,35 @@ element-copy-out-within-4 c = search needs
 within-requires-4 : tie.Need-within-requires-4
 within-requires-4 c κs = search needs
 
+element-copy-out-within-5 : tie.Need-element-copy-out-within-5
+element-copy-out-within-5 c = search needs
+
+within-requires-5 : tie.Need-within-requires-5
+within-requires-5 c κs = search needs
+
 slice-aggregate-ask : tie.Need-slice-aggregate-ask
-slice-aggregate-ask c = sym (length-take-le (c .before .within4 .result) _ (c .before .within4 .ensures))
+slice-aggregate-ask c = sym (length-take-le (c .before .within5 .result) _ (c .before .within5 .ensures))
 
 slice-aggregate-ask-2 : tie.Need-slice-aggregate-ask-2
-slice-aggregate-ask-2 c = sym (length-take-le (c .before .before .before .before .within3 .result) _ (c .before .before .before .before .within3 .ensures))
+slice-aggregate-ask-2 c = sym (length-take-le (c .before .before .before .before .within4 .result) _ (c .before .before .before .before .within4 .ensures))
 
 slice-relend-prefix-ask : tie.Need-slice-relend-prefix-ask
 slice-relend-prefix-ask c = search needs
 
 slice-aggregate-ask-3 : tie.Need-slice-aggregate-ask-3
-slice-aggregate-ask-3 c = sym (length-take-le (c .before .before .before .before .before .before .before .before .before .within .result) _ (c .before .before .before .before .before .before .before .before .before .within .ensures))
+slice-aggregate-ask-3 c = sym (length-take-le (c .before .before .before .before .before .before .before .before .before .before .before .within .result) _ (c .before .before .before .before .before .before .before .before .before .before .before .within .ensures))
 
 slice-relend-prefix-ask-2 : tie.Need-slice-relend-prefix-ask-2
 slice-relend-prefix-ask-2 c = search needs
 
 slice-aggregate-ask-4 : tie.Need-slice-aggregate-ask-4
-slice-aggregate-ask-4 c = sym (length-take-le (c .before .before .before .before .before .before .before .before .within2 .result) _ (c .before .before .before .before .before .before .before .before .within2 .ensures))
+slice-aggregate-ask-4 c = sym (length-take-le (c .before .before .before .before .before .before .before .before .before .before .within2 .result) _ (c .before .before .before .before .before .before .before .before .before .before .within2 .ensures))
+
+slice-relend-prefix-ask-3 : tie.Need-slice-relend-prefix-ask-3
+slice-relend-prefix-ask-3 c = search needs
+
+slice-aggregate-ask-5 : tie.Need-slice-aggregate-ask-5
+slice-aggregate-ask-5 c = sym (length-take-le (c .before .before .before .before .before .before .before .before .before .within3 .result) _ (c .before .before .before .before .before .before .before .before .before .within3 .ensures))
 
 ask-requires : tie.Need-ask-requires
 ask-requires c κs = search needs
@@ -55,6 +67,9 @@ same-length c = search needs
 
 same-length-2 : tie.Need-same-length-2
 same-length-2 c = search needs
+
+same-length-3 : tie.Need-same-length-3
+same-length-3 c = search needs
 
 returns : tie.Need-returns
 returns c = search needs
@@ -71,13 +86,18 @@ ask-within-spec =
     within-requires-3
     element-copy-out-within-4
     within-requires-4
+    element-copy-out-within-5
+    within-requires-5
     slice-aggregate-ask
     slice-aggregate-ask-2
     slice-relend-prefix-ask
     slice-aggregate-ask-3
     slice-relend-prefix-ask-2
     slice-aggregate-ask-4
+    slice-relend-prefix-ask-3
+    slice-aggregate-ask-5
     ask-requires
     same-length
     same-length-2
+    same-length-3
     returns)
