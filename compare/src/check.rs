@@ -224,7 +224,10 @@ fn describe(index: u64, ask: &Ask, plan: &Plan, text: &str) -> String {
 }
 
 fn show(a: &Answer) -> String {
-    format!("{}, mark {}, rows {}, entries {}, loose {}, bytes {}, place {}", a.number, a.mark, a.rows, a.entries, a.loose, a.bytes, a.place)
+    format!(
+        "{}, mark {}, rows {}, entries {}, loose {}, bytes {}, place {}",
+        a.number, a.mark, a.rows, a.entries, a.loose, a.bytes, a.place
+    )
 }
 
 pub fn hex(bytes: &[u8]) -> String {

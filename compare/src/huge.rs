@@ -86,8 +86,9 @@ mod counted {
     fn by_ours(settings: &Settings, src: &[u8], wanted: &Counted) -> io::Result<Counted> {
         let changes = Repeated::new(4 * (wanted.last_end as usize + 8))?;
         let ends = Repeated::new(8 * (wanted.rows as usize + 8))?;
+        let marks = Repeated::new(wanted.rows as usize + 8)?;
         let began = Instant::now();
-        let answer = linked::page_repeated(settings, src, &changes, &ends);
+        let answer = linked::page_repeated(settings, src, &changes, &ends, &marks);
         if answer.number != 0 || answer.rows == 0 {
             return Err(io::Error::other(format!("ours: {answer:?}")));
         }

@@ -76,7 +76,11 @@ fn chosen(source: &dyn Source, seed: u64) -> Vec<(Ask, Plan)> {
 
 fn is_small(ask: &Ask, plan: &Plan) -> bool {
     let (changes, ends) = rooms(plan);
-    has_marks(plan) && ask.src.len() + ask.tail <= LONGEST && changes <= MOST_CHANGES && ends <= MOST_ENDS && ask.first.len() <= LONGEST_REFERENCE
+    has_marks(plan)
+        && ask.src.len() + ask.tail <= LONGEST
+        && changes <= MOST_CHANGES
+        && ends <= MOST_ENDS
+        && ask.first.len() <= LONGEST_REFERENCE
 }
 
 fn rooms(plan: &Plan) -> (usize, usize) {

@@ -130,7 +130,9 @@ impl Standin {
         match (self.0, room) {
             (Fault::FourEarly, Room::Rows { changes, ends, marks }) => Room::Rows { changes: changes.saturating_sub(1), ends, marks },
             (Fault::FiveEarly, Room::Rows { changes, ends, marks }) => Room::Rows { changes, ends: ends.saturating_sub(1), marks },
-            (Fault::FiveForNoMark, Room::Rows { changes, ends, marks }) => Room::Rows { changes, ends: ends.min(marks + 1), marks: ends.min(marks + 1) },
+            (Fault::FiveForNoMark, Room::Rows { changes, ends, marks }) => {
+                Room::Rows { changes, ends: ends.min(marks + 1), marks: ends.min(marks + 1) }
+            }
             _ => room,
         }
     }
@@ -331,8 +333,17 @@ fn slipped_line(ask: &Ask) -> Outcome {
     let result = context.read_line(&ask.src, ask.at as usize, &ask.first);
     let changes = context.unfinished().to_vec();
     match result {
-        Ok(bit) => Outcome { number: 0, place: 0, bytes: bit as u64, ends: vec![changes.len() as u32], marks: vec![context.mark()], changes },
-        Err(error) => Outcome { number: slipped_number(error), place: slipped::place::last() as u64, bytes: 0, ends: Vec::new(), marks: Vec::new(), changes },
+        Ok(bit) => {
+            Outcome { number: 0, place: 0, bytes: bit as u64, ends: vec![changes.len() as u32], marks: vec![context.mark()], changes }
+        }
+        Err(error) => Outcome {
+            number: slipped_number(error),
+            place: slipped::place::last() as u64,
+            bytes: 0,
+            ends: Vec::new(),
+            marks: Vec::new(),
+            changes,
+        },
     }
 }
 

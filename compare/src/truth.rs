@@ -74,7 +74,8 @@ impl Outcome {
     fn of_open_crate(settings: &Settings, src: &[u8], number: u32, bytes: usize, sink: Sink) -> Self {
         let mut again = Sink::default();
         let mut context = hayro_ccitt_open::DecoderContext::new(settings.for_open_crate());
-        let told = hayro_ccitt_open::decode(src, &mut again, &mut context).map_or_else(|error| (open_crate_number(error), 0), |bytes| (0, bytes));
+        let told =
+            hayro_ccitt_open::decode(src, &mut again, &mut context).map_or_else(|error| (open_crate_number(error), 0), |bytes| (0, bytes));
         assert!(told == (number, bytes) && again == sink, "the opened copy is not the crate");
         let mut changes = sink.changes;
         let mut place = 0;

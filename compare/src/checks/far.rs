@@ -32,7 +32,7 @@ impl Source for Far {
         ask.lead = FILL;
         let outcome = Outcome::of_page(&settings, &ask.data(), 0);
         let agrees = outcome.number == 0 && outcome.rows().eq(rows.iter().map(Vec::as_slice));
-        let room = Room::Rows { changes: outcome.changes.len() + 3, ends: rows.len() + 3 };
+        let room = Room::Rows { changes: outcome.changes.len() + 3, ends: rows.len() + 3, marks: rows.len() + 3 };
         let plan = Plan { room, fill: random.next() as u32, wanted: outcome.page_within(room) };
         Case { ask, plans: vec![plan], complaint: None }.require(agrees, || "the crate does not read the rows back".to_string())
     }
