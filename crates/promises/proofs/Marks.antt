@@ -94,7 +94,7 @@ module _ (bytes : List ℕ) (at columns : ℕ) (strict : Bool) (reference change
   line-marked (Lined.is-six e) = unmarked strict 6
   line-marked (Lined.is-seven n l) = unmarked strict 7
   line-marked (Lined.is-eight n l e) = unmarked strict 8
-  line-marked (Lined.past-end n l up) = (omega arith, (λ e. absurd (omega arith)), λ e. refl)
+  line-marked (Lined.past-end n l up beyond) = (omega arith, (λ e. absurd (omega arith)), λ e. refl)
   line-marked (Lined.is-read n l up i) =
       one-marked strict _ _
       (λ e. ap (λ (b : Bool). readLine (record { width = columns; strict = b; room = length changes }) (two reference) (bitsOf bytes) at) (sym e))
