@@ -119,7 +119,9 @@ impl Standin {
         words[ends.clone()][..wanted.ends.len()].copy_from_slice(&wanted.ends);
         let end = bytes.len() - BYTE_MARGIN;
         let marks = &mut bytes[BYTE_MARGIN..end];
-        marks[..wanted.marks.len()].copy_from_slice(&wanted.marks);
+        // with the fault of a room that it takes for larger, it has more marks than it was lent places for
+        let lent = wanted.marks.len().min(marks.len());
+        marks[..lent].copy_from_slice(&wanted.marks[..lent]);
         self.spoil_words(&wanted, words, changes, ends);
         self.spoil_marks(&wanted, marks);
         self.spoil_answer(call.ask, wanted.answer)

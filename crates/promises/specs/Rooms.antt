@@ -100,7 +100,7 @@ abbrev pub SmallerRoom : Type 0
 SmallerRoom =
     (bytes : List ℕ) (settings : DecodeSettings) (small large : Call) → Roomier bytes settings small large
     → Gives (within (length (small .changes)) (places small) (handed large)) (small .changes) (small .ends) (small .marks) (small .answer) (small .changes′) (small .ends′)
-        (small .marks′)
+    (small .marks′)
 
 abbrev pub SmallerRoomIsFront : Type 0
 SmallerRoomIsFront = (bytes : List ℕ) (settings : DecodeSettings) (small large : Call) → Roomier bytes settings small large → Front small large
