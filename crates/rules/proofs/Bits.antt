@@ -1,7 +1,7 @@
 -- Laws of bits: windows and the numbers that they make, the bits of a number, bits of bytes, and bits from a place on.
 -- Assumes nothing.
 use mathlib.Core.Path.{_≡_, refl, sym, ap, ap₂, _∙_}
-use mathlib.Core.Bool.{Bool, true, false}
+use mathlib.Core.Bool.{Bool, true, false, _&&_, true≢false}
 use mathlib.Core.List.{List, [], _∷_, _++_}
 use Prim.Native.Nat.{ℕ, zero, suc, _+_, _-_, _*_, _/_, _%_, _^_, _≤_, _<_}
 use native.Mathlib.Omega.{arith}
@@ -15,6 +15,10 @@ use Rattle.rules.specs.Bits.{bit, bitsFor, bitsOf, window, valueOf, peek
 
 pub pow-two : (n : ℕ) → 2 ^ suc n ≡ 2 ^ n + 2 ^ n
 pow-two n = rw pow-suc (omega arith)
+
+pub both-true : (a b : Bool) → (a && b) ≡ true → (a ≡ true) × (b ≡ true)
+both-true true b e = (refl, e)
+both-true false b e = absurd (true≢false (sym e))
 
 -- ---- Windows
 

@@ -10,6 +10,8 @@ use Rattle.rules.specs.Machine.{Out, more, done, andThen, run, ends}
 use Rattle.rules.specs.Runs.{Res, ok, fault, Sum, readRun}
 use Rattle.rules.specs.Modes.{Mode, pass, horizontal, VR, VL, Moded, readMode}
 use Rattle.rules.specs.Lines.{Rules, Line, newLine, turned, movedTo, withCut, Went, went, failed, next, recorded, add, push, pushTurn, afterRun, pushRun, b1, b2, vertical, apply, afterMode, code2D, Kind, one, two, codeOf, goOn, lineOf, lineStep, lineEnd, readLine}
+use Rattle.rules.proofs.Lines.{inexact}
+use Rattle.rules.proofs.Exact.{strict-reads}
 
 -- ---- Twins: what a strict and a lenient reading make of one line
 
@@ -54,10 +56,10 @@ next-twins {w = failed n p s} j k (apart refused e f) h = apart refused e f
 
 module _ (width room : ℕ) where
   abbrev strictly : Rules
-  strictly = record { width = width; strict = true; room = room }
+  strictly = record { width = width; strict = true; exact = false; room = room }
 
   abbrev leniently : Rules
-  leniently = record { width = width; strict = false; room = room }
+  leniently = record { width = width; strict = false; exact = false; room = room }
 
   -- a count that fits the line cuts nothing, under any rules
   add-cut : (count : ℕ) (s : Line) → cutOf (add strictly count s) ≡ s .cut
@@ -107,7 +109,12 @@ module _ (width room : ℕ) where
     mode-twins s = cases (readMode bs (s .at))
       where
         cases : (r : Res Moded) → Twins (s .cut) (afterMode strictly reference bs s r) (afterMode leniently reference bs s r)
-        cases (ok m) = apply-twins (s .at) (m .mode) (movedTo (m .at) s)
+        cases (ok m) =
+            rw (
+              inexact strictly refl (m .mode) s (apply strictly reference bs (s .at) (m .mode) (movedTo (m .at) s)),
+              inexact leniently refl (m .mode) s (apply leniently reference bs (s .at) (m .mode) (movedTo (m .at) s)),
+            )
+            (apply-twins (s .at) (m .mode) (movedTo (m .at) s))
         cases (fault n place) = alike refl
 
   -- a code of either kind of line
@@ -161,6 +168,12 @@ module _ (width room : ℕ) (kind : Kind) (bs : List Bool) (at : ℕ) where
       step s = twin-cond cutAt RefusedAt (eqb (s .position) width) (alike refl) (goes (code-twins width room kind bs s))
 
   -- Read strictly or not, a line is what the strict reader reads, and nothing was cut in it; or the strict reader refuses it, and something was.
-  pub line-twins : (strict : Bool) → Twins false (readLine (strictly width room) kind bs at) (readLine (record { width = width; strict = strict; room = room }) kind bs at)
+  pub line-twins : (strict : Bool) → Twins false (readLine (strictly width room) kind bs at) (readLine (record { width = width; strict = strict; exact = false; room = room }) kind bs at)
   line-twins true = alike (twin-strict cutOf Refused strict-lenient)
   line-twins false = strict-lenient
+
+  -- So is a line that is read exactly (A12), which is to read it strictly.
+  pub read-twins : (strict exact : Bool) → (exact ≡ true → strict ≡ true) → (l : Line) → readLine (record { width = width; strict = strict; exact = exact; room = room }) kind bs at ≡ went l
+      → Twins false (readLine (strictly width room) kind bs at) (went l)
+  read-twins strict false h l e = subst (Twins false (readLine (strictly width room) kind bs at)) e (line-twins strict)
+  read-twins strict true h l e = subst (Twins false (readLine (strictly width room) kind bs at)) (strict-reads width room strict true (h refl) kind bs at l e) (line-twins true)

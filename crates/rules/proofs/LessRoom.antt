@@ -14,13 +14,15 @@ use Rattle.rules.specs.Bits.{firstBit}
 use Rattle.rules.specs.Codes.{differ}
 use Rattle.rules.specs.Runs.{Res, ok, fault, Sum, sum, readRun, unreachable}
 use Rattle.rules.specs.Modes.{Mode, pass, horizontal, VR, VL, Moded, readMode}
-use Rattle.rules.specs.Lines.{Rules, Line, line, newLine, turned, movedTo, withCut, Went, went, failed, next, lastColour, recorded, add, push, pushTurn, afterRun, pushRun, b1, b2, vertical, apply, afterMode, code2D, Kind, one, two, codeOf, goOn, lineOf, lineStep, lineEnd, readLine}
+use Rattle.rules.specs.Lines.{Rules, Line, line, newLine, turned, movedTo, withCut, Went, went, failed, next, lastColour, recorded, add, push, pushTurn, afterRun, pushRun, b1, b2, vertical, idle, unlessIdle, apply, afterMode, code2D, Kind, one, two, codeOf, goOn, lineOf, lineStep, lineEnd, readLine}
 use Rattle.rules.specs.Rows.{Encoding, group4, group3-1D, group3-2D, Settings, State, readMark, recoveredMark, RowOut, row, stop, rulesOf}
 use Rattle.rules.specs.Group4.{row4, afterLine4, lineOrEnd, eolsBefore, over}
 use Rattle.rules.specs.Group3.{Tagging, untagged, tagged, Before, line-at, end-at, no-eol-at, before, taggedLine, lineOfTag, line3, kept, whitened, recovered, afterLine3, rowFrom, row3}
 use Rattle.rules.specs.Pages.{rowOf}
 use Rattle.rules.proofs.Runs.{Within, read-within}
 use Rattle.rules.proofs.Modes.{ModeAt, mode-at}
+use Rattle.rules.proofs.Lines.{unless-idle, idle-stays}
+use Rattle.rules.proofs.Grows.{lineIn, apply-grows}
 
 -- ---- Changes are only ever appended
 
@@ -57,12 +59,12 @@ front-on : {n : ℕ} {front xs ys : List ℕ} → n < length xs → front ≡ ta
 front-on {n} {front} {xs} {ys} h e g =
     (omega (arith, ap length (g .is), length-append xs (g .later)), e ∙ sym (ap (take n) (g .is) ∙ take-append-le n xs (g .later) (omega arith)))
 
-module _ (width : ℕ) (strict : Bool) (small large : ℕ) (le : small ≤ large) where
+module _ (width : ℕ) (strict exact : Bool) (small large : ℕ) (le : small ≤ large) where
   abbrev P : Rules
-  P = record { width = width; strict = strict; room = small }
+  P = record { width = width; strict = strict; exact = exact; room = small }
 
   abbrev Q : Rules
-  Q = record { width = width; strict = strict; room = large }
+  Q = record { width = width; strict = strict; exact = exact; room = large }
 
   -- what a code makes of a line with these changes: with less room, and with more
   record Both (xs : List ℕ) (v w : Went) : Type 0 where
@@ -175,13 +177,37 @@ module _ (width : ℕ) (strict : Bool) (small large : ℕ) (le : small ≤ large
     apply-both place (VL k) s =
         both-cond (leb k (b1 width reference (s .position) (s .colour))) (vertical-both place (b1 width reference (s .position) (s .colour) - k) s) (both-failed 3 place s (λ q. omega arith))
 
+    -- A code that may be idle: it is so only where the position stays, and so do the changes.
+    idle-both : {v w : Went} (mode : Mode) (s : Line) → (lineIn w .position ≡ s .position → lineIn w .changes ≡ s .changes) → Both (s .changes) v w → Both (s .changes) (unlessIdle P mode s v) (unlessIdle Q mode s w)
+    idle-both {v} {w} mode s still b = record {
+      grows = unless-idle Q mode s (λ u. Begins (s .changes) (changesOf u)) (begins-same (s .changes)) w (b .grows);
+      cuts = λ h. cut h still (b .cuts h);
+      fills = unless-idle Q mode s (Fills large) (λ q. absurd (omega arith)) w (b .fills);
+    }
+      where
+        cut : {v w : Went} → length (s .changes) ≤ small → (lineIn w .position ≡ s .position → lineIn w .changes ≡ s .changes) → Cut small v w → Cut small (unlessIdle P mode s v) (unlessIdle Q mode s w)
+        cut h still (same {w = went t} l) = tests (exact && idle mode s t)
+          where
+            tests : (b : Bool) → Cut small (cond b (failed 1 (s .at) s) (went t)) (cond b (failed 1 (s .at) s) (went t))
+            tests true = same h
+            tests false = same l
+        cut h still (same {w = failed n place t} l) = same l
+        cut h still (short {s = u} {w = went t} l e) = tests exact (idle mode s t) refl
+          where
+            tests : (x b : Bool) → idle mode s t ≡ b → Cut small (failed 4 0 u) (cond (x && b) (failed 1 (s .at) s) (went t))
+            tests true true q = absurd (omega (arith, ap length (still (idle-stays mode s t q))))
+            tests true false q = short l e
+            tests false b q = short l e
+        cut h still (short {w = failed n place t} l e) = short l e
+
     -- a mode that is read
     mode-both : (s : Line) → Both (s .changes) (code2D P reference bs s) (code2D Q reference bs s)
     unfolding code2D
     mode-both s = cases (readMode bs (s .at)) (mode-at bs (s .at))
       where
         cases : (r : Res Moded) → ModeAt bs (s .at) r → Both (s .changes) (afterMode P reference bs s r) (afterMode Q reference bs s r)
-        cases (ok m) w = apply-both (s .at) (m .mode) (movedTo (m .at) s)
+        cases (ok m) w =
+            idle-both (m .mode) s (apply-grows Q reference bs (s .at) (m .mode) (movedTo (m .at) s) .still) (apply-both (s .at) (m .mode) (movedTo (m .at) s))
         cases (fault n place) w = both-failed n place s (λ q. omega arith)
 
   -- a code of either kind of line
@@ -220,13 +246,13 @@ module _ (width : ℕ) (strict : Bool) (small large : ℕ) (le : small ≤ large
   line-both kind bs at = steps-both kind bs (suc (length bs - at)) (newLine at)
 
 -- With less room a line is the same, or 4 with the front of its changes;
-pub line-cut : (width : ℕ) (strict : Bool) (small large : ℕ) → small ≤ large → (kind : Kind) (bs : List Bool) (at : ℕ)
-    → Cut small (readLine (record { width = width; strict = strict; room = small }) kind bs at) (readLine (record { width = width; strict = strict; room = large }) kind bs at)
-line-cut width strict small large le kind bs at = line-both width strict small large le kind bs at .cuts (omega arith)
+pub line-cut : (width : ℕ) (strict exact : Bool) (small large : ℕ) → small ≤ large → (kind : Kind) (bs : List Bool) (at : ℕ)
+    → Cut small (readLine (record { width = width; strict = strict; exact = exact; room = small }) kind bs at) (readLine (record { width = width; strict = strict; exact = exact; room = large }) kind bs at)
+line-cut width strict exact small large le kind bs at = line-both width strict exact small large le kind bs at .cuts (omega arith)
 
 -- and where it is 4, no entry is left.
-pub line-fills : (width : ℕ) (strict : Bool) (room : ℕ) (kind : Kind) (bs : List Bool) (at : ℕ) → Fills room (readLine (record { width = width; strict = strict; room = room }) kind bs at)
-line-fills width strict room kind bs at = line-both width strict room room (omega arith) kind bs at .fills
+pub line-fills : (width : ℕ) (strict exact : Bool) (room : ℕ) (kind : Kind) (bs : List Bool) (at : ℕ) → Fills room (readLine (record { width = width; strict = strict; exact = exact; room = room }) kind bs at)
+line-fills width strict exact room kind bs at = line-both width strict exact room room (omega arith) kind bs at .fills
 
 -- ---- A row
 
@@ -259,10 +285,10 @@ module _ (S : Settings) (bs : List Bool) (small large : ℕ) (le : small ≤ lar
   stays {o} e f = let h : length (changesIn o) ≤ small = omega (arith, ap length e) in record { cuts = row-same h; fills = f }
 
   abbrev BothLines : List ℕ → Went → Went → Type 0
-  BothLines = Both (S .columns) (S .strict) small large le
+  BothLines = Both (S .columns) (S .strict) (S .exact) small large le
 
   line-of : (kind : Kind) (at : ℕ) → BothLines [] (readLine (rulesOf S small) kind bs at) (readLine (rulesOf S large) kind bs at)
-  line-of kind at = line-both (S .columns) (S .strict) small large le kind bs at
+  line-of kind at = line-both (S .columns) (S .strict) (S .exact) small large le kind bs at
 
   -- what comes after a line: a row with its mark where it is whole, and its failure where not
   module _ (after : Went → RowOut) (mark : Line → ℕ) (next : Line → State) (kept′ : (l : Line) → after (went l) ≡ row (l .changes) (mark l) (next l))
@@ -307,12 +333,12 @@ module _ (S : Settings) (bs : List Bool) (small large : ℕ) (le : small ≤ lar
 
         there : (b : Bool) → BothLines [] (lineOfTag S t bs (rulesOf S small) (st .reference) at b) (lineOfTag S t bs (rulesOf S large) (st .reference) at b)
         there true = tags (firstBit (drop at bs))
-        there false = both-failed (S .columns) (S .strict) small large le 2 (length bs) (newLine at) (λ q. omega arith)
+        there false = both-failed (S .columns) (S .strict) (S .exact) small large le 2 (length bs) (newLine at) (λ q. omega arith)
 
     module _ (expected : Bool) (at : ℕ) where
       -- the damaged line that is mended
       white-both : (l : Line) → BothLines (l .changes) (push (rulesOf S small) 0 (S .columns - l .position) (whitened S t bs l)) (push (rulesOf S large) 0 (S .columns - l .position) (whitened S t bs l))
-      white-both l = push-both (S .columns) (S .strict) small large le 0 (S .columns - l .position) (whitened S t bs l)
+      white-both l = push-both (S .columns) (S .strict) (S .exact) small large le 0 (S .columns - l .position) (whitened S t bs l)
 
       recovered-cut : (n place : ℕ) (l : Line) (b : Bool) → length (l .changes) ≤ small
           → RowCut small (recovered S t bs (rulesOf S small) st at expected n place l b) (recovered S t bs (rulesOf S large) st at expected n place l b)

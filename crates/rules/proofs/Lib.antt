@@ -8,11 +8,14 @@ pub mod Modes
 pub mod Ascending
 pub mod Ahead
 pub mod Lines
+pub mod Grows
 pub mod Local
 pub mod Pixels
 pub mod Sheets
 pub mod WriteRuns
 pub mod ReadBack
+pub mod Unless
+pub mod Answers
 pub mod MoreRoom
 pub mod PageBack
 pub mod Barrier
@@ -25,8 +28,11 @@ pub mod Writes
 pub mod RoundTrip
 pub mod Pages
 pub mod Places
+pub mod Exact
+pub mod Counts
 pub mod Clean
 pub mod Marks
+pub mod ExactPages
 pub mod Store
 pub mod Within
 pub mod LessRoom

@@ -1,7 +1,7 @@
 -- Laws of lines: each code takes a bit; the changes of a line ascend strictly below its position, and there are no more of them than bits taken;
 -- and a line comes to its end without a word of fuel. Assumes nothing.
 use mathlib.Core.Path.{_≡_, refl, ap, _∙_, subst}
-use mathlib.Core.Bool.{Bool, true, false, cond, _&&_}
+use mathlib.Core.Bool.{Bool, true, false, cond, not, _&&_, and-false}
 use mathlib.Core.List.{List, [], _∷_, _++_}
 use Prim.Native.Nat.{ℕ, zero, suc, _+_, _-_, _≤_, _<_}
 use native.Mathlib.Omega.{arith}
@@ -12,11 +12,52 @@ use Rattle.rules.specs.Machine.{Out, more, done, ends}
 use Rattle.rules.specs.Codes.{Colour, differ}
 use Rattle.rules.specs.Runs.{Res, ok, fault, Sum, sum, readRun}
 use Rattle.rules.specs.Modes.{Mode, pass, horizontal, VR, VL, Moded, readMode}
-use Rattle.rules.specs.Lines.{Rules, Line, line, newLine, turned, movedTo, withCut, Went, went, failed, next, lastColour, recorded, add, push, pushTurn, afterRun, pushRun, b1, b2, vertical, apply, afterMode, code2D, Kind, one, two, codeOf, goOn, lineOf, lineStep, lineEnd, readLine}
+use Rattle.rules.specs.Lines.{Rules, Line, line, newLine, turned, movedTo, withCut, Went, went, failed, next, lastColour, recorded, add, push, pushTurn, afterRun, pushRun, b1, b2, unmoved, atFirst, idle, unlessIdle, vertical, apply, afterMode, code2D, Kind, one, two, codeOf, goOn, lineOf, lineStep, lineEnd, readLine}
+use Rattle.rules.proofs.Bits.{both-true}
 use Rattle.rules.proofs.Machine.{Falls, ends-more, ends-done, ends-ind, ends-stops}
 use Rattle.rules.proofs.Ascending.{Rising, none, rises-wider, rises-snoc}
 use Rattle.rules.proofs.Runs.{Within, read-within}
 use Rattle.rules.proofs.Modes.{ModeAt, mode-at}
+
+-- ---- Idle codes (A12)
+
+-- what a line makes of a code that may be idle, by cases: 1 at the code, or what the code did
+pub unless-idle : (R : Rules) (mode : Mode) (s : Line) (C : Went → Type 0) → C (failed 1 (s .at) s) → (w : Went) → C w → C (unlessIdle R mode s w)
+unless-idle R mode s C stops (went t) c = tests (R .exact && idle mode s t)
+  where
+    tests : (b : Bool) → C (cond b (failed 1 (s .at) s) (went t))
+    tests true = stops
+    tests false = c
+unless-idle R mode s C stops (failed n place t) c = c
+
+-- a line that is not exact makes of it what it did
+pub inexact : (R : Rules) → R .exact ≡ false → (mode : Mode) (s : Line) (w : Went) → unlessIdle R mode s w ≡ w
+inexact R e mode s (went t) = rw e
+inexact R e mode s (failed n place t) = refl
+
+-- a code that goes on did so before the test
+pub idle-went : (R : Rules) (mode : Mode) (s t : Line) (w : Went) → unlessIdle R mode s w ≡ went t → w ≡ went t
+idle-went R mode s t w = unless-idle R mode s (λ v. v ≡ went t → w ≡ went t) (λ e. absurd (let z : _≡_ {A = ℕ} 0 1 = cc in omega arith)) w (λ e. e)
+
+-- and in an exact line it was not idle
+pub exact-busy : (R : Rules) → R .exact ≡ true → (mode : Mode) (s t : Line) (w : Went) → unlessIdle R mode s w ≡ went t → idle mode s t ≡ false
+exact-busy R x mode s t (went u) e = tests (idle mode s u) refl (rw x at e)
+  where
+    tests : (b : Bool) → idle mode s u ≡ b → cond b (failed 1 (s .at) s) (went u) ≡ went t → idle mode s t ≡ false
+    tests true q e = absurd (let z : _≡_ {A = ℕ} 0 1 = cc in omega arith)
+    tests false q e = subst (λ (v : Line). idle mode s v ≡ false) (let g : u ≡ t = cc in g) q
+exact-busy R x mode s t (failed n place u) e = absurd (let z : _≡_ {A = ℕ} 0 1 = cc in omega arith)
+
+-- one that is not idle passes the test
+pub not-idle : (R : Rules) (mode : Mode) (s t : Line) → idle mode s t ≡ false → unlessIdle R mode s (went t) ≡ went t
+not-idle R mode s t e = rw (e, and-false (R .exact))
+
+-- an idle code left the position where it was
+pub idle-stays : (mode : Mode) (s t : Line) → idle mode s t ≡ true → t .position ≡ s .position
+idle-stays pass s t e = absurd (let z : _≡_ {A = ℕ} 0 1 = cc in omega arith)
+idle-stays horizontal s t e = eqb-true (t .position) (s .position) e
+idle-stays (VR k) s t e = eqb-true (t .position) (s .position) (both-true (unmoved s t) (not (atFirst s)) e .0)
+idle-stays (VL k) s t e = eqb-true (t .position) (s .position) (both-true (unmoved s t) (not (atFirst s)) e .0)
 
 -- ---- What holds of a line, and of what a code makes of it
 
@@ -198,7 +239,9 @@ module _ (R : Rules) (bs : List Bool) (size : ℕ) (bound : Bound bs size) (star
     code2D-coded s = cases (readMode bs (s .at)) refl (mode-at bs (s .at))
       where
         cases : (r : Res Moded) → readMode bs (s .at) ≡ r → ModeAt bs (s .at) r → Coded s (afterMode R reference bs s r)
-        cases (ok r) e w = apply-coded s (r .at) (w .some-bits) (w .fits) (bound .mode-stays (s .at) r e) (s .at) (r .mode)
+        cases (ok r) e w =
+            unless-idle R (r .mode) s (Coded s) (omega arith, omega arith, λ spare k. k) (apply R reference bs (s .at) (r .mode) (movedTo (r .at) s))
+            (apply-coded s (r .at) (w .some-bits) (w .fits) (bound .mode-stays (s .at) r e) (s .at) (r .mode))
         cases (fault n p) e w = (omega arith, omega arith, λ spare k. k)
 
   -- every code, of either kind of line

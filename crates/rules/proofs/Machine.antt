@@ -1,10 +1,10 @@
 -- Laws of machines: n steps and then m, an end that does not depend on the fuel, induction over the steps to an end, and machines of smaller
 -- steps that come to the same end. Assumes nothing.
 use mathlib.Core.Path.{_≡_, refl, _∙_}
-use Prim.Native.Nat.{ℕ, zero, suc, _+_, _<_}
+use Prim.Native.Nat.{ℕ, zero, suc, _+_, _≤_, _<_}
 use native.Mathlib.Omega.{arith}
 use native.Mathlib.Nat.{zero-add, suc-add}
-use Rattle.rules.specs.Machine.{Out, more, done, andThen, run, ends}
+use Rattle.rules.specs.Machine.{Out, more, done, andThen, run, ends, onward, spent}
 
 module _ {S A : Type 0} where
   -- n steps and then m are n + m steps: what a form in steps and a form at one go share
@@ -82,6 +82,21 @@ module _ {S A : Type 0} where
   run-keeps P step h (suc n) (more s) p = run-keeps P step h n (step s) (h s p)
   run-keeps P step h zero (done a) p = p
   run-keeps P step h (suc n) (done a) p = p
+
+  -- Where each step is paid for out of what is held, the steps together cost no more than what is held at first.
+  module _ (P : S → Type 0) (cost held : S → ℕ) where
+    abbrev pub Paid : S → Out S A → Type 0
+    Paid s (more t) = P t × (cost s + held t ≤ held s)
+    Paid s (done a) = cost s ≤ held s
+
+    pub spent-most : (step : S → Out S A) → ((s : S) → P s → Paid s (step s)) → (n : ℕ) (s : S) → P s → spent cost step n s ≤ held s
+    unfolding spent
+    spent-most step paid zero s p = omega arith
+    spent-most step paid (suc n) s p = cases (spent-most step paid n) (step s) (paid s p)
+      where
+        cases : ((t : S) → P t → spent cost step n t ≤ held t) → (o : Out S A) → Paid s o → cost s + onward o (spent cost step n) ≤ held s
+        cases ih (more t) (q, h) = omega (arith, ih t q)
+        cases ih (done a) h = omega arith
 
   -- an outcome reached in some number of steps
   abbrev pub Reaches : (S → Out S A) → S → Out S A → Type 0

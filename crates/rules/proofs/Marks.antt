@@ -1,7 +1,7 @@
 -- The marks of a page (A5): one for each kept row; each is 0, 1 or 2, and 0 where the page is read strictly; and what each of them says of the row.
 -- Assumes nothing.
-use mathlib.Core.Path.{_≡_, refl, sym, ap, _∙_, subst}
-use mathlib.Core.Bool.{Bool, true, false, cond}
+use mathlib.Core.Path.{_≡_, refl, sym, _∙_, subst}
+use mathlib.Core.Bool.{Bool, true, false, cond, true≢false}
 use mathlib.Core.List.{List, [], _∷_, _++_}
 use Prim.Native.Nat.{ℕ, zero, suc, _-_, _≤_}
 use native.Mathlib.Omega.{arith}
@@ -9,20 +9,38 @@ use lib.Dec.{eqb, ltb}
 use lib.ListN.{length, drop, getD, length-append}
 use Rattle.rules.specs.Machine.{Out, more, done, ends}
 use Rattle.rules.specs.Bits.{firstBit, bitsOf}
-use Rattle.rules.specs.Lines.{Line, Went, went, failed, one, two, readLine}
+use Rattle.rules.specs.Lines.{Line, newLine, Went, went, failed, Kind, one, two, readLine}
 use Rattle.rules.specs.Rows.{Encoding, group4, group3-1D, group3-2D, Settings, State, pageStart, readMark, recoveredMark, RowOut, row, stop, rulesOf}
 use Rattle.rules.specs.Group4.{eolsBefore, afterLine4, row4}
 use Rattle.rules.specs.Group3.{Tagging, untagged, tagged, line-at, before, taggedLine, lineOfTag, line3, kept, afterLine3, row3}
-use Rattle.rules.specs.Pages.{Answer, Kept, noneKept, withRow, endWith, entries, keepRow, pageStep, rowsLeft, pageOf, rowOf, readPage, mostBytes, tooWide, decode}
+use Rattle.rules.specs.Pages.{Answer, Kept, noneKept, withRow, endWith, entries, keepRow, pageStep, rowsLeft, pageOf, rowOf, readPage, strictIfExact, decode}
 use Rattle.rules.proofs.Machine.{run-keeps}
 use Rattle.rules.proofs.Rows.{row4-cases, row3-cases, mended-cases}
-use Rattle.rules.proofs.Clean.{Twin, alike, apart, cutOf, Refused, refused, line-twins}
+use Rattle.rules.proofs.Exact.{strict-reads}
+use Rattle.rules.proofs.Clean.{Twin, alike, apart, cutOf, Refused, refused, line-twins, read-twins}
+use Rattle.rules.proofs.Answers.{short-cases, decode-cases}
 
 -- ---- The line of a row
 
--- as the settings, but strict
+-- as the settings, but strict, and no more than strict
 abbrev pub strictOf : Settings → Settings
-strictOf S = record { columns = S .columns; rows = S .rows; endOfBlock = S .endOfBlock; endOfLine = S .endOfLine; aligned = S .aligned; encoding = S .encoding; strict = true }
+strictOf S = record {
+  columns = S .columns;
+  rows = S .rows;
+  endOfBlock = S .endOfBlock;
+  endOfLine = S .endOfLine;
+  aligned = S .aligned;
+  encoding = S .encoding;
+  strict = true;
+  exact = false;
+}
+
+-- exact implies strict (A12), as in the settings under which `decode` reads
+abbrev pub Implied : Settings → Type 0
+Implied S = S .exact ≡ true → S .strict ≡ true
+
+pub implied : (S : Settings) → Implied (strictIfExact S)
+implied S e = rw e
 
 -- what is read from the bit where a row's line begins, under a reference
 abbrev pub rowLine : Encoding → Settings → List Bool → ℕ → List ℕ → ℕ → Went
@@ -56,30 +74,39 @@ abbrev RowTold : Encoding → Settings → List Bool → ℕ → State → RowOu
 RowTold enc S bs room st (row r mark next) = Told enc S bs room st r mark
 RowTold enc S bs room st (stop n place bytes loose) = Unit {0}
 
-module _ (S : Settings) (bs : List Bool) (room : ℕ) (st : State) where
+module _ (S : Settings) (implies : Implied S) (bs : List Bool) (room : ℕ) (st : State) where
   abbrev own : Encoding → ℕ → Went
   own enc = rowLine enc S bs room (st .reference)
 
   abbrev strict : Encoding → ℕ → Went
   strict enc = rowLine enc (strictOf S) bs room (st .reference)
 
-  row-twins : (enc : Encoding) (at : ℕ) → Twin cutOf Refused false (strict enc at) (own enc at)
-  row-twins group4 at = line-twins (S .columns) room (two (st .reference)) bs at (S .strict)
-  row-twins group3-1D at = line-twins (S .columns) room one bs at (S .strict)
-  row-twins group3-2D at = of-tag (ltb at (length bs))
+  -- both read a line of one kind from one bit; or its tag bit is missing
+  both-lines : (C : Went → Went → Type 0) → ((kind : Kind) (at : ℕ) → C (readLine (rulesOf (strictOf S) room) kind bs at) (readLine (rulesOf S room) kind bs at))
+      → ((at : ℕ) → C (failed 2 (length bs) (newLine at)) (failed 2 (length bs) (newLine at))) → (enc : Encoding) (at : ℕ) → C (strict enc at) (own enc at)
+  both-lines C reads lacks group4 at = reads (two (st .reference)) at
+  both-lines C reads lacks group3-1D at = reads one at
+  both-lines C reads lacks group3-2D at = of-tag (ltb at (length bs))
     where
-      by-tag : (b : Bool) → Twin cutOf Refused false (taggedLine (strictOf S) tagged bs (rulesOf (strictOf S) room) (st .reference) at b) (taggedLine S tagged bs (rulesOf S room) (st .reference) at b)
-      by-tag true = line-twins (S .columns) room one bs (suc at) (S .strict)
-      by-tag false = line-twins (S .columns) room (two (st .reference)) bs (suc at) (S .strict)
+      by-tag : (b : Bool) → C (taggedLine (strictOf S) tagged bs (rulesOf (strictOf S) room) (st .reference) at b) (taggedLine S tagged bs (rulesOf S room) (st .reference) at b)
+      by-tag true = reads one (suc at)
+      by-tag false = reads (two (st .reference)) (suc at)
 
-      of-tag : (b : Bool) → Twin cutOf Refused false (lineOfTag (strictOf S) tagged bs (rulesOf (strictOf S) room) (st .reference) at b) (lineOfTag S tagged bs (rulesOf S room) (st .reference) at b)
+      of-tag : (b : Bool) → C (lineOfTag (strictOf S) tagged bs (rulesOf (strictOf S) room) (st .reference) at b) (lineOfTag S tagged bs (rulesOf S room) (st .reference) at b)
       of-tag true = by-tag (firstBit (drop at bs))
-      of-tag false = alike refl
+      of-tag false = lacks at
 
-  -- a strict page's reader is the strict one
-  when-strict-same : (enc : Encoding) (at : ℕ) → S .strict ≡ true → strict enc at ≡ own enc at
-  when-strict-same enc at e =
-      ap (λ (b : Bool). rowLine enc (record { columns = S .columns; rows = S .rows; endOfBlock = S .endOfBlock; endOfLine = S .endOfLine; aligned = S .aligned; encoding = S .encoding; strict = b }) bs room (st .reference) at) (sym e)
+  -- a lenient page's lines
+  lenient-twins : S .strict ≡ false → (enc : Encoding) (at : ℕ) → Twin cutOf Refused false (strict enc at) (own enc at)
+  lenient-twins f =
+      both-lines (Twin cutOf Refused false)
+      (λ kind a. subst (λ (x : Bool). Twin cutOf Refused false (readLine (rulesOf (strictOf S) room) kind bs a) (readLine (record { width = S .columns; strict = S .strict; exact = x; room = room }) kind bs a))
+      (sym (off (S .exact) refl)) (line-twins (S .columns) room kind bs a (S .strict)))
+      (λ a. alike refl)
+    where
+      off : (x : Bool) → S .exact ≡ x → S .exact ≡ false
+      off true e = absurd (true≢false (sym (implies e) ∙ f))
+      off false e = e
 
   failed-not : {n p : ℕ} {t : Line} (w : Went) → w ≡ failed n p t → NotRead w
   failed-not w e l q = let z : _≡_ {A = ℕ} 0 1 = cc in omega arith
@@ -87,7 +114,10 @@ module _ (S : Settings) (bs : List Bool) (room : ℕ) (st : State) where
   module _ (enc : Encoding) (at : ℕ) (begins : Begins enc S bs st at) where
     -- a line that was read
     read-told : (l : Line) → own enc at ≡ went l → Told enc S bs room st (l .changes) (readMark l)
-    read-told l e = cases (strict enc at) refl (subst (Twin cutOf Refused false (strict enc at)) e (row-twins enc at))
+    read-told l e =
+        cases (strict enc at) refl
+        (both-lines (λ v w. w ≡ went l → Twin cutOf Refused false v (went l)) (λ kind a. read-twins (S .columns) room kind bs a (S .strict) (S .exact) implies l)
+        (λ a q. absurd (failed-not _ refl l q)) enc at e)
       where
         cases : (v : Went) → strict enc at ≡ v → Twin cutOf Refused false v (went l) → Told enc S bs room st (l .changes) (readMark l)
         cases v q (alike c) =
@@ -107,7 +137,8 @@ module _ (S : Settings) (bs : List Bool) (room : ℕ) (st : State) where
               at = at;
               begins = begins;
               few = omega arith;
-              when-strict = λ h. absurd (failed-not (strict enc at) q l (when-strict-same enc at h ∙ e));
+              when-strict = λ h. absurd (failed-not (strict enc at) q l
+                  (both-lines (λ v w. w ≡ went l → v ≡ went l) (λ kind a. strict-reads (S .columns) room (S .strict) (S .exact) h kind bs a l) (λ a x. x) enc at e));
               clean = λ h. absurd (omega arith);
               cut = λ h. (l, e, refl, subst Refused (sym q) refused);
               recovered = λ h. absurd (omega arith);
@@ -122,7 +153,7 @@ module _ (S : Settings) (bs : List Bool) (room : ℕ) (st : State) where
       when-strict = λ h. absurd (let z : _≡_ {A = ℕ} 0 1 = cc in omega arith);
       clean = λ h. absurd (omega arith);
       cut = λ h. absurd (omega arith);
-      recovered = λ h. (failed-not (own enc at) e, cases (strict enc at) (subst (Twin cutOf Refused false (strict enc at)) e (row-twins enc at)));
+      recovered = λ h. (failed-not (own enc at) e, cases (strict enc at) (subst (Twin cutOf Refused false (strict enc at)) e (lenient-twins lenient enc at)));
     }
       where
         cases : (v : Went) → Twin cutOf Refused false v (failed n p l) → NotRead v
@@ -156,17 +187,36 @@ module _ (S : Settings) (bs : List Bool) (room : ℕ) (st : State) where
   row-told group3-1D = row3-told group3-1D untagged (λ at. refl) (λ at expected e. (expected, e))
   row-told group3-2D = row3-told group3-2D tagged (λ at. refl) (λ at expected e. (expected, e))
 
--- so a row's mark is one of the list
+-- a row's mark is one of the list, under any settings
 abbrev pub RowMarked : RowOut → Type 0
 RowMarked (row r mark next) = mark ≤ 2
 RowMarked (stop n place bytes loose) = Unit {0}
 
-pub row-marked : (S : Settings) (bs : List Bool) (room : ℕ) (st : State) (enc : Encoding) → RowMarked (rowOf enc S bs room st)
-row-marked S bs room st enc = cases (rowOf enc S bs room st) (row-told S bs room st enc)
-  where
-    cases : (o : RowOut) → RowTold enc S bs room st o → RowMarked o
-    cases (row r mark next) t = t .few
-    cases (stop n place bytes loose) t = tt
+module _ (S : Settings) (bs : List Bool) (room : ℕ) (st : State) where
+  read-few : (cut : Bool) → cond cut 1 0 ≤ 2
+  read-few true = omega arith
+  read-few false = omega arith
+
+  row3-marked : (t : Tagging) → RowMarked (row3 S t bs room st)
+  row3-marked t = row3-cases S t bs room st RowMarked (λ at e. tt) (λ at e. tt) (λ at expected e w q. cases at expected w)
+    where
+      keeps : (at : ℕ) (expected : Bool) (w : Went) → RowMarked (kept S t bs st expected at recoveredMark w)
+      keeps at expected (went u) = omega arith
+      keeps at expected (failed n p u) = tt
+
+      cases : (at : ℕ) (expected : Bool) (w : Went) → RowMarked (afterLine3 S t bs (rulesOf S room) st at expected w)
+      cases at expected (went l) = read-few (l .cut)
+      cases at expected (failed n p l) = mended-cases S t bs (rulesOf S room) st at expected n p l RowMarked (λ q f h w e. keeps at expected w) tt
+
+  pub row-marked : (enc : Encoding) → RowMarked (rowOf enc S bs room st)
+  unfolding rowOf
+  row-marked group4 = row4-cases S bs room st RowMarked (λ e. tt) (λ e w q. cases w)
+    where
+      cases : (w : Went) → RowMarked (afterLine4 S bs st w)
+      cases (went l) = read-few (l .cut)
+      cases (failed n p l) = tt
+  row-marked group3-1D = row3-marked untagged
+  row-marked group3-2D = row3-marked tagged
 
 -- ---- A page
 
@@ -178,7 +228,7 @@ pub data Came (S : Settings) (bs : List Bool) : List (List ℕ) → List ℕ →
       → (room : ℕ) (r : List ℕ) (mark : ℕ) (next : State) → rowOf (S .encoding) S bs room st ≡ row r mark next → Told (S .encoding) S bs room st r mark
       → Came S bs (rows ++ r ∷ []) (marks ++ mark ∷ []) next
 
-module _ (S : Settings) (bs : List Bool) (store places : ℕ) where
+module _ (S : Settings) (implies : Implied S) (bs : List Bool) (store places : ℕ) where
   abbrev rowAt : ℕ → State → RowOut
   rowAt = rowOf (S .encoding) S bs
 
@@ -188,7 +238,7 @@ module _ (S : Settings) (bs : List Bool) (store places : ℕ) where
 
   step-came : (k : Kept) → Came S bs (k .rows) (k .marks) (k .state) → OutCame (pageStep rowAt store places k)
   unfolding pageStep
-  step-came k h = cases (rowAt (store - entries (k .rows)) (k .state)) refl (row-told S bs (store - entries (k .rows)) (k .state) (S .encoding))
+  step-came k h = cases (rowAt (store - entries (k .rows)) (k .state)) refl (row-told S implies bs (store - entries (k .rows)) (k .state) (S .encoding))
     where
       cases : (o : RowOut) → rowAt (store - entries (k .rows)) (k .state) ≡ o → RowTold (S .encoding) S bs (store - entries (k .rows)) (k .state) o → OutCame (keepRow rowAt store places k o)
       cases (row r m st) e t = tests (ltb (length (k .rows)) places)
@@ -207,17 +257,15 @@ module _ (S : Settings) (bs : List Bool) (store places : ℕ) where
       ended (more k) h = (pageStart, none-yet)
       ended (done a) h = h
 
--- and so did those of whatever `decode` answers
-pub decode-came : (S : Settings) (bytes : List ℕ) (store places : ℕ) → (st : State) × Came S (bitsOf bytes) (decode S bytes store places .rows) (decode S bytes store places .marks) st
-unfolding decode
-decode-came S bytes store places = tests (tooWide (S .columns)) refl (ltb mostBytes (length bytes)) refl (eqb (S .columns) 0) refl
+-- and so did those of whatever `decode` answers, which reads strictly where exact is set (A12)
+pub decode-came : (S : Settings) (bytes : List ℕ) (store places : ℕ) → (st : State) × Came (strictIfExact S) (bitsOf bytes) (decode S bytes store places .rows) (decode S bytes store places .marks) st
+decode-came S bytes store places = decode-cases S bytes (λ f. Rows-came (f store places)) (λ n r. (pageStart, none-yet)) (λ ok. short-cases S (readPage (strictIfExact S) (bitsOf bytes) store places) Rows-came (λ l. read) (λ n. read))
   where
-    tests : (a : Bool) → tooWide (S .columns) ≡ a → (b : Bool) → ltb mostBytes (length bytes) ≡ b → (c : Bool) → eqb (S .columns) 0 ≡ c
-        → (st : State) × Came S (bitsOf bytes) (decode S bytes store places .rows) (decode S bytes store places .marks) st
-    tests true e b f c g = rw (e, decode) (pageStart, none-yet)
-    tests false e true f c g = rw (e, f, decode) (pageStart, none-yet)
-    tests false e false f true g = rw (e, f, g, decode) (pageStart, none-yet)
-    tests false e false f false g = rw (e, f, g, decode) (page-came S (bitsOf bytes) store places)
+    Rows-came : Answer → Type 0
+    Rows-came a = (st : State) × Came (strictIfExact S) (bitsOf bytes) (a .rows) (a .marks) st
+
+    read : Rows-came (readPage (strictIfExact S) (bitsOf bytes) store places)
+    read = page-came (strictIfExact S) (implied S) (bitsOf bytes) store places
 
 -- marks of which none is above `most`
 pub data AtMost (most : ℕ) : List ℕ → Type 0 where

@@ -3,7 +3,7 @@
 use mathlib.Core.Path.{_≡_, refl, sym, ap, _∙_, subst}
 use mathlib.Core.Logic.{_⊎_, ⊎-elim}
 use mathlib.Core.Bool.{Bool, true, false, cond, not, _&&_, _||_}
-use mathlib.Core.List.{List, [], _∷_, _++_}
+use mathlib.Core.List.{List, [], _∷_, _++_, append-assoc, append-nil}
 use Prim.Native.Nat.{ℕ, suc, _+_, _-_, _*_, _≤_, _<_}
 use native.Mathlib.Omega.{arith}
 use lib.Dec.{eqb, leb, ltb}
@@ -319,6 +319,33 @@ module _ (enc : Encoding) (S : Settings) (wide : 0 < S .columns) (bs : List Bool
           tests : (b : Bool) → eqb (k .state .count) 0 ≡ b → length bs - next .at + cond (eqb (next .count) 0) 1 0 < length bs - k .state .at + cond b 1 0
           tests true q = rw none-left (omega (arith, o .forward))
           tests false q = let f = o .further (eqb-false (k .state .count) 0 q) in rw none-left (omega arith)
+
+  -- The rows kept, and their marks, stay the first of the answer's.
+  abbrev pub Behind : Kept → Answer → Type 0
+  Behind k a = (rest : List (List ℕ)) × (a .rows ≡ k .rows ++ rest) × (later : List ℕ) × (a .marks ≡ k .marks ++ later)
+
+  pub ends-behind : (k : Kept) (a : Answer) → ends step (rowsLeft bs) k ≡ done a → Behind k a
+  ends-behind k a e = ends-ind step Behind base onward (rowsLeft bs) k a e
+    where
+      here : (k : Kept) (n p b : ℕ) (loose : List ℕ) → Behind k (endWith k n p b loose)
+      here k n p b loose = ([], sym (append-nil (k .rows)), [], sym (append-nil (k .marks)))
+
+      longer : (k : Kept) (r : List ℕ) (mark : ℕ) (next : State) (a : Answer) → Behind (withRow k r mark next) a → Behind k a
+      longer k r mark next a (rest, x, later, y) = (r ∷ rest, x ∙ append-assoc (k .rows) (r ∷ []) rest, mark ∷ later, y ∙ append-assoc (k .marks) (mark ∷ []) later)
+
+      base : (k : Kept) (a : Answer) → step k ≡ done a → Behind k a
+      base k a =
+          page-cases k (λ o. o ≡ done a → Behind k a)
+          (λ r mark next e l q. absurd (let z : _≡_ {A = ℕ} 0 1 = cc in omega arith))
+          (λ r mark next e l q. subst (Behind k) (let g : endWith k 5 0 0 r ≡ a = cc in g) (here k 5 0 0 r))
+          (λ n p b loose e q. subst (Behind k) (let g : endWith k n p b loose ≡ a = cc in g) (here k n p b loose))
+
+      onward : (k j : Kept) (a : Answer) → step k ≡ more j → Behind j a → Behind k a
+      onward k j a =
+          page-cases k (λ o. o ≡ more j → Behind j a → Behind k a)
+          (λ r mark next e l q h. longer k r mark next a (subst (λ (i : Kept). Behind i a) (let g : j ≡ withRow k r mark next = cc in g) h))
+          (λ r mark next e l q h. absurd (let z : _≡_ {A = ℕ} 0 1 = cc in omega arith))
+          (λ n p b loose e q h. absurd (let z : _≡_ {A = ℕ} 0 1 = cc in omega arith))
 
   -- What holds between rows.
   pub record Held (k : Kept) : Type 0 where

@@ -20,7 +20,7 @@ use Rattle.rules.specs.Pages.{Answer, Kept, noneKept, endWith, pageStep,
 use Rattle.rules.proofs.Machine.{ends-ind, ends-stops}
 use Rattle.rules.proofs.Runs.{after, run-cases, run-falls}
 use Rattle.rules.proofs.Modes.{ModeAt, mode-at}
-use Rattle.rules.proofs.Lines.{Each, Pushes, PushFails, push-pushes, line-cases, line-falls, moves}
+use Rattle.rules.proofs.Lines.{Each, Pushes, PushFails, push-pushes, unless-idle, line-cases, line-falls, moves}
 use Rattle.rules.proofs.Eols.{eols-ahead}
 use Rattle.rules.proofs.Budget.{Bytes, Sets, before-sets}
 use Rattle.rules.proofs.Rows.{row4-cases, row3-cases, mended-cases}
@@ -147,7 +147,9 @@ module _ (bs : List Bool) where
       code2D-placed s h = cases (readMode bs (s .at)) (mode-at bs (s .at))
         where
           cases : (r : Res Moded) → ModeAt bs (s .at) r → Placed (afterMode R reference bs s r)
-          cases (ok r) w = apply-placed (s .at) (r .mode) (movedTo (r .at) s) h (w .fits)
+          cases (ok r) w =
+              unless-idle R (r .mode) s Placed (fault-at 1 (s .at) (omega arith) (omega arith) h) (apply R reference bs (s .at) (r .mode) (movedTo (r .at) s))
+              (apply-placed (s .at) (r .mode) (movedTo (r .at) s) h (w .fits))
           cases (fault n p) w = fault-at n p (omega arith) (omega arith) (omega arith)
 
     pub code-placed : (k : Kind) (s : Line) → s .at ≤ length bs → Placed (codeOf R k bs s)

@@ -1,7 +1,8 @@
 -- A line that is written is read back: whatever stands before and behind its bits, reading it gives its row and takes exactly its bits, strict or
 -- lenient, of either kind. So no two rows share a line, and no row's line begins another's. Assumes nothing.
 use mathlib.Core.Path.{_≡_, refl, sym, ap, _∙_, subst}
-use mathlib.Core.Bool.{Bool, true, false, cond, _&&_}
+use mathlib.Core.Bool.{Bool, true, false, cond, not, _&&_, and-false}
+use mathlib.Core.Logic.{_⊎_, inl, inr}
 use mathlib.Core.List.{List, [], _∷_, _++_, append-assoc, append-nil}
 use Prim.Native.Nat.{ℕ, zero, suc, _+_, _-_, _≤_, _<_}
 use native.Mathlib.Omega.{arith}
@@ -10,13 +11,13 @@ use lib.ListN.{length, drop, length-append}
 use borrow.Author.Tests.{ltb-true, leb-true, leb-false, eqb-true, eqb-false, lt-ltb, le-ltb, le-leb, ne-eqb}
 use Rattle.rules.specs.Codes.{Colour, white, black, opposite, differ}
 use Rattle.rules.specs.Modes.{Mode, pass, horizontal, VR, VL, modeBits}
-use Rattle.rules.specs.Lines.{Rules, Line, line, turned, movedTo, Went, went, failed, next, lastColour, recorded, add, push, pushTurn, afterRun, pushRun, headOr, tail, b1, b2, vertical, apply, afterMode, code2D, Kind, one, two, codeOf, lineEnd, readLine}
+use Rattle.rules.specs.Lines.{Rules, Line, line, turned, movedTo, Went, went, failed, next, lastColour, recorded, add, push, pushTurn, afterRun, pushRun, headOr, tail, b1, b2, unmoved, atFirst, idle, unlessIdle, vertical, apply, afterMode, code2D, Kind, one, two, codeOf, lineEnd, readLine}
 use Rattle.rules.specs.Write.{runBits, verticalTo, near, bits1D, bits2D, lineBits}
 use Rattle.rules.proofs.Bits.{drop-after}
 use Rattle.rules.proofs.Modes.{Coded, c-pass, c-horizontal, c-right, c-left, read-mode}
 use Rattle.rules.proofs.Ascending.{Rising, none, some, rises-lower, head-low, head-fits}
 use Rattle.rules.proofs.Ahead.{above, b2-behind, no-longer, shorter}
-use Rattle.rules.proofs.Lines.{moves, line-more, line-done}
+use Rattle.rules.proofs.Lines.{not-idle, moves, line-more, line-done}
 use Rattle.rules.proofs.WriteRuns.{read-run}
 
 -- ---- The changes of a line in its middle
@@ -125,6 +126,28 @@ facts (within h r e) = record {
   few = λ _. omega (arith, simp length-append at (ap length e));
 }
 facts (whole e) = record { fits = omega arith; rising = none; ended = λ _. e; few = λ h. absurd (omega arith) }
+
+-- Before the width, the next change lies further on, or is the first of all and at 0; and the one after it lies further on in any case. So no code that
+-- is written moves nothing but where the line's first one may (A12).
+onward : {width p : ℕ} {c : Colour} {full done rest : List ℕ} → Middle width full p c done rest → p < width → (p < headOr width rest) ⊎ ((p ≡ 0) × (c ≡ white))
+onward (starts h r) l = inr (refl, refl)
+onward (within h r e) l = inl (head-low h r)
+onward (whole e) l = absurd (omega arith)
+
+onward-two : {width p : ℕ} {c : Colour} {full done rest : List ℕ} → Middle width full p c done rest → p < width → p < headOr width (tail rest)
+onward-two (starts h none) l = l
+onward-two (starts h (some k l′ r)) l = omega (arith, head-low l′ r)
+onward-two (within h none e) l = l
+onward-two (within h (some k l′ r) e) l = omega (arith, head-low l′ r)
+onward-two (whole e) l = absurd (omega arith)
+
+-- a vertical mode is idle by the same test, to the right and to the left
+vertical-idle : (b a1 : ℕ) (s t : Line) → idle (verticalTo b a1) s t ≡ (unmoved s t && not (atFirst s))
+vertical-idle b a1 s t = tests (leb b a1)
+  where
+    tests : (d : Bool) → idle (cond d (VR (a1 - b)) (VL (b - a1))) s t ≡ (unmoved s t && not (atFirst s))
+    tests true = refl
+    tests false = refl
 
 -- ---- A 2D line's codes
 
@@ -259,9 +282,11 @@ module _ (most : ℕ) (some-most : 1 ≤ most) (most-fits : most ≤ 40) (R : Ru
   module _ (reference : List ℕ) (rises : Rising W 0 reference) where
     -- a mode's bits, whatever follows
     code-mode : (mode : Mode) → Coded mode → (s : Line) (later : List Bool) → drop (s .at) bs ≡ modeBits mode ++ later
-        → code2D R reference bs s ≡ apply R reference bs (s .at) mode (movedTo (s .at + length (modeBits mode)) s)
+        → (t : Line) → apply R reference bs (s .at) mode (movedTo (s .at + length (modeBits mode)) s) ≡ went t → idle mode s t ≡ false
+        → code2D R reference bs s ≡ went t
     unfolding code2D
-    code-mode mode coded s later e = ap (afterMode R reference bs s) (read-mode mode bs later (s .at) coded e)
+    code-mode mode coded s later e t does busy =
+        ap (afterMode R reference bs s) (read-mode mode bs later (s .at) coded e) ∙ ap (unlessIdle R mode s) does ∙ not-idle R mode s t busy
 
     -- the vertical mode from b1 to a1 goes to a1
     vertical-to : {p : ℕ} {c : Colour} {done rest : List ℕ} → Middle W full p c done rest → (a place a1 : ℕ) → p ≤ a1 → a1 ≤ W
@@ -320,7 +345,7 @@ module _ (most : ℕ) (some-most : 1 ≤ most) (most-fits : most ≤ 40) (R : Ru
       unfolding apply
       back-pass h =
           back-more (two reference) (modeBits pass) before
-          (λ more e. code-mode pass c-pass s more e ∙ push-to m (a + length (modeBits pass)) a B2 (omega (arith, far)) (omega (arith, high)))
+          (λ more e. code-mode pass c-pass s more e _ (push-to m (a + length (modeBits pass)) a B2 (omega (arith, far)) (omega (arith, high))) refl)
           refl
           (later _ B2 c _ rest (to-before B2 far h m) (omega (arith, far, high)))
         where
@@ -331,12 +356,19 @@ module _ (most : ℕ) (some-most : 1 ≤ most) (most-fits : most ≤ 40) (R : Ru
       back-vertical : near B1 a1 ≡ true → Back (two reference) s (modeBits (verticalTo B1 a1) ++ bits2D most W reference n (opposite c) a1 (tail rest))
       back-vertical h =
           back-more (two reference) (modeBits mode) before
-          (λ more e. code-mode mode (vertical-coded B1 a1 h) s more e ∙ vertical-to m (a + length (modeBits mode)) a a1 low high)
+          (λ more e. code-mode mode (vertical-coded B1 a1 h) s more e t (vertical-to m (a + length (modeBits mode)) a a1 low high) (vertical-idle B1 a1 s t ∙ busy (onward m before)))
           refl
           (later _ a1 (opposite c) _ (tail rest) (to-change m) (omega (arith, shorter before (f .rising))))
         where
           mode : Mode
           mode = verticalTo B1 a1
+
+          t : Line
+          t = line (a + length (modeBits mode)) a1 (opposite c) (reached p a1 c done) false
+
+          busy : (p < a1) ⊎ ((p ≡ 0) × (c ≡ white)) → (unmoved s t && not (atFirst s)) ≡ false
+          busy (inl q) = rw (ne-eqb a1 p (λ e. omega arith))
+          busy (inr (q, r)) = rw (q, r) (and-false (eqb a1 0))
 
       -- a horizontal mode, to a1 and a2
       back-horizontal : Back (two reference) s (modeBits horizontal ++ (runBits most c (a1 - p) ++ (runBits most (opposite c) (a2 - a1) ++ bits2D most W reference n c a2 (tail (tail rest)))))
@@ -374,9 +406,10 @@ module _ (most : ℕ) (some-most : 1 ≤ most) (most-fits : most ≤ 40) (R : Ru
               let e₁ : drop a bs ≡ M ++ (r₁ ++ (r₂ ++ more)) = e ∙ simp append-assoc in
               let e₂ = drop-after bs M (r₁ ++ (r₂ ++ more)) a e₁ in
               let e₃ = drop-after bs r₁ (r₂ ++ more) (a + length M) e₂ in
-              code-mode horizontal c-horizontal s (r₁ ++ (r₂ ++ more)) e₁
-              ∙ ap (λ (w : Went). next w (pushRun R bs)) (run-to m (a + length M) a1 low high (r₂ ++ more) e₂)
-              ∙ run-to m₁ (a + length M + length r₁) a2 (head-low high (facts m₁ .rising)) (head-fits (facts m₁ .rising)) more e₃
+              code-mode horizontal c-horizontal s (r₁ ++ (r₂ ++ more)) e₁ t
+              (ap (λ (w : Went). next w (pushRun R bs)) (run-to m (a + length M) a1 low high (r₂ ++ more) e₂)
+              ∙ run-to m₁ (a + length M + length r₁) a2 (head-low high (facts m₁ .rising)) (head-fits (facts m₁ .rising)) more e₃)
+              (ne-eqb a2 p (λ q. omega (arith, onward-two m before)))
 
     -- enough codes reach the width
     back-2D : (n : ℕ) → Codes n
@@ -428,7 +461,7 @@ module _ (most : ℕ) (some-most : 1 ≤ most) (most-fits : most ≤ 40) (width 
       (read-line most some-most most-fits R wide narrow kind proper other rises′ (omega arith) _ rest′ 0 e)
     where
       R : Rules
-      R = record { width = width; strict = true; room = length row + length other }
+      R = record { width = width; strict = true; exact = true; room = length row + length other }
 
   -- no two rows share a line
   pub line-settles : lineBits most width kind row ≡ lineBits most width kind other → row ≡ other

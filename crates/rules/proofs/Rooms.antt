@@ -4,7 +4,7 @@ use mathlib.Core.Path.{_≡_, refl, sym, ap, _∙_, subst}
 use mathlib.Core.Logic.{⊎-elim}
 use mathlib.Core.Bool.{Bool, true, false, cond}
 use mathlib.Core.List.{List, [], _∷_, _++_, append-assoc, append-nil}
-use Prim.Native.Nat.{ℕ, zero, suc, min, _+_, _-_, _*_, _≤_, _<_}
+use Prim.Native.Nat.{ℕ, suc, min, _+_, _-_, _*_, _≤_, _<_}
 use native.Mathlib.Omega.{arith}
 use lib.Dec.{eqb, leb, ltb}
 use lib.ListN.{length, take, length-append, drop-of-length-le}
@@ -16,19 +16,20 @@ use Rattle.rules.specs.Lines.{Rules, Went, went, failed, two, readLine}
 use Rattle.rules.specs.Rows.{Encoding, group4, group3-1D, group3-2D, Settings, State, readMark, recoveredMark, RowOut, row, stop, rulesOf, finished}
 use Rattle.rules.specs.Group4.{eolsBefore, afterLine4, row4}
 use Rattle.rules.specs.Group3.{Tagging, untagged, tagged, line3, kept, afterLine3, row3}
-use Rattle.rules.specs.Pages.{Answer, Kept, noneKept, withRow, endWith, entries, rowsLeft, pageOf, rowOf, readPage, mostBytes, tooWide, ascends, decode, oneLine, readOneLine}
+use Rattle.rules.specs.Pages.{Answer, Kept, noneKept, withRow, endWith, entries, rowsLeft, pageOf, rowOf, readPage, strictIfExact, unlessShort, mostBytes, tooWide, ascends, decode, oneLine, readOneLine}
 use Rattle.rules.proofs.Bits.{length-bitsOf}
 use Rattle.rules.proofs.Machine.{Falls, ends-more, ends-done, ends-ind, ends-stops}
 use Rattle.rules.proofs.PageBack.{entries-snoc}
 use Rattle.rules.proofs.Ascending.{rises-length}
 use Rattle.rules.proofs.Lines.{read-whole, read-broken, data-bound}
 use Rattle.rules.proofs.Eols.{eols-ahead, reaches}
-use Rattle.rules.proofs.Budget.{Budgeted, Budget, Due, Bytes, Starts, Sets, before-sets}
+use Rattle.rules.proofs.Budget.{Budgeted, Budget, Due, Bytes, whole-bytes, Starts, Sets, before-sets}
 use Rattle.rules.proofs.Rows.{row4-cases, row3-cases, mended-cases, line3-damaged}
 use Rattle.rules.proofs.Pages.{Does, Fitting, row-does, Held, held-start, held-next, read-answered, step, page-cases, page-kept, page-full, page-stopped, page-falls}
 use Rattle.rules.proofs.Marks.{decode-came, came-as-many}
 use Rattle.rules.proofs.LessRoom.{Cut, same, short, line-cut, Fills, line-fills, changesIn, RowFills, row-fills, RowCut, row-cut, row-cut-cases}
-use Rattle.rules.proofs.Within.{cutBehind, four, withinFrom, within, within-all, within-loose, within-four, within-five, within-kept, Cuts, cuts, Front, cuts-front, cuts-four, cuts-five}
+use Rattle.rules.proofs.Answers.{short-cases, Refuses, too-wide, too-long, no-columns, decode-cases}
+use Rattle.rules.proofs.Within.{cutBehind, four, withinFrom, within, within-all, within-loose, within-four, within-five, within-kept, Cuts, cuts, Front, cuts-front, cuts-four, cuts-five, short-within}
 
 -- ---- A page with less room
 
@@ -264,24 +265,11 @@ nothing n place = record { number = n; place = place; bytes = 0; rows = []; mark
 nothing-within : (store places n place : ℕ) → nothing n place ≡ within store places (nothing n place)
 nothing-within store places n place = sym (within-all store places (nothing n place) [] (omega arith))
 
-positive : (n : ℕ) → (n ≡ 0 → ⊥) → 0 < n
-positive zero z = absurd (z refl)
-positive (suc n) z = omega arith
-
--- a refusal, whatever the room; or a page that is read
-decode-cases : (S : Settings) (bytes : List ℕ) (C : (ℕ → ℕ → Answer) → Type 0) → ((n : ℕ) → (n ≡ 4 → ⊥) → (n ≡ 5 → ⊥) → C (λ store places. nothing n 0))
-    → (0 < S .columns → C (readPage S (bitsOf bytes))) → C (decode S bytes)
-unfolding decode
-decode-cases S bytes C refused reads = tests (tooWide (S .columns)) refl (ltb mostBytes (length bytes)) refl (eqb (S .columns) 0) refl
-  where
-    tests : (a : Bool) → tooWide (S .columns) ≡ a → (b : Bool) → ltb mostBytes (length bytes) ≡ b → (c : Bool) → eqb (S .columns) 0 ≡ c → C (decode S bytes)
-    tests true e b f c g = rw (e, decode) (refused 6 (λ q. omega arith) (λ q. omega arith))
-    tests false e true f c g = rw (e, f, decode) (refused 7 (λ q. omega arith) (λ q. omega arith))
-    tests false e false f true g = rw (e, f, g, decode) (refused 0 (λ q. omega arith) (λ q. omega arith))
-    tests false e false f false g = rw (e, f, g, decode) (reads (positive (S .columns) (eqb-false (S .columns) 0 g)))
-
-whole-bytes : (bytes : List ℕ) → Bytes (bitsOf bytes)
-whole-bytes bytes = record { count = length bytes; whole = length-bitsOf bytes }
+-- neither 4 nor 5 is a refusal
+refuses-other : {S : Settings} {bytes : List ℕ} {n : ℕ} → Refuses S bytes n → (n ≡ 4 → ⊥) × (n ≡ 5 → ⊥)
+refuses-other (too-wide e) = (omega arith, omega arith)
+refuses-other (too-long h) = (omega arith, omega arith)
+refuses-other (no-columns e) = (omega arith, omega arith)
 
 -- 4 only where no entry is left, 5 only where no row end is; and what the data can hold at most
 pub record Spent (bytes : List ℕ) (store places : ℕ) (a : Answer) : Type 0 where
@@ -294,18 +282,23 @@ module _ (S : Settings) (bytes : List ℕ) where
   -- What a smaller room gives is what a larger one gives, cut.
   pub decode-within : (store store′ places places′ : ℕ) → store ≤ store′ → places ≤ places′ → decode S bytes store places ≡ within store places (decode S bytes store′ places′)
   decode-within store store′ places places′ le le′ =
-      decode-cases S bytes (λ f. f store places ≡ within store places (f store′ places′)) (λ n p q. nothing-within store places n 0)
-      (λ wide. page-within S wide (bitsOf bytes) (whole-bytes bytes) store store′ places places′ le le′)
+      decode-cases S bytes (λ f. f store places ≡ within store places (f store′ places′)) (λ n r. nothing-within store places n 0)
+      (λ ok. ap (unlessShort S) (page-within (strictIfExact S) (ok .wide) (bitsOf bytes) (whole-bytes bytes) store store′ places places′ le le′)
+      ∙ short-within S store places (readPage (strictIfExact S) (bitsOf bytes) store′ places′))
 
   pub decode-spent : (store places : ℕ) → Spent bytes store places (decode S bytes store places)
   unfolding entries
   decode-spent store places =
       decode-cases S bytes (λ f. Spent bytes store places (f store places))
-      (λ n p q. record { four = λ e. absurd (p e); five = λ e. absurd (q e); few-entries = omega arith; few-rows = omega arith })
-      (λ wide.
-      let u = page-used S wide (bitsOf bytes) (whole-bytes bytes) store places in
-      let a = read-answered (S .encoding) S wide (bitsOf bytes) (whole-bytes bytes) store places refl in
-      record { four = u .four; five = u .five; few-entries = omega (arith, u .few, length-bitsOf bytes); few-rows = omega (arith, a .few-rows, length-bitsOf bytes) })
+      (λ n r. record { four = λ e. absurd (refuses-other r .0 e); five = λ e. absurd (refuses-other r .1 e); few-entries = omega arith; few-rows = omega arith })
+      (λ ok.
+      let u = page-used (strictIfExact S) (ok .wide) (bitsOf bytes) (whole-bytes bytes) store places in
+      let a = read-answered (S .encoding) (strictIfExact S) (ok .wide) (bitsOf bytes) (whole-bytes bytes) store places refl in
+      let e : entries (readPage (strictIfExact S) (bitsOf bytes) store places .rows) + length (readPage (strictIfExact S) (bitsOf bytes) store places .loose) ≤ 16 * length bytes = omega (arith, u .few, length-bitsOf bytes) in
+      let r : length (readPage (strictIfExact S) (bitsOf bytes) store places .rows) ≤ 8 * length bytes + 1 = omega (arith, a .few-rows, length-bitsOf bytes) in
+      short-cases S (readPage (strictIfExact S) (bitsOf bytes) store places) (Spent bytes store places)
+      (λ l. record { four = λ q. absurd (omega arith); five = λ q. absurd (omega arith); few-entries = e; few-rows = r })
+      (λ n. record { four = u .four; five = u .five; few-entries = e; few-rows = r }))
 
   module _ (store store′ places places′ : ℕ) (le : store ≤ store′) (le′ : places ≤ places′) where
     -- the smaller answer, by cases
@@ -350,7 +343,7 @@ line-within {small} (short {w = failed n place l} h e) =
 
 module _ (bytes : List ℕ) (at columns : ℕ) (strict : Bool) (reference : List ℕ) where
   abbrev R : ℕ → Rules
-  R room = record { width = columns; strict = strict; room = room }
+  R room = record { width = columns; strict = strict; exact = false; room = room }
 
   -- an answer with nothing in it, whatever the room; or a line that is read
   one-cases : (C : (ℕ → Answer) → Type 0) → ((n place : ℕ) → (n ≡ 4 → ⊥) → (n ≡ 5 → ⊥) → C (λ room. nothing n place))
@@ -367,13 +360,13 @@ module _ (bytes : List ℕ) (at columns : ℕ) (strict : Bool) (reference : List
       tests false p false q false r false s e t = rw (p, q, r, s, readOneLine) (empty 8 0 (λ z. omega arith) (λ z. omega arith))
       tests false p false q false r true s false t = rw (p, q, r, s, t, readOneLine) (empty 2 (length (bitsOf bytes)) (λ z. omega arith) (λ z. omega arith))
       tests false p false q false r true s true t =
-          rw (p, q, r, s, t, readOneLine) (reads (positive columns (eqb-false columns 0 p)) (leb-true at (length (bitsOf bytes)) t))
+          rw (p, q, r, s, t, readOneLine) (reads (let z : columns ≡ 0 → ⊥ = eqb-false columns 0 p in omega arith) (leb-true at (length (bitsOf bytes)) t))
 
   -- What a smaller array gives is what a larger one gives, cut.
   pub one-within : (small large : ℕ) → small ≤ large → readOneLine bytes at columns strict reference small ≡ within small 1 (readOneLine bytes at columns strict reference large)
   one-within small large le =
       one-cases (λ f. f small ≡ within small 1 (f large)) (λ n place p q. nothing-within small 1 n place)
-      (λ wide i. line-within (line-cut columns strict small large le (two reference) (bitsOf bytes) at))
+      (λ wide i. line-within (line-cut columns strict false small large le (two reference) (bitsOf bytes) at))
 
   -- 4 only where no entry is left, 5 never; one row at most, with its mark; no more changes than columns, nor than the bits from the line's first on
   pub record LineSpent (room : ℕ) (a : Answer) : Type 0 where
@@ -388,7 +381,7 @@ module _ (bytes : List ℕ) (at columns : ℕ) (strict : Bool) (reference : List
   one-spent room =
       one-cases (λ f. LineSpent room (f room))
       (λ n place p q. record { four = λ e. absurd (p e); five = q; one-row = omega arith; marked = refl; few = omega arith })
-      (λ wide i. cases wide i (readLine (R room) (two reference) (bitsOf bytes) at) refl (line-fills columns strict room (two reference) (bitsOf bytes) at))
+      (λ wide i. cases wide i (readLine (R room) (two reference) (bitsOf bytes) at) refl (line-fills columns strict false room (two reference) (bitsOf bytes) at))
     where
       cases : 0 < columns → at ≤ length (bitsOf bytes) → (w : Went) → readLine (R room) (two reference) (bitsOf bytes) at ≡ w → Fills room w → LineSpent room (oneLine w)
       cases wide i (went l) e f =

@@ -9,8 +9,10 @@ use lib.Dec.{leb, ltb}
 use lib.ListN.{length, take, drop, getD, length-append, length-take, take-append-drop, List·getD-eq-default}
 use lib.Seq.{take-all, take-at}
 use borrow.Author.Tests.{leb-true, leb-false, ltb-true, ltb-false, le-leb, lt-leb, lt-ltb, le-ltb}
-use Rattle.rules.specs.Pages.{Answer, entries, joined, endsFrom}
+use Rattle.rules.specs.Rows.{Settings}
+use Rattle.rules.specs.Pages.{Answer, entries, unlessShort, joined, endsFrom}
 use Rattle.rules.proofs.PageBack.{entries-snoc}
+use Rattle.rules.proofs.Answers.{short-cases, never-short}
 
 -- ---- The rule
 
@@ -222,3 +224,33 @@ take-ends (suc n) base (r ∷ rows) = ap (λ (l : List ℕ). (base + length r) �
 
 pub front-ends : {a b : Answer} → Front a b → take (length (b .rows)) (endsFrom 0 (a .rows)) ≡ endsFrom 0 (b .rows)
 front-ends {a} {b} f = take-ends (length (b .rows)) 0 (a .rows) ∙ ap (endsFrom 0) (sym (f .rows))
+
+-- ---- A page that is short of rows (A12)
+
+module _ (S : Settings) (store places : ℕ) (a : Answer) where
+  -- the same rows and loose entries under another number
+  abbrev renamed : ℕ → ℕ → ℕ → Answer
+  renamed n place bytes = record { number = n; place = place; bytes = bytes; rows = a .rows; marks = a .marks; loose = a .loose }
+
+  short-from : (n place bytes : ℕ) → unlessShort S a ≡ renamed n place bytes → (kept rest : List (List ℕ))
+      → unlessShort S (withinFrom store places a kept rest) ≡ withinFrom store places (renamed n place bytes) kept rest
+  unfolding withinFrom
+  short-from n place bytes h kept [] = tests (leb (length (a .loose)) (store - entries kept)) refl
+    where
+      tests : (b : Bool) → leb (length (a .loose)) (store - entries kept) ≡ b → unlessShort S (withinFrom store places a kept []) ≡ withinFrom store places (renamed n place bytes) kept []
+      tests true q = rw (q, withinFrom) h
+      tests false q = rw (q, withinFrom) (never-short S (four a kept (take (store - entries kept) (a .loose))) (λ z. omega arith))
+  short-from n place bytes h kept (r ∷ rest) = tests (leb (length r) (store - entries kept)) refl (ltb (length kept) places) refl (short-from n place bytes h (kept ++ r ∷ []) rest)
+    where
+      tests : (b : Bool) → leb (length r) (store - entries kept) ≡ b → (c : Bool) → ltb (length kept) places ≡ c
+          → unlessShort S (withinFrom store places a (kept ++ r ∷ []) rest) ≡ withinFrom store places (renamed n place bytes) (kept ++ r ∷ []) rest
+          → unlessShort S (withinFrom store places a kept (r ∷ rest)) ≡ withinFrom store places (renamed n place bytes) kept (r ∷ rest)
+      tests false q c p ih = rw (q, withinFrom) (never-short S (four a kept (take (store - entries kept) r)) (λ z. omega arith))
+      tests true q false p ih = rw (q, p, withinFrom) (never-short S (five a kept r) (λ z. omega arith))
+      tests true q true p ih = rw (q, p, withinFrom) ih
+
+  -- 4 and 5 come before 14, which stays where everything fits
+  pub short-within : unlessShort S (within store places a) ≡ within store places (unlessShort S a)
+  short-within =
+      short-cases S a (λ x. unlessShort S a ≡ x → unlessShort S (within store places a) ≡ within store places x)
+      (λ l h. short-from 14 0 0 h [] (a .rows)) (λ n h. short-from (a .number) (a .place) (a .bytes) h [] (a .rows)) refl

@@ -6,6 +6,7 @@ pub mod Runs
 pub mod Modes
 pub mod Pixels
 pub mod Lines
+pub mod Counts
 pub mod Eols
 pub mod Rows
 pub mod Group4

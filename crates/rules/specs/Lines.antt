@@ -1,6 +1,6 @@
 -- One line: its state, what one code does to it, and its steps to the width; 1D and 2D, strict and lenient
 -- (T.4 4.1.1 and 4.2.1.3, T.6 2.2, 01 "One line"; context.rs).
-use mathlib.Core.Bool.{Bool, true, false, cond, _&&_}
+use mathlib.Core.Bool.{Bool, true, false, cond, not, _&&_}
 use mathlib.Core.List.{List, [], _∷_, _++_}
 use Prim.Native.Nat.{ℕ, zero, suc, _+_, _-_}
 use lib.Dec.{eqb, leb}
@@ -10,10 +10,11 @@ use Rattle.rules.specs.Codes.{Colour, white, black, opposite, differ}
 use Rattle.rules.specs.Runs.{Res, ok, fault, unreachable, Sum, readRun}
 use Rattle.rules.specs.Modes.{Mode, pass, horizontal, VR, VL, Moded, readMode}
 
--- what holds for a line: its width, how strictly it is read, and how many changes there is room for
+-- what holds for a line: its width, how strictly it is read (exact, of A12, comes with strict alone), and how many changes there is room for
 pub record Rules : Type 0 where
   pub width : ℕ
   pub strict : Bool
+  pub exact : Bool
   pub room : ℕ
 
 -- The next bit; the position, which starts at 0; the colour of the next run, white at the start; the changes recorded, those at even places
@@ -118,6 +119,29 @@ module _ (width : ℕ) (reference : List ℕ) where
   abbrev pub b2 : ℕ → Colour → ℕ
   b2 position colour = headOr width (tail (fromB1 colour (rightOfA0 position) black reference))
 
+-- ---- Idle codes (A12)
+
+-- the code that took the line s to t left the position where it was
+abbrev pub unmoved : Line → Line → Bool
+unmoved s t = eqb (t .position) (s .position)
+
+-- The line's first code is read at position 0 in white. In an exact line no later one is (proofs/Counts.antt, `first-once`).
+abbrev pub atFirst : Line → Bool
+atFirst s = eqb (s .position) 0 && differ black (s .colour)
+
+-- "a vertical move to the very position it starts from, other than the line's first code moving to 0", and "a horizontal code with two zero runs", each seen from
+-- what it made of the line
+abbrev pub idle : Mode → Line → Line → Bool
+idle pass s t = false
+idle horizontal s t = unmoved s t
+idle (VR k) s t = unmoved s t && not (atFirst s)
+idle (VL k) s t = unmoved s t && not (atFirst s)
+
+-- "Where it is set", such a code "answers 1" and points "at the mode code", where the line s stands. A fault that was found in the code came first.
+abbrev pub unlessIdle : Rules → Mode → Line → Went → Went
+unlessIdle R mode s (went t) = cond (R .exact && idle mode s t) (failed 1 (s .at) s) (went t)
+unlessIdle R mode s (failed n place t) = failed n place t
+
 -- ---- The codes of a 2D line (T.4 4.2.1.3.2, T.6 2.2.3)
 
 module _ (R : Rules) (reference : List ℕ) where
@@ -139,7 +163,7 @@ module _ (R : Rules) (reference : List ℕ) where
       (failed 3 place s)
 
   abbrev pub afterMode : List Bool → Line → Res Moded → Went
-  afterMode bs s (ok m) = apply bs (s .at) (m .mode) (movedTo (m .at) s)
+  afterMode bs s (ok m) = unlessIdle R (m .mode) s (apply bs (s .at) (m .mode) (movedTo (m .at) s))
   afterMode bs s (fault n place) = failed n place s
 
   unfoldable pub code2D : List Bool → Line → Went
