@@ -18,4 +18,5 @@ settingsOf s = record {
   aligned = s .«rows_are_byte_aligned»;
   encoding = encodingOf (s .encoding);
   strict = s .strict;
+  exact = s .exact;
 }

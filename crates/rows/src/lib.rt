@@ -21,6 +21,8 @@ pub struct DecodeSettings {
     pub rows_are_byte_aligned: bool,
     pub encoding: EncodingMode,
     pub strict: bool,
+    // No idle codes, and no page short of `rows`; strict, whatever `strict` says.
+    pub exact: bool,
 }
 
 // The next bit, and the rows kept. The reference lies in the store from `start` to `base`, and the next row is written from `base` on.
