@@ -12,15 +12,16 @@ use Rattle.rules.specs.Codes.{Colour, white, black}
 use Rattle.rules.specs.Lines as Rule
 use Rattle.rules.specs.Lines.{Rules, Went, went, failed, movedTo, turned, withCut, recorded, add, push}
 use Rattle.rules.specs.Pages.{overlaid}
+use Rattle.rules.proofs.Grows.{Grows, GrowsTo, push-grows, behind}
 use Rattle.context.specs.declared.line.Line.{Line}
 use Rattle.context.specs.declared.line.Push.{Push}
 use Rattle.context.specs.declared.line.Push.the-variants as Push
+use Rattle.context.specs.declared.step.Rules as Code
 use Rattle.context.specs.declared.step.Step.{Step}
 use Rattle.context.specs.declared.step.Step.the-variants as Step
-use Rattle.context.specs.State.{lineAt, lineFor, turnedFor, rulesFor, Holds, changesOf, pushFor, Comes, Pushes, colourNumber, flagNumber}
+use Rattle.context.specs.State.{lineAt, lineFor, turnedFor, rulesFor, pushRules, Holds, changesOf, pushFor, Comes, Pushes, colourNumber, flagNumber}
 use Rattle.context.specs.Outcome.{placeFor, stepFor, Steps}
 use Rattle.context.proofs.State.{line-for, line-at, overlaid-same}
-use Rattle.context.proofs.Grows.{Grows, GrowsTo, push-grows, behind}
 
 -- ---- Slices whose front is written
 
@@ -78,6 +79,11 @@ push-at R place count s t e = subst (Placed (s .at) place) e (push-placed R plac
 pub push-place : (R : Rules) (place count : ℕ) (s t : Rule.Line) (n p : ℕ) → push R place count s ≡ failed n p t → p ≡ placeFor n place
 unfolding Placed
 push-place R place count s t n p e = subst (Placed (s .at) place) e (push-placed R place count s)
+
+-- what is idle has no part in it
+pub push-same : (width : ℕ) (rules : Code.Rules) (xs : List ℕ) (place count : ℕ) (s : Rule.Line) → push (pushRules width (rules .strict) xs) place count s ≡ push (rulesFor width rules xs) place count s
+unfolding push add
+push-same width rules xs place count s = refl
 
 -- ---- What is carried
 
@@ -138,22 +144,22 @@ module _ {width : ℕ} {xs : List ℕ} {s : Rule.Line} {l : Line} {ys : List ℕ
   carries-width : l .width ≡ width
   carries-width = ap (λ (m : Line). m .width) (k .line-is)
 
-  rules-same : (strict : Bool) → rulesFor (l .width) strict ys ≡ rulesFor width strict xs
-  rules-same strict = λ i. record { width = carries-width i; strict = strict; room = carries-length i }
+  rules-same : (rules : Code.Rules) → rulesFor (l .width) rules ys ≡ rulesFor width rules xs
+  rules-same rules = λ i. record { width = carries-width i; strict = rules .strict; exact = rules .exact; room = carries-length i }
 
   -- an outcome for the slice as it stands is one for the slice as it was
-  module _ (strict : Bool) where
+  module _ (rules : Code.Rules) where
     abbrev R : Rules
-    R = rulesFor width strict xs
+    R = rulesFor width rules xs
 
     store-on : (w : Went) (zs : List ℕ) → GrowsTo R s w → zs ≡ overlaid (changesOf w) ys → zs ≡ overlaid (changesOf w) xs
     store-on w zs g e = e ∙ ap (overlaid (changesOf w)) (k .store) ∙ overlaid-over (changesOf w) (s .changes) xs (g .longer)
 
-    pub carries-push : (count : ℕ) (r : Push) (zs : List ℕ) → Pushes ys l count strict r zs → (at place : ℕ) → Comes width xs (push R place count (movedTo at s)) r zs
+    pub carries-push : (count : ℕ) (r : Push) (zs : List ℕ) → Pushes ys l count (rules .strict) r zs → (at place : ℕ) → Comes width xs (push R place count (movedTo at s)) r zs
     carries-push count r zs p at place =
         let u = p at place in
         let w = push R place count (movedTo at s) in
-        let e : push (rulesFor (l .width) strict ys) place count (lineAt at ys l) ≡ w = λ i. push (rules-same strict i) place count (carries-line at i) in
+        let e : push (pushRules (l .width) (rules .strict) ys) place count (lineAt at ys l) ≡ w = push-same (l .width) rules ys place count (lineAt at ys l) ∙ (λ i. push (rules-same rules i) place count (carries-line at i)) in
         record {
           answer = u .answer ∙ (λ i. pushFor (carries-width i) (e i));
           store = store-on w zs (behind R s at w (push-grows R place count (movedTo at s))) (u .store ∙ ap (λ (w : Went). overlaid (changesOf w) ys) e);
@@ -161,10 +167,10 @@ module _ {width : ℕ} {xs : List ℕ} {s : Rule.Line} {l : Line} {ys : List ℕ
 
     -- the same of a step, whatever it does
     pub carries-step : (does : Rules → Rule.Line → Went) → GrowsTo R s (does R s)
-        → (r : Step) (zs : List ℕ) → Steps (l .width) ys (does (rulesFor (l .width) strict ys) (lineAt (s .at) ys l)) r zs → Steps width xs (does R s) r zs
+        → (r : Step) (zs : List ℕ) → Steps (l .width) ys (does (rulesFor (l .width) rules ys) (lineAt (s .at) ys l)) r zs → Steps width xs (does R s) r zs
     carries-step does g r zs u =
         let w = does R s in
-        let e : does (rulesFor (l .width) strict ys) (lineAt (s .at) ys l) ≡ w = λ i. does (rules-same strict i) (carries-line (s .at) i) in
+        let e : does (rulesFor (l .width) rules ys) (lineAt (s .at) ys l) ≡ w = λ i. does (rules-same rules i) (carries-line (s .at) i) in
         record {
           answer = u .answer ∙ (λ i. stepFor (carries-width i) (e i));
           store = store-on w zs g (u .store ∙ ap (λ (w : Went). overlaid (changesOf w) ys) e);

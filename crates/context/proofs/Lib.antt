@@ -1,9 +1,9 @@
 -- The laws that the functions' proofs cite, and those that crates above need beside the contracts.
 pub mod State
-pub mod Grows
 pub mod Carried
 pub mod RunLoop
 pub mod Moves
+pub mod Idle
 pub mod RowTest
 pub mod Search
 pub mod Signed

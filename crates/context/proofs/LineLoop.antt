@@ -12,6 +12,7 @@ use Rattle.rules.specs.Lines.{Rules, Went, failed, newLine, rightOfA0, code2D, 
 use Rattle.rules.specs.Pages.{overlaid}
 use Rattle.rules.proofs.Ahead.{b2-ahead}
 use Rattle.rules.proofs.Bits.{length-bitsOf}
+use Rattle.rules.proofs.Grows.{Grows, GrowsTo, code2D-grows}
 use Rattle.rules.proofs.Lines.{moves, line-more, line-failed, line-done}
 use Rattle.rules.proofs.Ascending.{Rising}
 use Rattle.tables.specs.Tables.{colourOf}
@@ -25,7 +26,6 @@ use Rattle.context.specs.State.{newFor, rulesFor, changesOf, Holds}
 use Rattle.context.specs.Outcome.{Steps}
 use Rattle.context.specs.Reference.{Passed, Finds}
 use Rattle.context.specs.Coding.{Coding, Coded, referenceIn, Placed, Seeks, Lines, StepsAt}
-use Rattle.context.proofs.Grows.{Grows, GrowsTo, code2D-grows}
 use Rattle.context.proofs.Search.{right-grows, passed-none, passed-on}
 use Rattle.context.proofs.RowPart.{placed-base, placed-as, reference-same, row-lent, row-back, back-front, back-row}
 use Rattle.context.proofs.Carried.{Carries, carries-length, carries-holds, carries-step, carries-on, overlaid-none, step-on, step-stop}
@@ -54,7 +54,7 @@ abbrev row : Task → List ℕ
 row T = drop (T .base) (T .xs)
 
 abbrev R : Task → Rules
-R T = rulesFor (T .width) (T .rules .strict) (row T)
+R T = rulesFor (T .width) (T .rules) (row T)
 
 abbrev ref : Task → List ℕ
 ref T = referenceIn (T .place) (T .base) (T .reference) (T .xs)
@@ -164,13 +164,14 @@ module _ {T : Task} {l : Line} {at seen : ℕ} {zs : List ℕ} (g : Reading T l 
       pub reading-codes : Coding (T .white) (T .black) (T .bytes) (midOf (T .base) (length zs - T .base) zs) l at (f .b2)
       reading-codes = rw (row-lent zs (T .base)) (record {
         reads = record { lookups = h .starts .lookups; loading = record { size = h .starts .loading .size; inside = omega (arith, g .place-is, g .inside, length-bitsOf (T .bytes)) }; holds = holds };
+        short = let n = short in omega (arith, position-is, width-is, k .fits);
         ahead = rw (finds .b2-is) (b2-ahead (l .width) (ref T) (l .position) (colourOf (l .colour)) (subst (λ (n : ℕ). Rising n 0 (ref T)) (sym width-is) (h .rising)) (holds .fits));
       })
 
       module _ (r : Step) (ys : List ℕ) (c : Coded (T .bytes) (midOf (T .base) (length zs - T .base) zs) l at (f .b1) (f .b2) (T .rules) r ys) where
         steps : Steps (T .width) (row T) (code2D (R T) (ref T) (bs T) s) r ys
         steps =
-            carries-step k (T .rules .strict) (λ R s. code2D R (ref T) (bs T) s) (code2D-grows (R T) (ref T) (bs T) s) r ys
+            carries-step k (T .rules) (λ R s. code2D R (ref T) (bs T) s) (code2D-grows (R T) (ref T) (bs T) s) r ys
             (rw (row-lent zs (T .base), g .place-is) at (c (ref T) (finds .b1-is) (finds .b2-is)))
 
         -- where the code comes to an outcome, so does the array
@@ -197,7 +198,7 @@ module _ {T : Task} {l : Line} {at seen : ℕ} {zs : List ℕ} (g : Reading T l 
               s = u;
               carries =
                   rw (back-row zs (T .base) reading-room ys)
-                  (carries-on k (T .rules .strict) u m ys same grows (steps .store ∙ ap (λ (o : Went). overlaid (changesOf o) (row T)) o));
+                  (carries-on k (T .rules) u m ys same grows (steps .store ∙ ap (λ (o : Went). overlaid (changesOf o) (row T)) o));
               front = back-front zs (T .base) reading-room ys ∙ g .front;
               place-is = there;
               inside = moves (R T) (two (ref T)) (bs T) s u o .1;

@@ -2,7 +2,7 @@
 use mathlib.Core.Path.{_≡_, sym, ap, _∙_, subst}
 use mathlib.Core.Bool.{Bool, true, false, cond}
 use mathlib.Core.List.{List}
-use Prim.Native.Nat.{ℕ, _-_, _*_, _≤_}
+use Prim.Native.Nat.{ℕ, _-_, _*_, _≤_, _<_}
 use native.Mathlib.Omega.{arith}
 use lib.IntN.{ℤ, pos, negsuc}
 use lib.ListN.{length}
@@ -11,7 +11,7 @@ use Rattle.rules.specs.Runs.{Res, ok, fault}
 use Rattle.rules.specs.Modes as Modes
 use Rattle.rules.specs.Modes.{Moded, moded, readMode}
 use Rattle.rules.specs.Lines as Rule
-use Rattle.rules.specs.Lines.{Rules, Went, went, failed, next, turned, push, pushRun, b1, b2, apply, afterMode, code2D}
+use Rattle.rules.specs.Lines.{Rules, Went, went, failed, next, turned, push, b1, b2, unlessIdle, apply, afterMode, code2D}
 use Rattle.rules.specs.Pages.{overlaid}
 use Rattle.rules.proofs.Bits.{length-bitsOf}
 use Rattle.rules.proofs.Modes.{ModeAt, mode-at, Coded, c-right, c-left}
@@ -26,16 +26,18 @@ use Rattle.context.specs.declared.line.Push.{Push}
 use Rattle.context.specs.declared.line.Push.the-variants as Push
 use Rattle.context.specs.declared.offset.Move.{Move}
 use Rattle.context.specs.declared.offset.Move.the-variants.{By, Over}
+use Rattle.context.specs.declared.step.Rules as Code
 use Rattle.context.specs.declared.step.Step.{Step}
 use Rattle.context.specs.declared.step.Step.the-variants as Step
 use Rattle.context.specs.State.{lineAt, lineFor, turnedFor, rulesFor, Holds, changesOf, Comes, Pushes}
 use Rattle.context.specs.Outcome.{placeFor, Steps}
 use Rattle.context.specs.Offset.{Offset, moveBy}
-use Rattle.context.specs.Coding.{Coloured, afterPush}
+use Rattle.context.specs.Coding.{Coloured, afterPush, idleMove, TwoRuns}
 use Rattle.context.proofs.State.{line-for, overlaid-same}
-use Rattle.context.proofs.Carried.{turned-is, colour-small, push-on, push-stop, push-at, push-place}
+use Rattle.context.proofs.Carried.{turned-is, colour-small, push-on, push-stop, push-at, push-place, push-same}
 use Rattle.context.proofs.Signed.{held, offset-held}
-use Rattle.context.proofs.Moves.{afterMove, offset-moves}
+use Rattle.context.proofs.Moves.{afterMove, upright, offset-moves}
+use Rattle.context.proofs.Idle.{pass-busy, move-idle, move-busy, idle-is}
 
 -- ---- What a push answers
 
@@ -73,12 +75,12 @@ pushed-steps R xs place count s turns (Push.Stop n m) ys c =
 
 -- ---- What a mode does
 
-module _ (bytes xs : List ℕ) (l : Line) (at : ℕ) (strict : Bool) where
+module _ (bytes xs : List ℕ) (l : Line) (at : ℕ) (rules : Code.Rules) where
   abbrev bs : List Bool
   bs = bitsOf bytes
 
   abbrev R : Rules
-  R = rulesFor (l .width) strict xs
+  R = rulesFor (l .width) rules xs
 
   abbrev s : Rule.Line
   s = lineAt at xs l
@@ -109,28 +111,40 @@ module _ (bytes xs : List ℕ) (l : Line) (at : ℕ) (strict : Bool) where
           (record { answer = ap (λ (m : Line). Step.Stop (numberOf e) m at) (sym (line-for xs l h at)); store = overlaid-same (l .changes) xs (h .held) })
 
       pub mode-horizontal : (next′ : ℕ) → m ≡ Horizontal next′ → (r : Step) (ys : List ℕ)
-          → Steps (l .width) xs (next (pushRun R bs (lineAt next′ xs l)) (pushRun R bs)) r ys → Steps (l .width) xs (code2D R reference bs s) r ys
+          → TwoRuns bytes xs l at next′ rules r ys → Steps (l .width) xs (code2D R reference bs s) r ys
       unfolding apply
       mode-horizontal next′ f r ys t = rw (coded (ok (moded next′ Modes.horizontal)) (ap (modeOf at) f)) t
 
+      -- a count that the code pushes on the line behind its bits
+      comes : (next′ count : ℕ) (r : Push) (ys : List ℕ) → Pushes xs l count (rules .strict) r ys → Comes (l .width) xs (push R at count (lineAt next′ xs l)) r ys
+      comes next′ count r ys p = subst (λ (w : Went). Comes (l .width) xs w r ys) (push-same (l .width) rules xs at count (lineAt next′ xs l)) (p next′ at)
+
       pub mode-pass : (next′ b : ℕ) → m ≡ Pass next′ → b ≡ b2 (l .width) reference (l .position) (colourOf (l .colour)) → (r : Push) (ys : List ℕ)
-          → Pushes xs l (b - l .position) strict r ys → Steps (l .width) xs (code2D R reference bs s) (afterPush r at next′ false) ys
+          → Pushes xs l (b - l .position) (rules .strict) r ys → Steps (l .width) xs (code2D R reference bs s) (afterPush r at next′ false) ys
       unfolding apply
       mode-pass next′ b f e r ys p =
-          rw (coded (ok (moded next′ Modes.pass)) (ap (modeOf at) f), ← e)
-          (pushed-steps R xs at (b - l .position) (lineAt next′ xs l) false r ys (p next′ at))
+          rw (coded (ok (moded next′ Modes.pass)) (ap (modeOf at) f) ∙ pass-busy R s (apply R reference bs at Modes.pass (lineAt next′ xs l)), ← e)
+          (pushed-steps R xs at (b - l .position) (lineAt next′ xs l) false r ys (comes next′ (b - l .position) r ys p))
 
       module _ (z : ℤ) (next′ b : ℕ) (f : m ≡ Vertical z next′) (e : b ≡ b1 (l .width) reference (l .position) (colourOf (l .colour))) where
-        moved : (v : Move) → v ≡ moveBy b (offsetMode (held z)) (l .position) → code2D R reference bs s ≡ afterMove R at (lineAt next′ xs l) v
-        moved v k = coded (ok (moded next′ (offsetMode z))) (ap (modeOf at) f) ∙ offset-moves R reference bs at (lineAt next′ xs l) z e (k ∙ ap (λ (y : ℤ). moveBy b (offsetMode y) (l .position)) (offset-held z (offset-small z next′ f)))
+        moved : (v : Move) → v ≡ moveBy b (offsetMode (held z)) (l .position) → code2D R reference bs s ≡ unlessIdle R (offsetMode z) s (afterMove R at (lineAt next′ xs l) v)
+        moved v k = coded (ok (moded next′ (offsetMode z))) (ap (modeOf at) f) ∙ ap (unlessIdle R (offsetMode z) s) (offset-moves R reference bs at (lineAt next′ xs l) z e (k ∙ ap (λ (y : ℤ). moveBy b (offsetMode y) (l .position)) (offset-held z (offset-small z next′ f))))
 
         pub mode-over : Holds xs l → Over ≡ moveBy b (offsetMode (held z)) (l .position) → Steps (l .width) xs (code2D R reference bs s) (Step.Stop 3 l at) xs
         mode-over h k =
             rw (moved Over k)
             (record { answer = ap (λ (m : Line). Step.Stop 3 m at) (sym (line-for xs l h next′)); store = overlaid-same (l .changes) xs (h .held) })
 
-        pub mode-vertical : (count : ℕ) → By count ≡ moveBy b (offsetMode (held z)) (l .position) → (r : Push) (ys : List ℕ)
-            → Pushes xs l count strict r ys → Steps (l .width) xs (code2D R reference bs s) (afterPush r at next′ true) ys
-        mode-vertical count k r ys p = rw (moved (By count) k) (pushed-steps R xs at count (lineAt next′ xs l) true r ys (p next′ at))
+        module _ (h : Holds xs l) (count : ℕ) (k : By count ≡ moveBy b (offsetMode (held z)) (l .position)) where
+          pub mode-idle : idleMove l count (rules .exact) ≡ true → Steps (l .width) xs (code2D R reference bs s) (Step.Stop 1 l at) xs
+          mode-idle t =
+              rw (moved (By count) k ∙ move-idle R (offsetMode z) (upright z) s at next′ count (sym (idle-is xs l at count (rules .exact) (h .coloured)) ∙ t))
+              (record { answer = ap (λ (m : Line). Step.Stop 1 m at) (sym (line-for xs l h at)); store = overlaid-same (l .changes) xs (h .held) })
+
+          pub mode-vertical : l .position < l .width → idleMove l count (rules .exact) ≡ false → (r : Push) (ys : List ℕ)
+              → Pushes xs l count (rules .strict) r ys → Steps (l .width) xs (code2D R reference bs s) (afterPush r at next′ true) ys
+          mode-vertical short t r ys p =
+              rw (moved (By count) k ∙ move-busy R (offsetMode z) (upright z) s at next′ count short (sym (idle-is xs l at count (rules .exact) (h .coloured)) ∙ t))
+              (pushed-steps R xs at count (lineAt next′ xs l) true r ys (comes next′ count r ys p))
 
 -- ---- b2

@@ -13,6 +13,7 @@ use Rattle.rules.specs.Lines as Rule
 use Rattle.rules.specs.Lines.{Rules, Went, went, failed, next, turned, movedTo, push, afterRun, pushRun, one, codeOf, lineEnd}
 use Rattle.rules.specs.Pages.{overlaid}
 use Rattle.rules.proofs.Bits.{length-bitsOf}
+use Rattle.rules.proofs.Grows.{Grows, GrowsTo, pushRun-grows}
 use Rattle.rules.proofs.Lines.{moves, line-more, line-failed, line-done}
 use Rattle.rules.proofs.Runs.{Within, read-within}
 use Rattle.tables.specs.Tables.{colourOf}
@@ -25,12 +26,12 @@ use Rattle.codes.specs.declared.run.Run.the-variants.{Length, Bad}
 use Rattle.context.specs.declared.line.Line.{Line}
 use Rattle.context.specs.declared.line.Push.{Push}
 use Rattle.context.specs.declared.line.Push.the-variants as Push
+use Rattle.context.specs.declared.step.Rules as Code
 use Rattle.context.specs.declared.step.Step.the-variants as Step
 use Rattle.context.specs.declared.step.Step.{Step}
 use Rattle.context.specs.State.{lineAt, lineFor, turnedFor, rulesFor, changesOf, Holds, Comes, Pushes}
 use Rattle.context.specs.Outcome.{placeFor, Steps, runsFrom, goesOn}
 use Rattle.context.proofs.State.{colour-number}
-use Rattle.context.proofs.Grows.{Grows, GrowsTo, pushRun-grows}
 use Rattle.context.proofs.Carried.{Carries, carries-new, carries-length, carries-holds, carries-push, carries-on, turned-is, colour-small, push-on, push-stop, push-at, push-place}
 
 -- ---- What is left to read, after so many runs
@@ -90,7 +91,7 @@ pub record Task : Type 0 where
   pub bytes : List ℕ
   pub xs : List ℕ
   pub two : Bool
-  pub strict : Bool
+  pub rules : Code.Rules
   pub line : Line
   pub at : ℕ
 
@@ -98,7 +99,7 @@ abbrev widthOf : Task → ℕ
 widthOf T = T .line .width
 
 abbrev R : Task → Rules
-R T = rulesFor (T .line .width) (T .strict) (T .xs)
+R T = rulesFor (T .line .width) (T .rules) (T .xs)
 
 abbrev bs : Task → List Bool
 bs T = bitsOf (T .bytes)
@@ -176,9 +177,9 @@ module _ {T : Task} {count : ℕ} {l : Line} {b : Buffer} {ys : List ℕ} (g : G
       unfolding pushRun
       ran w e = ap (afterRun (R T) s) read ∙ ap (λ (w : Went). next w λ u. went (turned u)) e
 
-      module _ (r : Push) (zs : List ℕ) (p : Pushes ys l n (T .strict) r zs) where
+      module _ (r : Push) (zs : List ℕ) (p : Pushes ys l n (T .rules .strict) r zs) where
         comes : Comes (widthOf T) (T .xs) pushed r zs
-        comes = carries-push k (T .strict) n r zs p (b′ .at) (s .at)
+        comes = carries-push k (T .rules) n r zs p (b′ .at) (s .at)
 
         pub going-stop : {j : ℕ} {m : Line} → r ≡ Push.Stop j m → Steps (widthOf T) (T .xs) (whole T) (Step.Stop j m (placeFor j (b .at))) zs
         going-stop {j} {m} e =
@@ -199,7 +200,7 @@ module _ {T : Task} {count : ℕ} {l : Line} {b : Buffer} {ys : List ℕ} (g : G
             record {
               s = turned u;
               carries =
-                  carries-on k (T .strict) (turned u) (turnedFor m) zs
+                  carries-on k (T .rules) (turned u) (turnedFor m) zs
                   (ap turnedFor same ∙ turned-is (widthOf T) u)
                   grows
                   (comes .store ∙ ap (λ (w : Went). overlaid (changesOf w) (T .xs)) w);

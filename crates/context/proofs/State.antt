@@ -10,14 +10,14 @@ use lib.Seq.{length-take-le, set-split, take-at}
 use borrow.Author.Tests.{eq-eqb, ne-eqb, le-leb, lt-leb}
 use Rattle.rules.specs.Codes.{Colour, white, black, opposite, differ}
 use Rattle.rules.specs.Lines as Rule
-use Rattle.rules.specs.Lines.{Rules, lastColour, recorded, add, push}
+use Rattle.rules.specs.Lines.{lastColour, recorded, add, push}
 use Rattle.rules.specs.Rows.{readMark}
 use Rattle.rules.specs.Pages.{overlaid}
 use Rattle.tables.specs.Tables.{colourOf}
 use Rattle.context.specs.declared.line.Line.{Line}
 use Rattle.context.specs.declared.line.Push.{Push}
 use Rattle.context.specs.declared.line.Push.the-variants.{On, Stop}
-use Rattle.context.specs.State.{flagOf, colourNumber, flagNumber, lineAt, lineFor, movedFor, cutFor, rulesFor, Holds, turns, Comes, Added, Pushes}
+use Rattle.context.specs.State.{flagOf, colourNumber, flagNumber, lineAt, lineFor, movedFor, cutFor, pushRules, Holds, turns, Comes, Added, Pushes}
 
 -- ---- The two lines are one
 
@@ -105,8 +105,8 @@ turns-is zs colour h = ap (λ (c : Colour). differ c (colourOf colour)) (parity 
 -- ---- A count that fits
 
 module _ (xs : List ℕ) (l : Line) (h : Holds xs l) (count : ℕ) (strict : Bool) (at : ℕ) where
-  R : Rules
-  R = rulesFor (l .width) strict xs
+  R : Rule.Rules
+  R = pushRules (l .width) strict xs
 
   s : Rule.Line
   s = lineAt at xs l
@@ -117,13 +117,13 @@ module _ (xs : List ℕ) (l : Line) (h : Holds xs l) (count : ℕ) (strict : Boo
   turning : differ (lastColour (take (l .changes) xs)) (colourOf (l .colour)) ≡ turns (l .changes) (l .colour)
   turning = turns-is (take (l .changes) xs) (l .colour) (h .coloured) ∙ ap (λ (n : ℕ). turns n (l .colour)) len
 
-  pub add-nothing : count ≡ 0 → Comes (l .width) xs (add (rulesFor (l .width) strict xs) count (lineAt at xs l)) (On l) xs
+  pub add-nothing : count ≡ 0 → Comes (l .width) xs (add (pushRules (l .width) strict xs) count (lineAt at xs l)) (On l) xs
   unfolding add
   add-nothing e = rw (eq-eqb count 0 e) (record { answer = ap On (sym (line-for xs l h at)); store = overlaid-same (l .changes) xs (h .held) })
 
   module _ (some : count ≡ 0 → ⊥) where
     pub add-turned : turns (l .changes) (l .colour) ≡ true → l .changes < length xs
-        → Comes (l .width) xs (add (rulesFor (l .width) strict xs) count (lineAt at xs l)) (On (movedFor l count (l .changes + 1))) (set xs (l .changes) (l .position))
+        → Comes (l .width) xs (add (pushRules (l .width) strict xs) count (lineAt at xs l)) (On (movedFor l count (l .changes + 1))) (set xs (l .changes) (l .position))
     unfolding add recorded
     add-turned t k =
         rw (ne-eqb count 0 some, turning ∙ t, le-leb (length (take (l .changes) xs ++ l .position ∷ [])) (length xs) fits)
@@ -139,7 +139,7 @@ module _ (xs : List ℕ) (l : Line) (h : Holds xs l) (count : ℕ) (strict : Boo
         fits = omega (arith, size)
 
     pub add-full : turns (l .changes) (l .colour) ≡ true → length xs ≤ l .changes
-        → Comes (l .width) xs (add (rulesFor (l .width) strict xs) count (lineAt at xs l)) (Stop 4 l) xs
+        → Comes (l .width) xs (add (pushRules (l .width) strict xs) count (lineAt at xs l)) (Stop 4 l) xs
     unfolding add recorded
     add-full t k =
         rw (ne-eqb count 0 some, turning ∙ t, lt-leb (length (take (l .changes) xs ++ l .position ∷ [])) (length xs) over)
@@ -149,7 +149,7 @@ module _ (xs : List ℕ) (l : Line) (h : Holds xs l) (count : ℕ) (strict : Boo
         over = omega (arith, length-append (take (l .changes) xs) (l .position ∷ []), len)
 
     pub add-same : turns (l .changes) (l .colour) ≡ false
-        → Comes (l .width) xs (add (rulesFor (l .width) strict xs) count (lineAt at xs l)) (On (movedFor l count (l .changes))) xs
+        → Comes (l .width) xs (add (pushRules (l .width) strict xs) count (lineAt at xs l)) (On (movedFor l count (l .changes))) xs
     unfolding add recorded
     add-same t =
         rw (ne-eqb count 0 some, turning ∙ t, le-leb (length (take (l .changes) xs)) (length xs) (omega (arith, len, h .held)))

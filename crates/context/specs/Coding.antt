@@ -1,12 +1,14 @@
 -- What one mode code does to a line, given b1 and b2, and what a 2D line does to the array that holds it.
 use mathlib.Core.Path.{_≡_}
-use mathlib.Core.Bool.{Bool, cond}
+use mathlib.Core.Bool.{Bool, true, cond, not, _&&_}
 use mathlib.Core.List.{List, _++_}
-use Prim.Native.Nat.{ℕ, _-_, _≤_}
+use Prim.Native.Nat.{ℕ, _-_, _≤_, _<_}
+use lib.Dec.{eqb}
 use lib.ListN.{length, take, drop}
 use Rattle.rules.specs.Bits.{bitsOf}
+use Rattle.rules.specs.Modes.{horizontal}
 use Rattle.rules.specs.Lines as Rule
-use Rattle.rules.specs.Lines.{Went, code2D, two, readLine}
+use Rattle.rules.specs.Lines.{Went, unlessIdle, code2D, two, readLine}
 use Rattle.rules.specs.Pages.{overlaid}
 use Rattle.rules.proofs.Ascending.{Rising}
 use Rattle.tables.specs.Tables.{colourOf}
@@ -19,7 +21,7 @@ use Rattle.context.specs.declared.step.Step.the-variants as Step
 use Rattle.context.specs.declared.two.Reference.{Reference}
 use Rattle.context.specs.declared.two.Reference.the-variants.{Lent, Kept}
 use Rattle.context.specs.State.{lineAt, turnedFor, rulesFor, changesOf}
-use Rattle.context.specs.Outcome.{placeFor, stepFor, Steps, Reads, Starts}
+use Rattle.context.specs.Outcome.{placeFor, stepFor, Steps, Reads, Starts, runsFrom}
 use Rattle.context.specs.Reference.{Searches}
 
 -- ---- One code
@@ -33,9 +35,22 @@ abbrev pub afterPush : Push → ℕ → ℕ → Bool → Step
 afterPush (Push.On l) at next turns = Step.On (cond turns (turnedFor l) l) next
 afterPush (Push.Stop n l) at next turns = Step.Stop n l (placeFor n at)
 
--- what a code asks besides: b2 does not lie left of the line
+-- a vertical move of nothing is idle in an exact line (A12), unless it is the line's first code
+abbrev pub idleMove : Line → ℕ → Bool → Bool
+idleMove l count exact = exact && (eqb count 0 && not (eqb (l .position) 0 && eqb (l .colour) 0))
+
+-- the two runs, from the bit `next` on, of a horizontal code at a bit
+abbrev pub TwoRuns : List ℕ → List ℕ → Line → ℕ → ℕ → Rules → Step → List ℕ → Type 0
+TwoRuns bytes xs l at next rules r ys =
+    Steps (l .width) xs (unlessIdle (rulesFor (l .width) rules xs) horizontal (lineAt at xs l) (runsFrom (rulesFor (l .width) rules xs) true (bitsOf bytes) (lineAt next xs l))) r ys
+
+abbrev pub ExactRuns : List ℕ → List ℕ → Line → ℕ → ℕ → Rules → Step → List ℕ → Type 0
+ExactRuns bytes xs l at next rules r ys = rules .exact ≡ true → TwoRuns bytes xs l at next rules r ys
+
+-- what a code asks besides: the line is short of its width, and b2 does not lie left of it
 pub record Coding (w b bytes xs : List ℕ) (l : Line) (at b2 : ℕ) : Type 0 where
   pub reads : Reads w b bytes xs l at
+  pub short : l .position < l .width
   pub ahead : l .position ≤ b2
 
 -- what it does, under any reference that has these b1 and b2
@@ -44,7 +59,7 @@ Coded bytes xs l at b1 b2 rules r ys =
     (reference : List ℕ)
     → b1 ≡ Rule.b1 (l .width) reference (l .position) (colourOf (l .colour))
     → b2 ≡ Rule.b2 (l .width) reference (l .position) (colourOf (l .colour))
-    → Steps (l .width) xs (code2D (rulesFor (l .width) (rules .strict) xs) reference (bitsOf bytes) (lineAt at xs l)) r ys
+    → Steps (l .width) xs (code2D (rulesFor (l .width) rules xs) reference (bitsOf bytes) (lineAt at xs l)) r ys
 
 -- ---- A line
 
@@ -75,4 +90,4 @@ pub record StepsAt (base width : ℕ) (xs : List ℕ) (w : Went) (r : Step) (ys 
 
 abbrev pub Lined : List ℕ → List ℕ → List ℕ → ℕ → Reference → ℕ → ℕ → Rules → Step → List ℕ → Type 0
 Lined bytes reference xs base place width at rules r ys =
-    StepsAt base width xs (readLine (rulesFor width (rules .strict) (drop base xs)) (two (referenceIn place base reference xs)) (bitsOf bytes) at) r ys
+    StepsAt base width xs (readLine (rulesFor width rules (drop base xs)) (two (referenceIn place base reference xs)) (bitsOf bytes) at) r ys

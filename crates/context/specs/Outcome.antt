@@ -55,4 +55,4 @@ goesOn false count l = not (eqb (l .position) (l .width))
 
 abbrev pub Runs : List ℕ → List ℕ → Bool → Line → ℕ → Rules → Step → List ℕ → Type 0
 Runs bytes xs two l at rules r ys =
-    Steps (l .width) xs (runsFrom (rulesFor (l .width) (rules .strict) xs) two (bitsOf bytes) (lineAt at xs l)) r ys
+    Steps (l .width) xs (runsFrom (rulesFor (l .width) rules xs) two (bitsOf bytes) (lineAt at xs l)) r ys

@@ -7,12 +7,14 @@ use lib.Dec.{eqb}
 use lib.ListN.{length, take}
 use Rattle.rules.specs.Codes.{Colour, white, black}
 use Rattle.rules.specs.Lines as Rule
-use Rattle.rules.specs.Lines.{Rules, Went, went, failed, add, push}
+use Rattle.rules.specs.Lines.{Went, went, failed, add, push}
 use Rattle.rules.specs.Pages.{overlaid}
+use Rattle.rules.proofs.Grows.{lineIn}
 use Rattle.tables.specs.Tables.{colourOf}
 use Rattle.context.specs.declared.line.Line.{Line}
 use Rattle.context.specs.declared.line.Push.{Push}
 use Rattle.context.specs.declared.line.Push.the-variants.{On, Stop}
+use Rattle.context.specs.declared.step.Rules.{Rules}
 
 -- ---- The two lines
 
@@ -55,8 +57,12 @@ abbrev pub cutFor : Line → Line
 cutFor l = record { width = l .width; position = l .position; changes = l .changes; colour = l .colour; cut = 1 }
 
 -- the rules of a reading into a slice
-abbrev pub rulesFor : ℕ → Bool → List ℕ → Rules
-rulesFor width strict xs = record { width = width; strict = strict; room = length xs }
+abbrev pub rulesFor : ℕ → Rules → List ℕ → Rule.Rules
+rulesFor width rules xs = record { width = width; strict = rules .strict; exact = rules .exact; room = length xs }
+
+-- and of pixels that are pushed on it: what is idle (A12) is a code, and no count
+abbrev pub pushRules : ℕ → Bool → List ℕ → Rule.Rules
+pushRules width strict xs = record { width = width; strict = strict; exact = false; room = length xs }
 
 -- what every function asks of a line and the slice that holds its changes
 pub record Holds (xs : List ℕ) (l : Line) : Type 0 where
@@ -72,11 +78,7 @@ pub record Holds (xs : List ℕ) (l : Line) : Type 0 where
 abbrev pub turns : ℕ → ℕ → Bool
 turns changes colour = not (eqb (changes % 2) colour)
 
--- the line of an outcome, whether it goes on or fails, and its changes
-abbrev pub lineIn : Went → Rule.Line
-lineIn (went s) = s
-lineIn (failed n place s) = s
-
+-- the changes of an outcome, whether the line goes on or fails
 abbrev pub changesOf : Went → List ℕ
 changesOf w = lineIn w .changes
 
@@ -96,7 +98,7 @@ pub record Comes (width : ℕ) (xs : List ℕ) (w : Went) (r : Push) (ys : List 
 
 -- whatever bit the line stands at, and whatever place a fault would have
 abbrev pub Added : List ℕ → Line → ℕ → Push → List ℕ → Type 0
-Added xs l count r ys = (strict : Bool) (at : ℕ) → Comes (l .width) xs (add (rulesFor (l .width) strict xs) count (lineAt at xs l)) r ys
+Added xs l count r ys = (strict : Bool) (at : ℕ) → Comes (l .width) xs (add (pushRules (l .width) strict xs) count (lineAt at xs l)) r ys
 
 abbrev pub Pushes : List ℕ → Line → ℕ → Bool → Push → List ℕ → Type 0
-Pushes xs l count strict r ys = (at place : ℕ) → Comes (l .width) xs (push (rulesFor (l .width) strict xs) place count (lineAt at xs l)) r ys
+Pushes xs l count strict r ys = (at place : ℕ) → Comes (l .width) xs (push (pushRules (l .width) strict xs) place count (lineAt at xs l)) r ys

@@ -76,7 +76,7 @@ pub fn decode_1d_line<'a>(
     rules: Rules,
 ) -> Step
     requires { ⌜ Starts (now white) (now black) (now src) width at ⌝ }
-    ensures { λ r. ⌜ Steps width (now (changes .entry)) (readLine (rulesFor width (rules .strict) (now (changes .entry))) one (bitsOf (now (src .entry))) at) r (now (changes .exit)) ⌝ }
+    ensures { λ r. ⌜ Steps width (now (changes .entry)) (readLine (rulesFor width rules (now (changes .entry))) one (bitsOf (now (src .entry))) at) r (now (changes .exit)) ⌝ }
 {
     runs(
         white,

@@ -3,8 +3,10 @@ use crate::line::Line;
 ghost use mathlib.Core.Path.{_≡_};
 ghost use Rattle.context.specs.Outcome.{placeFor};
 
+// `exact` comes with `strict` alone (A12).
 pub struct Rules {
     pub strict: bool,
+    pub exact: bool,
 }
 
 // The line and the bit after; or the number of the fault, the line so far, whose `changes` says how many it has recorded, and the fault's

@@ -12,12 +12,11 @@ use crate::step::Rules;
 use crate::step::Step;
 use codes::mode;
 use codes::mode::Mode;
-ghost use mathlib.Core.Bool.{true};
 ghost use mathlib.Core.Path.{_≡_};
 ghost use Rattle.tables.specs.Tables.{colourOf};
-ghost use Rattle.context.specs.Outcome.{Reads, Runs};
+ghost use Rattle.context.specs.Outcome.{Reads};
 ghost use Rattle.context.specs.Reference.{Finds};
-ghost use Rattle.context.specs.Coding.{Coloured, afterPush, Coding, Coded, referenceIn, Seeks, Lines, Lined};
+ghost use Rattle.context.specs.Coding.{Coloured, afterPush, idleMove, ExactRuns, TwoRuns, Coding, Coded, referenceIn, Seeks, Lines, Lined};
 
 // What a push makes of the code that began at `at` and ends at `next`; vertical mode turns the colour, pass mode keeps it.
 fn after_push(push: Push, at: usize, next: usize, turns: bool) -> Step
@@ -35,6 +34,47 @@ fn after_push(push: Push, at: usize, next: usize, turns: bool) -> Step
     }
 }
 
+// A vertical move of nothing is idle. The line's first code is none: it is read at position 0 in white.
+fn is_idle(line: Line, count: u32, exact: bool) -> bool
+    ensures { λ r. ⌜ r ≡ idleMove line count exact ⌝ }
+{
+    if count != 0 {
+        return false;
+    }
+    if !exact {
+        return false;
+    }
+    if line.position != 0 {
+        return true;
+    }
+    line.colour != 0
+}
+
+// The two runs of an exact line. Where both are zero the code is idle, and the line is as it was before it.
+fn exact_runs<'a>(
+    white: &'a [u16; 8192],
+    black: &'a [u16; 8192],
+    src: &[u8],
+    changes: &mut [u32],
+    line: Line,
+    at: usize,
+    next: usize,
+    rules: Rules,
+) -> Step
+    requires { ⌜ Reads (now white) (now black) (now src) (now changes) line next ⌝ }
+    ensures { λ r. ⌜ ExactRuns (now (src .entry)) (now (changes .entry)) line at next rules r (now (changes .exit)) ⌝ }
+{
+    match runs::runs(white, black, src, changes, true, line, next, rules) {
+        Step::Stop(number, stopped, place) => Step::Stop(number, stopped, place),
+        Step::On(after, end) => {
+            if after.position == line.position {
+                return Step::Stop(1, line, at);
+            }
+            Step::On(after, end)
+        }
+    }
+}
+
 // A function of its own, so that the line is put into memory for `runs` only where a code is horizontal, and not at every code.
 fn horizontal<'a>(
     white: &'a [u16; 8192],
@@ -43,12 +83,16 @@ fn horizontal<'a>(
     changes: &mut [u32],
     line: Line,
     at: usize,
+    next: usize,
     rules: Rules,
 ) -> Step
-    requires { ⌜ Reads (now white) (now black) (now src) (now changes) line at ⌝ }
-    ensures { λ r. ⌜ Runs (now (src .entry)) (now (changes .entry)) true line at rules r (now (changes .exit)) ⌝ }
+    requires { ⌜ Reads (now white) (now black) (now src) (now changes) line next ⌝ }
+    ensures { λ r. ⌜ TwoRuns (now (src .entry)) (now (changes .entry)) line at next rules r (now (changes .exit)) ⌝ }
 {
-    runs::runs(white, black, src, changes, true, line, at, rules)
+    if rules.exact {
+        return exact_runs(white, black, src, changes, line, at, next, rules);
+    }
+    runs::runs(white, black, src, changes, true, line, next, rules)
 }
 
 fn code_2d<'a>(
@@ -67,7 +111,7 @@ fn code_2d<'a>(
 {
     match mode::read_mode(src, at) {
         Mode::Bad(e) => Step::Stop(error::number(e), line, at),
-        Mode::Horizontal(next) => horizontal(white, black, src, changes, line, next, rules),
+        Mode::Horizontal(next) => horizontal(white, black, src, changes, line, at, next, rules),
         Mode::Pass(next) => {
             let pushed = line::push_pixels(changes, line, b2 - line.position, rules.strict);
             after_push(pushed, at, next, false)
@@ -75,6 +119,9 @@ fn code_2d<'a>(
         Mode::Vertical(offset, next) => match offset::moved(b1, offset, line.position) {
             Move::Over => Step::Stop(3, line, at),
             Move::By(count) => {
+                if is_idle(line, count, rules.exact) {
+                    return Step::Stop(1, line, at);
+                }
                 let pushed = line::push_pixels(changes, line, count, rules.strict);
                 after_push(pushed, at, next, true)
             }

@@ -9,7 +9,7 @@ use Rattle.context.proofs.runs.runs.Statement.{statement}
 use Rattle.context.proofs.runs.runs.Tie as tie
 
 abbrev Inv-loop : tie.InvT-loop
-Inv-loop white black src changes₀ two at rules line₀ buffer₀ count₀ changes line buffer count = Going (record { bytes = src; xs = changes₀; two = two; strict = rules .strict; line = line₀; at = at }) count line buffer changes
+Inv-loop white black src changes₀ two at rules line₀ buffer₀ count₀ changes line buffer count = Going (record { bytes = src; xs = changes₀; two = two; rules = rules; line = line₀; at = at }) count line buffer changes
 
 abbrev μ-loop : tie.MeasureT-loop
 μ-loop white black src changes₀ two at rules line₀ buffer₀ count₀ changes line buffer count = 8 * length src - buffer .at
