@@ -52,6 +52,7 @@ pub(crate) fn decode<'a>(
     let base = state.base;
     let rules = Rules {
         strict: settings.strict,
+        exact: settings.exact,
     };
     match kind_at(src, settings, at) {
         Kind::NoTag => {

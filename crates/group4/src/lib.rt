@@ -93,6 +93,7 @@ pub fn row<'a>(
         eols.at,
         Rules {
             strict: settings.strict,
+            exact: settings.exact,
         },
     ) {
         Step::On(line, at) => {

@@ -8,10 +8,11 @@ use lib.Dec.{eqb, leb}
 use lib.ListN.{length}
 use borrow.Author.Tests.{leb-true, leb-false, eqb-false}
 use Rattle.rules.specs.Lines.{Went, went, failed, push}
+use Rattle.rules.proofs.Grows.{lineIn}
 use Rattle.context.specs.declared.line.Line.{Line}
 use Rattle.context.specs.declared.line.Push.{Push}
 use Rattle.context.specs.declared.line.Push.the-variants.{On, Stop}
-use Rattle.context.specs.State.{lineAt, lineFor, rulesFor, Holds, lineIn, pushFor, Pushes}
+use Rattle.context.specs.State.{lineAt, lineFor, pushRules, Holds, pushFor, Pushes}
 use Rattle.lent.specs.Lent.{tested, numberOf, LendsAt, Lends}
 
 -- no number but 0 says that both tests were passed
@@ -75,7 +76,7 @@ module _ (xs : List ℕ) (l : Line) (count : ℕ) (strict : Bool) where
   pub lends-pushed : tested (length xs) l ≡ 0 → {r : Push} (t : Push) (ys : List ℕ) → Pushes xs l count strict r ys → r ≡ t → Lends xs l count strict (numberIn t) (lineOf t) ys
   lends-pushed e {r} t ys p same =
       subst (λ (n : ℕ). LendsAt n xs l count strict (numberIn t) (lineOf t) ys) (sym e) (λ at place.
-      let w = push (rulesFor (l .width) strict xs) place count (lineAt at xs l) in
+      let w = push (pushRules (l .width) strict xs) place count (lineAt at xs l) in
       let comes = p at place in
       record {
         number = ap numberIn (sym same ∙ comes .answer) ∙ number-of w;

@@ -7,8 +7,9 @@ use lib.Dec.{leb}
 use lib.ListN.{length}
 use Rattle.rules.specs.Lines.{Went, went, failed, push}
 use Rattle.rules.specs.Pages.{overlaid, tooWide}
+use Rattle.rules.proofs.Grows.{lineIn}
 use Rattle.context.specs.declared.line.Line.{Line}
-use Rattle.context.specs.State.{lineAt, lineFor, rulesFor, lineIn, changesOf}
+use Rattle.context.specs.State.{lineAt, lineFor, pushRules, changesOf}
 
 -- "a position past the width, a count past its array" is 8, and so is a colour or a flag that is none; 0 is a line that pixels may be pushed on
 abbrev pub tested : ℕ → Line → ℕ
@@ -37,7 +38,7 @@ pub record Refuses (n : ℕ) (xs : List ℕ) (l : Line) (r : ℕ) (m : Line) (ys
 
 -- after the tests; whatever bit the line stands at, and whatever place a fault would have
 abbrev pub LendsAt : ℕ → List ℕ → Line → ℕ → Bool → ℕ → Line → List ℕ → Type 0
-LendsAt zero xs l count strict r m ys = (at place : ℕ) → Leaves (l .width) xs (push (rulesFor (l .width) strict xs) place count (lineAt at xs l)) r m ys
+LendsAt zero xs l count strict r m ys = (at place : ℕ) → Leaves (l .width) xs (push (pushRules (l .width) strict xs) place count (lineAt at xs l)) r m ys
 LendsAt (suc n) xs l count strict r m ys = Refuses (suc n) xs l r m ys
 
 abbrev pub Lends : List ℕ → Line → ℕ → Bool → ℕ → Line → List ℕ → Type 0
