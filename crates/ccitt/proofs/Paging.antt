@@ -1,7 +1,7 @@
 -- One turn of the page loop is one step of the page machine: where the store and its ends stand between rows, and what each turn makes of them.
 -- Assumes nothing.
 use mathlib.Core.Path.{_≡_, refl, sym, ap, ap₂, _∙_, subst, subst₂}
-use mathlib.Core.Bool.{Bool, false, cond}
+use mathlib.Core.Bool.{Bool, true, false, cond}
 use mathlib.Core.List.{List, [], _∷_, _++_, append-assoc}
 use Prim.Native.Nat.{ℕ, suc, _+_, _*_, _-_, _≤_, _<_}
 use native.Mathlib.Omega.{arith}
@@ -16,7 +16,7 @@ use Rattle.rules.specs.Rows.{Encoding, Settings, RowOut, row, stop}
 use Rattle.rules.specs.Group4.{row4}
 use Rattle.rules.specs.Group3.{row3}
 use Rattle.rules.specs.Pages as Page
-use Rattle.rules.specs.Pages.{mostBytes, entries, noneKept, withRow, endWith, rowOf, rowsLeft, pageOf, readPage, decode, placesIn, overlaid, joined, endsFrom, changesAfter, endsAfter, marksAfter}
+use Rattle.rules.specs.Pages.{mostBytes, entries, noneKept, withRow, endWith, rowOf, rowsLeft, pageOf, readPage, tooFew, shortOf, unlessShort, decode, placesIn, overlaid, joined, endsFrom, changesAfter, endsAfter, marksAfter}
 use Rattle.rules.proofs.Machine.{ends-more, ends-done}
 use Rattle.rules.proofs.Bits.{length-bitsOf}
 use Rattle.rules.proofs.Ascending.{Rising}
@@ -36,7 +36,7 @@ use Rattle.rows.specs.declared.EncodingMode.the-variants.{Group4, «Group3_1D»
 use Rattle.rows.specs.Settings.{encodingOf, settingsOf}
 use Rattle.group3.specs.Tags.{taggingOf}
 use Rattle.rows.specs.Between.{stateOf, rowFor, changesIn, RowFrom, RowGives}
-use Rattle.ccitt.specs.Decode.{Rowed, counted, behindRow, Behind, PageFrom, Gives, Reads}
+use Rattle.ccitt.specs.Decode.{Rowed, counted, behindRow, Behind, PageFrom, Gives, Reads, strictFor, shortFor}
 
 -- ---- What an answer of the code says of the outcome
 
@@ -352,6 +352,15 @@ module _ (bytes : List ℕ) (settings : DecodeSettings) (xs es ms : List ℕ) wh
       subst (λ (a : Page.Answer). Gives a xs es ms (answerOf (Page.refusal n)) xs es ms) (sym e)
       (record { answer = refl; changes = sym (overlaid-nothing xs); ends = sym (overlaid-nothing es); marks = sym (overlaid-nothing ms) })
 
+  -- an answer that is short of rows keeps the arrays
+  short-gives : (a : Page.Answer) {r : Answer} {ys fs ns : List ℕ} → Gives a xs es ms r ys fs ns → Gives (unlessShort (settingsOf settings) a) xs es ms (shortFor settings r) ys fs ns
+  unfolding changesAfter endsAfter marksAfter
+  short-gives a {r} {ys} {fs} {ns} g = subst (λ (s : Answer). Gives (unlessShort (settingsOf settings) a) xs es ms (shortFor settings s) ys fs ns) (sym (g .answer)) (tests (tooFew (settingsOf settings) (a .number) (length (a .rows))))
+    where
+      tests : (b : Bool) → Gives (cond b (shortOf a) a) xs es ms (cond b (answerOf (shortOf a)) (answerOf a)) ys fs ns
+      tests true = record { answer = refl; changes = g .changes; ends = g .ends; marks = g .marks }
+      tests false = record { answer = refl; changes = g .changes; ends = g .ends; marks = g .marks }
+
   pub refused-6 : settings .columns ≡ 4294967295 → Gives said xs es ms (answerOf (Page.refusal 6)) xs es ms
   unfolding decode
   refused-6 e = refused 6 (rw (eq-eqb _ _ e, decode))
@@ -366,11 +375,14 @@ module _ (bytes : List ℕ) (settings : DecodeSettings) (xs es ms : List ℕ) wh
       unfolding decode
       no-columns e = refused 0 (rw (ne-eqb _ _ narrow, le-ltb _ _ size, eq-eqb _ _ e, decode))
 
-      pub page-read : (settings .columns ≡ 0 → ⊥) → {r : Answer} {ys fs ns : List ℕ} → Reads bytes settings xs es ms r ys fs ns → Gives said xs es ms r ys fs ns
+      pub page-read : (settings .columns ≡ 0 → ⊥) → {r : Answer} {ys fs ns : List ℕ} → Reads bytes (strictFor settings) xs es ms r ys fs ns → Gives said xs es ms (shortFor settings r) ys fs ns
       unfolding decode
-      page-read ne {r} {ys} {fs} {ns} g = subst (λ (a : Page.Answer). Gives a xs es ms r ys fs ns) (sym reads) g
+      page-read ne {r} {ys} {fs} {ns} g = subst (λ (a : Page.Answer). Gives a xs es ms (shortFor settings r) ys fs ns) (sym reads) (short-gives page g)
         where
-          reads : said ≡ readPage (settingsOf settings) (bitsOf bytes) (length xs) (placesIn es ms)
+          page : Page.Answer
+          page = readPage (settingsOf (strictFor settings)) (bitsOf bytes) (length xs) (placesIn es ms)
+
+          reads : said ≡ unlessShort (settingsOf settings) page
           reads = rw (ne-eqb _ _ narrow, le-ltb _ _ size, ne-eqb _ _ ne, decode)
 
 -- ---- One row, by the encoding

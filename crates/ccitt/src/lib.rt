@@ -7,7 +7,7 @@ use rows::State;
 ghost use mathlib.Core.Path.{_≡_};
 ghost use Prim.Native.Nat.{min};
 ghost use Rattle.rows.specs.Between.{RowFrom};
-ghost use Rattle.ccitt.specs.Decode.{Rowed, counted, behindRow, Behind, PageFrom, Reads, Decodes};
+ghost use Rattle.ccitt.specs.Decode.{Rowed, counted, behindRow, Behind, PageFrom, Reads, strictFor, shortFor, Decodes};
 
 // What one row does, by the encoding.
 fn row<'a>(
@@ -117,6 +117,50 @@ fn page<'a>(
     }
 }
 
+// How a page is read: exact implies strict (A12).
+fn strict_if_exact(settings: DecodeSettings) -> DecodeSettings
+    ensures { λ r. ⌜ r ≡ strictFor settings ⌝ }
+{
+    DecodeSettings {
+        columns: settings.columns,
+        rows: settings.rows,
+        end_of_block: settings.end_of_block,
+        end_of_line: settings.end_of_line,
+        rows_are_byte_aligned: settings.rows_are_byte_aligned,
+        encoding: settings.encoding,
+        strict: if settings.exact {
+            true
+        } else {
+            settings.strict
+        },
+        exact: settings.exact,
+    }
+}
+
+// A page that an exact reading ends with too few rows keeps them, and answers 14 with no bytes.
+fn unless_short(settings: DecodeSettings, answer: Answer) -> Answer
+    ensures { λ r. ⌜ r ≡ shortFor settings answer ⌝ }
+{
+    if !settings.exact {
+        return answer;
+    }
+    if answer.number != 0 {
+        return answer;
+    }
+    if settings.rows as u64 <= answer.rows {
+        return answer;
+    }
+    Answer {
+        number: 14,
+        mark: answer.mark,
+        rows: answer.rows,
+        entries: answer.entries,
+        loose: answer.loose,
+        bytes: 0,
+        place: 0,
+    }
+}
+
 // A page into lent arrays. The lookup tables are made once, here: a constant is built anew wherever it is used.
 pub fn decode(
     src: &[u8],
@@ -138,5 +182,7 @@ pub fn decode(
     }
     let white = tables::white_lookup();
     let black = tables::black_lookup();
-    page(&white, &black, src, settings, changes, ends, marks)
+    let reading = strict_if_exact(settings);
+    let answer = page(&white, &black, src, reading, changes, ends, marks);
+    unless_short(settings, answer)
 }

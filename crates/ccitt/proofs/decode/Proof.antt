@@ -29,8 +29,14 @@ white-lookup-requires c κs = search needs
 black-lookup-requires : tie.Need-black-lookup-requires
 black-lookup-requires c κs = search needs
 
+strict-if-exact-requires : tie.Need-strict-if-exact-requires
+strict-if-exact-requires c κs = search needs
+
 page-requires : tie.Need-page-requires
-page-requires c κs = search needs
+page-requires c κs = rw (c .before .before .before .before .before .strict-if-exact .ensures) (search needs)
+
+unless-short-requires : tie.Need-unless-short-requires
+unless-short-requires c κs = search needs
 
 same-length : tie.Need-same-length
 same-length c = search needs
@@ -42,7 +48,10 @@ same-length-3 : tie.Need-same-length-3
 same-length-3 c = search needs
 
 returns-4 : tie.Need-returns-4
-returns-4 c = let s = c .before .before .before .before .before .before .before .before .before .before .before .before .before .before .before .before .before .before .before .before .before .before .before .args in page-read (now (s .src)) (s .settings) (now (s .changes)) (now (s .ends)) (now (s .marks)) (c .before .before .before .before .before .before .before .before .before .before .before .before .before .before .before .before .before .if1 .left) (c .before .before .before .before .before .before .before .before .before .before .before .before .before .before .before .before .if2 .left) (c .before .before .before .before .before .before .before .before .before .before .before .before .before .before .if3 .left) (c .before .before .before .before .before .before .page .ensures)
+returns-4 c =
+    let s = c .before .before .before .before .before .before .before .before .before .before .before .before .before .before .before .before .before .before .before .before .before .before .before .before .before .args in
+    rw (c .unless-short .ensures)
+    (page-read (now (s .src)) (s .settings) (now (s .changes)) (now (s .ends)) (now (s .marks)) (c .before .before .before .before .before .before .before .before .before .before .before .before .before .before .before .before .before .before .before .if1 .left) (c .before .before .before .before .before .before .before .before .before .before .before .before .before .before .before .before .before .before .if2 .left) (c .before .before .before .before .before .before .before .before .before .before .before .before .before .before .before .before .if3 .left) (rw (c .before .before .before .before .before .before .before .before .before .before .before .before .before .strict-if-exact .ensures) at (c .before .before .before .before .before .before .before .page .ensures)))
 
 pub decode-spec : {M : Type 1} → statement M
 decode-spec =
@@ -56,7 +65,9 @@ decode-spec =
     returns-3
     white-lookup-requires
     black-lookup-requires
+    strict-if-exact-requires
     page-requires
+    unless-short-requires
     same-length
     same-length-2
     same-length-3
