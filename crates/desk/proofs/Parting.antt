@@ -1,17 +1,14 @@
 -- Laws of numbers that are parted by tabs: the text tells the numbers, and reading it goes number by number. Assumes nothing.
 use mathlib.Core.Path.{_≡_, refl, sym, ap, ap₂, _∙_}
-use mathlib.Core.Bool.{Bool, true, false, cond}
 use mathlib.Core.List.{List, [], _∷_, _++_, append-assoc}
-use Prim.Native.Nat.{ℕ, suc, _+_, _≤_, _<_}
+use Prim.Native.Nat.{ℕ, suc, _+_, _-_, _≤_, _<_}
 use native.Mathlib.Omega.{arith}
-use lib.Dec.{ltb}
-use lib.ListN.{length, getD, take, drop, set, length-set, length-drop, drop-of-length-le}
-use lib.Seq.{getD-drop, getD-take, getD-set-same, take-take, take-set-le}
 use native.Mathlib.Nat.{add-zero}
-use borrow.Author.Tests.{lt-ltb, le-ltb}
+use lib.ListN.{length, getD, drop, set, replicate, length-append, length-replicate}
+use lib.Seq.{getD-drop, set-at}
 use Rattle.desk.specs.Text.{tab, newline, decimal}
-use Rattle.desk.specs.Line.{mark, parted, Held}
-use Rattle.desk.specs.Reading.{Stops, NumberAt, markAt}
+use Rattle.desk.specs.Line.{mark, parted, filled, Held}
+use Rattle.desk.specs.Reading.{Stops, NumberAt}
 use Rattle.desk.specs.declared.settings.Number.the-variants.{Is, Missing}
 use Rattle.desk.proofs.Digits.{same-number}
 use Rattle.desk.proofs.Spelling.{inside, split}
@@ -25,130 +22,144 @@ pub parted-cons : (n : ℕ) (ns rest : List ℕ) → parted (n ∷ ns) ++ rest �
 unfolding parted
 parted-cons n ns rest = append-assoc (decimal n) (mark ns ∷ parted ns) rest
 
--- as many numbers in the same bytes are the same numbers
-pub parted-unique : (ms ns xs ys : List ℕ) → length ms ≡ length ns → parted ms ++ xs ≡ parted ns ++ ys → (ms ≡ ns) × (xs ≡ ys)
+same-first : (m n : ℕ) (ms ns xs ys : List ℕ) → parted (m ∷ ms) ++ xs ≡ parted (n ∷ ns) ++ ys → (m ≡ n) × (mark ms ∷ (parted ms ++ xs) ≡ mark ns ∷ (parted ns ++ ys))
+same-first m n ms ns xs ys e =
+    same-number m n (mark ms ∷ (parted ms ++ xs)) (mark ns ∷ (parted ns ++ ys)) (mark-stops ms (parted ms ++ xs)) (mark-stops ns (parted ns ++ ys)) (sym (parted-cons m ms xs) ∙ e ∙ parted-cons n ns ys)
+
+-- Two lines in the same bytes have the same numbers: a tab says that another one follows, and a line feed that none does.
+pub parted-once : (m n : ℕ) (ms ns xs ys : List ℕ) → parted (m ∷ ms) ++ xs ≡ parted (n ∷ ns) ++ ys → (m ∷ ms ≡ n ∷ ns) × (xs ≡ ys)
 unfolding parted
-parted-unique [] [] xs ys l e = (refl, e)
-parted-unique [] (n ∷ ns) xs ys l e = absurd (omega arith)
-parted-unique (m ∷ ms) [] xs ys l e = absurd (omega arith)
-parted-unique (m ∷ ms) (n ∷ ns) xs ys l e =
-    let s = same-number m n (mark ms ∷ (parted ms ++ xs)) (mark ns ∷ (parted ns ++ ys)) (mark-stops ms (parted ms ++ xs)) (mark-stops ns (parted ns ++ ys)) (sym (parted-cons m ms xs) ∙ e ∙ parted-cons n ns ys) in
-    let t : parted ms ++ xs ≡ parted ns ++ ys = tails (s .1) in
-    let r = parted-unique ms ns xs ys (omega arith) t in
+parted-once m n [] [] xs ys e = let s = same-first m n [] [] xs ys e in (ap (λ (a : ℕ). a ∷ []) (s .0), (let q = s .1 in let t : xs ≡ ys = cc in t))
+parted-once m n [] (j ∷ ns) xs ys e = let q = same-first m n [] (j ∷ ns) xs ys e .1 in absurd (let t : newline ≡ tab = cc in omega arith)
+parted-once m n (i ∷ ms) [] xs ys e = let q = same-first m n (i ∷ ms) [] xs ys e .1 in absurd (let t : tab ≡ newline = cc in omega arith)
+parted-once m n (i ∷ ms) (j ∷ ns) xs ys e =
+    let s = same-first m n (i ∷ ms) (j ∷ ns) xs ys e in
+    let q = s .1 in
+    let r = parted-once i j ms ns xs ys (let t : parted (i ∷ ms) ++ xs ≡ parted (j ∷ ns) ++ ys = cc in t) in
     (ap₂ (λ (a : ℕ) (l : List ℕ). a ∷ l) (s .0) (r .0), r .1)
-  where
-    tails : mark ms ∷ (parted ms ++ xs) ≡ mark ns ∷ (parted ns ++ ys) → parted ms ++ xs ≡ parted ns ++ ys
-    tails q = cc
 
--- ---- Number by number, of seven
-
--- the byte behind the number of place k
-pub tab-at : (k : ℕ) → k < 6 → tab ≡ markAt k
-tab-at k h = rw (lt-ltb k 6 h)
-
-pub newline-at : (k : ℕ) → 6 ≤ k → newline ≡ markAt k
-newline-at k h = rw (le-ltb k 6 h)
-
-at-mark : (k : ℕ) (ns : List ℕ) → k + suc (length ns) ≡ 7 → mark ns ≡ markAt k
-at-mark k [] h = newline-at k (omega arith)
-at-mark k (n ∷ ns) h = tab-at k (omega arith)
+-- ---- Number by number
 
 -- numbers that can all be held
 unfoldable pub AllHeld : List ℕ → Type 0
 AllHeld ns = (i : ℕ) → Held (getD ns i 0)
 
--- the numbers from place k on do not stand in the bytes from a place on
+-- behind k numbers, the others of a line of seven or eight do not stand in the bytes from a place on
 abbrev pub Nowhere : List ℕ → ℕ → ℕ → Type 0
-Nowhere bytes at k = (ns rest : List ℕ) → k + length ns ≡ 7 → AllHeld ns → drop at bytes ≡ parted ns ++ rest → ⊥
+Nowhere bytes at k = (n : ℕ) (ns rest : List ℕ) → 7 ≤ k + suc (length ns) → k + suc (length ns) ≤ 8 → AllHeld (n ∷ ns) → drop at bytes ≡ parted (n ∷ ns) ++ rest → ⊥
 
--- k numbers are read: whatever is found from here on, or not found, holds of the whole
+-- k numbers are read, and another one follows: whatever is found from here on, or not found, holds of the whole
 pub record Reading (bytes : List ℕ) (at k : ℕ) (read : List ℕ) : Type 0 where
-  pub seven : length read ≡ 7
-  pub few : k ≤ 7
+  pub numbers : List ℕ
+  pub count : length numbers ≡ k
+  pub array : read ≡ filled numbers
   pub inside : at ≤ length bytes
-  pub right : (ns rest : List ℕ) → length ns ≡ 7 → take k ns ≡ take k read → drop at bytes ≡ parted (drop k ns) ++ rest → bytes ≡ parted ns ++ rest
+  pub right : (n : ℕ) (ns rest : List ℕ) → drop at bytes ≡ parted (n ∷ ns) ++ rest → bytes ≡ parted (numbers ++ n ∷ ns) ++ rest
   pub wrong : Nowhere bytes at k → Nowhere bytes 0 0
 
-pub none-read : (bytes read : List ℕ) → length read ≡ 7 → Reading bytes 0 0 read
-none-read bytes read h = record { seven = h; few = omega arith; inside = omega arith; right = λ ns rest l f e. e; wrong = λ f. f }
+pub none-read : (bytes : List ℕ) → Reading bytes 0 0 (replicate 8 0)
+none-read bytes = record { numbers = []; count = refl; array = refl; inside = omega arith; right = λ n ns rest e. e; wrong = λ f. f }
 
-pub all-read : (bytes : List ℕ) (at k : ℕ) (read : List ℕ) → Reading bytes at k read → 7 ≤ k → bytes ≡ parted read ++ drop at bytes
-unfolding parted
-all-read bytes at k read r h =
-    let l : length read ≤ k = omega (arith, r .seven) in
-    r .right read (drop at bytes) (r .seven) refl (sym (ap (λ (ns : List ℕ). parted ns ++ drop at bytes) (drop-of-length-le read l)))
+-- a whole line is read
+pub record Whole (bytes : List ℕ) (at : ℕ) (read : List ℕ) : Type 0 where
+  pub numbers : List ℕ
+  pub seven : 7 ≤ length numbers
+  pub eight : length numbers ≤ 8
+  pub array : read ≡ filled numbers
+  pub inside : at ≤ length bytes
+  pub text : bytes ≡ parted numbers ++ drop at bytes
 
-module _ (bytes : List ℕ) (at k : ℕ) (read : List ℕ) (r : Reading bytes at k read) (h : k < 7) where
-  -- the numbers that are left begin with one
-  first-of : ((n : ℕ) (ns rest : List ℕ) → k + suc (length ns) ≡ 7 → Held n → AllHeld ns → drop at bytes ≡ decimal n ++ mark ns ∷ (parted ns ++ rest) → ⊥) → Nowhere bytes at k
-  unfolding AllHeld
-  first-of f [] rest l held e = omega arith
-  first-of f (n ∷ ns) rest l held e = f n ns rest l (held 0) (λ i. held (suc i)) (e ∙ parted-cons n ns rest)
+pub whole-long : {bytes : List ℕ} {at : ℕ} {read : List ℕ} → Whole bytes at read → length read ≡ 8
+whole-long w =
+    let ns = w .numbers in
+    omega (arith, ap length (w .array), w .eight, length-append ns (replicate (8 - length ns) 0), length-replicate {A = ℕ} (8 - length ns) 0)
+
+-- the next number goes into the array behind those that are read
+fill-next : (ns : List ℕ) (k n : ℕ) → length ns ≡ k → k < 8 → set (filled ns) k n ≡ filled (ns ++ n ∷ [])
+fill-next ns k n e h =
+    let j : 8 - length ns ≡ suc (8 - length (ns ++ n ∷ [])) = omega (arith, length-append ns (n ∷ [])) in
+    ap (λ (i : ℕ). set (ns ++ replicate i 0) k n) j ∙ set-at ns 0 (replicate (8 - length (ns ++ n ∷ [])) 0) n k e ∙ sym (append-assoc ns (n ∷ []) (replicate (8 - length (ns ++ n ∷ [])) 0))
+
+module _ (bytes : List ℕ) (at k : ℕ) (read : List ℕ) (r : Reading bytes at k read) where
+  -- no line has nine
+  pub ninth : 8 ≤ k → Nowhere bytes 0 0
+  ninth h = r .wrong (λ n ns rest few many held e. omega arith)
 
   pub number-missing : NumberAt bytes at Missing → Nowhere bytes 0 0
-  number-missing f = r .wrong (first-of (λ n ns rest l held all e. f n (mark ns ∷ (parted ns ++ rest)) held (mark-stops ns (parted ns ++ rest)) e))
+  unfolding AllHeld
+  number-missing f =
+      r .wrong (λ n ns rest few many held e. f n (mark ns ∷ (parted ns ++ rest)) (held 0) (mark-stops ns (parted ns ++ rest)) (e ∙ parted-cons n ns rest))
 
   module _ (n next : ℕ) (s : NumberAt bytes at (Is n next)) where
     -- what begins the bytes is the number that was read, and the byte behind it
-    same-first : (m : ℕ) (ns rest : List ℕ) → drop at bytes ≡ decimal m ++ mark ns ∷ (parted ns ++ rest) → drop next bytes ≡ mark ns ∷ (parted ns ++ rest)
-    same-first m ns rest e =
-        same-number n m (drop next bytes) (mark ns ∷ (parted ns ++ rest)) (rw (getD-drop, add-zero) (s .1)) (mark-stops ns (parted ns ++ rest)) (sym (s .0 .text) ∙ e) .1
+    behind-first : (m : ℕ) (ns rest : List ℕ) → drop at bytes ≡ parted (m ∷ ns) ++ rest → drop next bytes ≡ mark ns ∷ (parted ns ++ rest)
+    behind-first m ns rest e =
+        same-number n m (drop next bytes) (mark ns ∷ (parted ns ++ rest)) (rw (getD-drop, add-zero) (s .1)) (mark-stops ns (parted ns ++ rest)) (sym (s .0 .text) ∙ e ∙ parted-cons m ns rest) .1
 
-    first-byte : (b : ℕ) (rest : List ℕ) → drop next bytes ≡ b ∷ rest → getD bytes next 0 ≡ b
-    first-byte b rest e = sym (getD-drop next bytes 0 0 ∙ ap (λ (i : ℕ). getD bytes i 0) (add-zero next)) ∙ ap (λ (l : List ℕ). getD l 0 0) e
+    byte-behind : (m : ℕ) (ns rest : List ℕ) → drop at bytes ≡ parted (m ∷ ns) ++ rest → getD bytes next 0 ≡ mark ns
+    byte-behind m ns rest e = sym (getD-drop next bytes 0 0 ∙ ap (λ (i : ℕ). getD bytes i 0) (add-zero next)) ∙ ap (λ (l : List ℕ). getD l 0 0) (behind-first m ns rest e)
 
-    pub mark-missing : (getD bytes next 0 ≡ markAt k → ⊥) → Nowhere bytes 0 0
-    mark-missing f = r .wrong (first-of (λ m ns rest l held all e. f (first-byte (mark ns) (parted ns ++ rest) (same-first m ns rest e) ∙ at-mark k ns l)))
+    pub mark-missing : (getD bytes next 0 ≡ newline → ⊥) → (getD bytes next 0 ≡ tab → ⊥) → Nowhere bytes 0 0
+    mark-missing f g = r .wrong (λ m ns rest few many held e. cases ns (byte-behind m ns rest e))
+      where
+        cases : (ns : List ℕ) → getD bytes next 0 ≡ mark ns → ⊥
+        cases [] q = f q
+        cases (m ∷ ns) q = g q
 
-    module _ (m : getD bytes next 0 ≡ markAt k) where
-      pub mark-inside : next < length bytes
-      mark-inside = inside bytes next (λ z. tests (ltb k 6) (sym z ∙ m))
-        where
-          tests : (b : Bool) → 0 ≡ cond b tab newline → ⊥
-          tests true e = omega arith
-          tests false e = omega arith
+    -- the array with this number
+    array : k < 8 → set read k n ≡ filled (r .numbers ++ n ∷ [])
+    array h = ap (λ (l : List ℕ). set l k n) (r .array) ∙ fill-next (r .numbers) k n (r .count) h
 
-      behind : drop next bytes ≡ markAt k ∷ drop (next + 1) bytes
-      behind = split bytes next mark-inside ∙ ap (λ (b : ℕ). b ∷ drop (next + 1) bytes) m
+    count : length (r .numbers ++ n ∷ []) ≡ k + 1
+    count = omega (arith, length-append (r .numbers) (n ∷ []), r .count)
 
-      rest-wrong : Nowhere bytes (next + 1) (k + 1) → Nowhere bytes 0 0
-      rest-wrong f = r .wrong (first-of (λ j ns rest l held all e. f ns rest (omega arith) all (tails ns rest (same-first j ns rest e))))
-        where
-          tails : (ns rest : List ℕ) → drop next bytes ≡ mark ns ∷ (parted ns ++ rest) → drop (next + 1) bytes ≡ parted ns ++ rest
-          tails ns rest e = let f : markAt k ∷ drop (next + 1) bytes ≡ mark ns ∷ (parted ns ++ rest) = sym behind ∙ e in cc
+    module _ (b : ℕ) (z : b ≡ 0 → ⊥) (m : getD bytes next 0 ≡ b) where
+      mark-inside : next < length bytes
+      mark-inside = inside bytes next (λ e. z (sym m ∙ e))
 
-      module _ (ns rest : List ℕ) (long : length ns ≡ 7) (f : take (k + 1) ns ≡ take (k + 1) (set read k n)) where
-        kept : getD ns k 0 ≡ n
-        kept =
-            sym (getD-take (k + 1) ns k 0 (omega arith))
-            ∙ ap (λ (l : List ℕ). getD l k 0) f
-            ∙ getD-take (k + 1) (set read k n) k 0 (omega arith)
-            ∙ getD-set-same read k n 0 (omega (arith, r .seven))
+      behind : drop next bytes ≡ b ∷ drop (next + 1) bytes
+      behind = split bytes next mark-inside ∙ ap (λ (x : ℕ). x ∷ drop (next + 1) bytes) m
 
-        front : take k ns ≡ take k read
-        front =
-            sym (take-take k (k + 1) ns (omega arith)) ∙ ap (take k) f ∙ take-take k (k + 1) (set read k n) (omega arith) ∙ take-set-le k read k n (omega arith)
+      text : drop at bytes ≡ decimal n ++ b ∷ drop (next + 1) bytes
+      text = s .0 .text ∙ ap (λ (l : List ℕ). decimal n ++ l) behind
 
-        abbrev left : List ℕ
-        left = drop (k + 1) ns
+    -- a line feed ends the line, which is too short,
+    pub line-short : getD bytes next 0 ≡ newline → k + 1 < 7 → Nowhere bytes 0 0
+    line-short m h = r .wrong (λ j ns rest few many held e. cases ns few (byte-behind j ns rest e))
+      where
+        cases : (ns : List ℕ) → 7 ≤ k + suc (length ns) → getD bytes next 0 ≡ mark ns → ⊥
+        cases [] few q = omega arith
+        cases (j ∷ ns) few q = omega (arith, sym m ∙ q)
 
-        numbers : drop k ns ≡ n ∷ left
-        numbers = split ns k (omega arith) ∙ ap (λ (x : ℕ). x ∷ drop (k + 1) ns) kept
+    -- or whole;
+    pub line-whole : getD bytes next 0 ≡ newline → 7 ≤ k + 1 → k < 8 → Whole bytes (next + 1) (set read k n)
+    unfolding parted
+    line-whole m h l = record {
+      numbers = r .numbers ++ n ∷ [];
+      seven = omega (arith, count);
+      eight = omega (arith, count);
+      array = array l;
+      inside = omega (arith, mark-inside newline (λ z. omega arith) m);
+      text = r .right n [] (drop (next + 1) bytes) (text newline (λ z. omega arith) m ∙ sym (parted-cons n [] (drop (next + 1) bytes)));
+    }
 
-        marks : mark left ≡ markAt k
-        marks = at-mark k left (omega (arith, length-drop (k + 1) ns))
+    -- and behind a tab the next number comes.
+    pub one-more : getD bytes next 0 ≡ tab → k < 8 → Reading bytes (next + 1) (k + 1) (set read k n)
+    unfolding AllHeld
+    one-more m h = record {
+      numbers = r .numbers ++ n ∷ [];
+      count = count;
+      array = array h;
+      inside = omega (arith, mark-inside tab (λ z. omega arith) m);
+      right = λ j ns rest e. r .right n (j ∷ ns) rest (onward j ns rest e) ∙ ap (λ (l : List ℕ). parted l ++ rest) (sym (append-assoc (r .numbers) (n ∷ []) (j ∷ ns)));
+      wrong = λ f. r .wrong (others f);
+    }
+      where
+        onward : (j : ℕ) (ns rest : List ℕ) → drop (next + 1) bytes ≡ parted (j ∷ ns) ++ rest → drop at bytes ≡ parted (n ∷ j ∷ ns) ++ rest
+        onward j ns rest e = text tab (λ z. omega arith) m ∙ ap (λ (l : List ℕ). decimal n ++ tab ∷ l) e ∙ sym (parted-cons n (j ∷ ns) rest)
 
-        text : drop (next + 1) bytes ≡ parted left ++ rest → drop at bytes ≡ parted (drop k ns) ++ rest
-        text e =
-            s .0 .text
-            ∙ ap (λ (l : List ℕ). decimal n ++ l) (behind ∙ ap₂ (λ (b : ℕ) (l : List ℕ). b ∷ l) (sym marks) e)
-            ∙ sym (ap (λ (l : List ℕ). parted l ++ rest) numbers ∙ parted-cons n left rest)
-
-      pub one-more : Reading bytes (next + 1) (k + 1) (set read k n)
-      one-more = record {
-        seven = length-set read k n ∙ r .seven;
-        few = omega arith;
-        inside = omega (arith, mark-inside);
-        right = λ ns rest l f e. r .right ns rest l (front ns rest l f) (text ns rest l f e);
-        wrong = rest-wrong;
-      }
+        others : Nowhere bytes (next + 1) (k + 1) → Nowhere bytes at k
+        others f j [] rest few many held e = omega (arith, sym m ∙ byte-behind j [] rest e)
+        others f j (i ∷ ns) rest few many held e =
+            let q : tab ∷ drop (next + 1) bytes ≡ tab ∷ (parted (i ∷ ns) ++ rest) = sym (behind tab (λ z. omega arith) m) ∙ behind-first j (i ∷ ns) rest e in
+            f i ns rest (omega arith) (omega arith) (λ x. held (suc x)) (let t : drop (next + 1) bytes ≡ parted (i ∷ ns) ++ rest = cc in t)

@@ -2,10 +2,10 @@
 use mathlib.Core.Path.{_≡_, refl, sym, ap, ap₂, _∙_}
 use mathlib.Core.Bool.{Bool, true, false}
 use mathlib.Core.List.{List, [], _∷_, _++_}
-use Prim.Native.Nat.{ℕ, zero, suc, _+_, _*_, _≤_, _<_}
+use Prim.Native.Nat.{ℕ, zero, suc, _+_, _-_, _*_, _≤_, _<_}
 use native.Mathlib.Omega.{arith}
 use lib.Dec.{eqb}
-use lib.ListN.{length, getD, drop, drop-of-length-le, length-append, length-drop}
+use lib.ListN.{length, getD, drop, replicate, drop-of-length-le, length-append, length-drop}
 use borrow.Author.Tests.{eqb-true, eqb-false}
 use Rattle.rules.specs.Rows.{Encoding, group4, group3-1D, group3-2D, Settings}
 use Rattle.rows.specs.Settings.{encodingOf, settingsOf}
@@ -13,13 +13,13 @@ use Rattle.rows.specs.declared.DecodeSettings.{DecodeSettings}
 use Rattle.rows.specs.declared.EncodingMode.{EncodingMode}
 use Rattle.rows.specs.declared.EncodingMode.the-variants.{Group4, «Group3_1D», «Group3_2D»}
 use Rattle.desk.specs.Text.{decimal}
-use Rattle.desk.specs.Line.{mark, parted, flag, encodingNumber, settingsNumbers, settingsLine, Held, Begins, Says}
+use Rattle.desk.specs.Line.{mark, parted, flag, encodingNumber, settingsNumbers, filled, NumbersOf, Held, Begins, Says}
 use Rattle.desk.specs.Reading.{Stands}
 use Rattle.desk.specs.declared.settings.Parsed.{Parsed}
 use Rattle.desk.specs.declared.settings.Parsed.the-variants.{Settings as found, Bad}
 use Rattle.desk.proofs.Spelling.{split}
 use Rattle.desk.proofs.Lengths.{decimal-short}
-use Rattle.desk.proofs.Parting.{AllHeld, Nowhere, parted-unique}
+use Rattle.desk.proofs.Parting.{AllHeld, Nowhere, Whole, parted-once}
 
 flag-small : (b : Bool) → flag b ≤ 1
 flag-small true = omega arith
@@ -41,11 +41,11 @@ mode-small group4 = omega arith
 mode-small group3-1D = omega arith
 mode-small group3-2D = omega arith
 
--- ---- Settings from seven numbers
+-- ---- Settings from eight numbers
 
-module _ (columns rows block line aligned encoding strict : ℕ) where
-  abbrev seven : List ℕ
-  seven = columns ∷ rows ∷ block ∷ line ∷ aligned ∷ encoding ∷ strict ∷ []
+module _ (columns rows block line aligned encoding strict exact : ℕ) where
+  abbrev eight : List ℕ
+  eight = columns ∷ rows ∷ block ∷ line ∷ aligned ∷ encoding ∷ strict ∷ exact ∷ []
 
   -- flags above 1 and encodings above 2 are no settings'
   pub record Small : Type 0 where
@@ -54,8 +54,9 @@ module _ (columns rows block line aligned encoding strict : ℕ) where
     pub aligned-small : aligned ≤ 1
     pub encoding-small : encoding ≤ 2
     pub strict-small : strict ≤ 1
+    pub exact-small : exact ≤ 1
 
-  pub numbers-small : (S : Settings) → settingsNumbers S ≡ seven → Small
+  pub numbers-small : (S : Settings) → settingsNumbers S ≡ eight → Small
   unfolding settingsNumbers
   numbers-small S e = record {
     block-small = omega (arith, flag-small (S .endOfBlock), ap (λ (l : List ℕ). getD l 2 0) e);
@@ -63,19 +64,20 @@ module _ (columns rows block line aligned encoding strict : ℕ) where
     aligned-small = omega (arith, flag-small (S .aligned), ap (λ (l : List ℕ). getD l 4 0) e);
     encoding-small = omega (arith, mode-small (S .encoding), ap (λ (l : List ℕ). getD l 5 0) e);
     strict-small = omega (arith, flag-small (S .strict), ap (λ (l : List ℕ). getD l 6 0) e);
+    exact-small = omega (arith, flag-small (S .exact), ap (λ (l : List ℕ). getD l 7 0) e);
   }
 
-  pub stand-large : (Small → ⊥) → (S : Settings) → settingsNumbers S ≡ seven → ⊥
+  pub stand-large : (Small → ⊥) → (S : Settings) → settingsNumbers S ≡ eight → ⊥
   stand-large f S e = f (numbers-small S e)
 
   -- smaller ones are
   pub stand-found : (next : ℕ) (mode : EncodingMode) → Small → encodingNumber (encodingOf mode) ≡ encoding → Held columns → Held rows
-      → Stands seven next (found (record { columns = columns; rows = rows; «end_of_block» = eqb block 1; «end_of_line» = eqb line 1; «rows_are_byte_aligned» = eqb aligned 1; encoding = mode; strict = eqb strict 1 }) next)
+      → Stands eight next (found (record { columns = columns; rows = rows; «end_of_block» = eqb block 1; «end_of_line» = eqb line 1; «rows_are_byte_aligned» = eqb aligned 1; encoding = mode; strict = eqb strict 1; exact = eqb exact 1 }) next)
   unfolding settingsNumbers
   stand-found next mode s e c r = (numbers, refl, c, r)
     where
-      numbers : columns ∷ rows ∷ flag (eqb block 1) ∷ flag (eqb line 1) ∷ flag (eqb aligned 1) ∷ encodingNumber (encodingOf mode) ∷ flag (eqb strict 1) ∷ [] ≡ seven
-      numbers = rw (flag-is block (s .block-small), flag-is line (s .line-small), flag-is aligned (s .aligned-small), e, flag-is strict (s .strict-small))
+      numbers : columns ∷ rows ∷ flag (eqb block 1) ∷ flag (eqb line 1) ∷ flag (eqb aligned 1) ∷ encodingNumber (encodingOf mode) ∷ flag (eqb strict 1) ∷ flag (eqb exact 1) ∷ [] ≡ eight
+      numbers = rw (flag-is block (s .block-small), flag-is line (s .line-small), flag-is aligned (s .aligned-small), e, flag-is strict (s .strict-small), flag-is exact (s .exact-small))
 
 -- ---- From the numbers to what the bytes say
 
@@ -88,33 +90,59 @@ pub spread : (k i : ℕ) (ns : List ℕ) → i + k ≡ length ns → drop i ns �
 spread zero i ns h = let l : length ns ≤ i = omega arith in drop-of-length-le ns l
 spread (suc k) i ns h = split ns i (omega arith) ∙ ap (λ (l : List ℕ). getD ns i 0 ∷ l) (spread k (i + 1) ns (omega arith))
 
--- the five numbers behind columns and rows are at most 2
-abbrev five : Settings → List ℕ
-five S = flag (S .endOfBlock) ∷ flag (S .endOfLine) ∷ flag (S .aligned) ∷ encodingNumber (S .encoding) ∷ flag (S .strict) ∷ []
+-- the six numbers behind columns and rows are at most 2
+abbrev six : Settings → List ℕ
+six S = flag (S .endOfBlock) ∷ flag (S .endOfLine) ∷ flag (S .aligned) ∷ encodingNumber (S .encoding) ∷ flag (S .strict) ∷ flag (S .exact) ∷ []
 
-five-small : (S : Settings) (i : ℕ) → getD (five S) i 0 ≤ 2
-five-small S zero = omega (arith, flag-small (S .endOfBlock))
-five-small S (suc zero) = omega (arith, flag-small (S .endOfLine))
-five-small S (suc (suc zero)) = omega (arith, flag-small (S .aligned))
-five-small S (suc (suc (suc zero))) = mode-small (S .encoding)
-five-small S (suc (suc (suc (suc zero)))) = omega (arith, flag-small (S .strict))
-five-small S (suc (suc (suc (suc (suc i))))) = omega arith
+six-small : (S : Settings) (i : ℕ) → getD (six S) i 0 ≤ 2
+six-small S zero = omega (arith, flag-small (S .endOfBlock))
+six-small S (suc zero) = omega (arith, flag-small (S .endOfLine))
+six-small S (suc (suc zero)) = omega (arith, flag-small (S .aligned))
+six-small S (suc (suc (suc zero))) = mode-small (S .encoding)
+six-small S (suc (suc (suc (suc zero)))) = omega (arith, flag-small (S .strict))
+six-small S (suc (suc (suc (suc (suc zero))))) = omega (arith, flag-small (S .exact))
+six-small S (suc (suc (suc (suc (suc (suc i)))))) = omega arith
 
 all-held : (S : Settings) → Held (S .columns) → Held (S .rows) → AllHeld (settingsNumbers S)
 unfolding AllHeld settingsNumbers
 all-held S c r zero = c
 all-held S c r (suc zero) = r
-all-held S c r (suc (suc i)) = omega (arith, five-small S i)
+all-held S c r (suc (suc i)) = omega (arith, six-small S i)
+
+front-least : (ns zs : List ℕ) (i : ℕ) → getD ns i 0 ≤ getD (ns ++ zs) i 0
+front-least [] zs i = omega arith
+front-least (n ∷ ns) zs zero = omega arith
+front-least (n ∷ ns) zs (suc i) = front-least ns zs i
+
+module _ {bytes : List ℕ} {S : Settings} {rest : List ℕ} (b : Begins bytes S rest) where
+  -- the numbers of a line can all be held, and there are seven or eight of them
+  numbers-held : AllHeld (b .numbers)
+  unfolding AllHeld
+  numbers-held i =
+      omega (arith, front-least (b .numbers) (replicate (8 - length (b .numbers)) 0) i, ap (λ (l : List ℕ). getD l i 0) (b .said .all), all-held S (b .columns) (b .rows) i)
+
+  numbers-few : length (b .numbers) ≤ 8
+  unfolding settingsNumbers
+  numbers-few = omega (arith, ap length (b .said .all), length-append (b .numbers) (replicate (8 - length (b .numbers)) 0))
 
 pub says-bad : (bytes : List ℕ) → Nowhere bytes 0 0 → Says bytes Bad
-unfolding settingsLine settingsNumbers
-says-bad bytes f S rest b = f (settingsNumbers S) rest (omega arith) (all-held S (b .columns) (b .rows)) (b .text)
+says-bad bytes f S rest b = cases (b .numbers) (b .said .seven) (numbers-few b) (numbers-held b) (b .text)
+  where
+    cases : (ns : List ℕ) → 7 ≤ length ns → length ns ≤ 8 → AllHeld ns → bytes ≡ parted ns ++ rest → ⊥
+    cases [] few many held e = omega arith
+    cases (n ∷ ns) few many held e = f n ns rest (omega arith) (omega arith) held e
 
-pub says-stands : (bytes ns : List ℕ) (at : ℕ) (r : Parsed) → bytes ≡ parted ns ++ drop at bytes → at ≤ length bytes → length ns ≡ 7 → Stands ns at r → Says bytes r
-unfolding settingsLine settingsNumbers
-says-stands bytes ns at (found s next) e h l t =
-    (record { columns = t .2; rows = t .3; text = e ∙ ap₂ (λ (ms : List ℕ) (i : ℕ). parted ms ++ drop i bytes) (sym (t .0)) (sym (t .1)) }, omega (arith, t .1))
-says-stands bytes ns at Bad e h l f = λ S rest b. f S (parted-unique (settingsNumbers S) ns rest (drop at bytes) (sym l) (sym (b .text) ∙ e) .0)
+-- two lines that bytes begin with have the same numbers
+one-line : (bytes ms ns xs ys : List ℕ) → 7 ≤ length ms → 7 ≤ length ns → bytes ≡ parted ms ++ xs → bytes ≡ parted ns ++ ys → (ms ≡ ns) × (xs ≡ ys)
+one-line bytes [] ns xs ys h l p q = absurd (omega arith)
+one-line bytes (m ∷ ms) [] xs ys h l p q = absurd (omega arith)
+one-line bytes (m ∷ ms) (n ∷ ns) xs ys h l p q = parted-once m n ms ns xs ys (sym p ∙ q)
+
+pub says-stands : (bytes read : List ℕ) (at : ℕ) (r : Parsed) → Whole bytes at read → Stands read at r → Says bytes r
+says-stands bytes read at (found s next) w t =
+    (record { columns = t .2; rows = t .3; numbers = w .numbers; said = record { seven = w .seven; all = sym (t .0 ∙ w .array) }; text = w .text ∙ ap (λ (i : ℕ). parted (w .numbers) ++ drop i bytes) (sym (t .1)) }, omega (arith, t .1, w .inside))
+says-stands bytes read at Bad w f =
+    λ S rest b. f S (sym (b .said .all) ∙ ap filled (one-line bytes (b .numbers) (w .numbers) rest (drop at bytes) (b .said .seven) (w .seven) (b .text) (w .text) .0) ∙ sym (w .array))
 
 -- ---- Bytes say one thing only
 
@@ -152,11 +180,12 @@ fromNumbers ns = record {
   aligned = eqb (getD ns 4 0) 1;
   encoding = encodingFrom (getD ns 5 0);
   strict = eqb (getD ns 6 0) 1;
+  exact = eqb (getD ns 7 0) 1;
 }
 
 numbers-back : (S : Settings) → fromNumbers (settingsNumbers S) ≡ S
 unfolding settingsNumbers
-numbers-back S = rw (flag-back (S .endOfBlock), flag-back (S .endOfLine), flag-back (S .aligned), encoding-back (S .encoding), flag-back (S .strict))
+numbers-back S = rw (flag-back (S .endOfBlock), flag-back (S .endOfLine), flag-back (S .aligned), encoding-back (S .encoding), flag-back (S .strict), flag-back (S .exact))
 
 abbrev source : Settings → DecodeSettings
 source S = record {
@@ -167,16 +196,17 @@ source S = record {
   «rows_are_byte_aligned» = S .aligned;
   encoding = modeFrom (S .encoding);
   strict = S .strict;
+  exact = S .exact;
 }
 
 source-back : (s : DecodeSettings) → source (settingsOf s) ≡ s
 source-back s = rw (mode-back (s .encoding))
 
 pub begins-once : (bytes : List ℕ) (S R : Settings) (xs ys : List ℕ) → Begins bytes S xs → Begins bytes R ys → (S ≡ R) × (xs ≡ ys)
-unfolding settingsLine settingsNumbers
 begins-once bytes S R xs ys p q =
-    let u = parted-unique (settingsNumbers S) (settingsNumbers R) xs ys refl (sym (p .text) ∙ q .text) in
-    (sym (numbers-back S) ∙ ap fromNumbers (u .0) ∙ numbers-back R, u .1)
+    let u = one-line bytes (p .numbers) (q .numbers) xs ys (p .said .seven) (q .said .seven) (p .text) (q .text) in
+    let e : settingsNumbers S ≡ settingsNumbers R = sym (p .said .all) ∙ ap filled (u .0) ∙ q .said .all in
+    (sym (numbers-back S) ∙ ap fromNumbers e ∙ numbers-back R, u .1)
 
 pub says-once : (bytes : List ℕ) (a b : Parsed) → Says bytes a → Says bytes b → a ≡ b
 says-once bytes (found s i) (found t j) p q =
@@ -199,15 +229,33 @@ unfolding parted
 parted-digits [] h = omega arith
 parted-digits (n ∷ ns) h = omega (arith, parted-is n ns, decimal-short 0 n (omega (arith, h 0)), parted-digits ns (λ i. h (suc i)))
 
--- ten digits each for columns and rows, and five of one digit
-pub line-short : (S : Settings) → Held (S .columns) → Held (S .rows) → length (settingsLine S) ≤ 32
-unfolding settingsLine settingsNumbers
-line-short S c r =
+-- a line's numbers take no more than all of them
+parted-front : (ns zs : List ℕ) → length (parted ns) ≤ length (parted (ns ++ zs))
+unfolding parted
+parted-front [] zs = omega arith
+parted-front (n ∷ ns) zs = omega (arith, parted-is n ns, parted-is n (ns ++ zs), parted-front ns zs)
+
+-- ten digits each for columns and rows, and six of one digit
+numbers-short : (S : Settings) → Held (S .columns) → Held (S .rows) → length (parted (settingsNumbers S)) ≤ 34
+unfolding settingsNumbers
+numbers-short S c r =
     omega (
       arith,
-      parted-is (S .columns) (S .rows ∷ five S),
+      parted-is (S .columns) (S .rows ∷ six S),
       decimal-short 9 (S .columns) (omega arith),
-      parted-is (S .rows) (five S),
+      parted-is (S .rows) (six S),
       decimal-short 9 (S .rows) (omega arith),
-      parted-digits (five S) (λ i. omega (arith, five-small S i)),
+      parted-digits (six S) (λ i. omega (arith, six-small S i)),
+    )
+
+pub begins-short : {bytes : List ℕ} {S : Settings} {rest : List ℕ} → Begins bytes S rest → length bytes ≤ 34 + length rest
+begins-short {bytes} {S} {rest} b =
+    let ns = b .numbers in
+    omega (
+      arith,
+      ap length (b .text),
+      length-append (parted ns) rest,
+      parted-front ns (replicate (8 - length ns) 0),
+      ap (λ (l : List ℕ). length (parted l)) (b .said .all),
+      numbers-short S (b .columns) (b .rows),
     )

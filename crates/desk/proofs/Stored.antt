@@ -1,21 +1,21 @@
 -- Laws of the lent arrays after a page: its rows can be listed from them, and are its rows. Assumes nothing.
 use mathlib.Core.Path.{_≡_, refl, ap₂, _∙_}
-use mathlib.Core.Bool.{Bool, true, false}
+use mathlib.Core.Bool.{true}
 use mathlib.Core.List.{List, [], _∷_, _++_, append-assoc}
 use Prim.Native.Nat.{ℕ, _+_, _*_, _≤_}
 use native.Mathlib.Omega.{arith}
-use lib.Dec.{eqb, ltb}
 use lib.ListN.{length, take, drop, length-append}
 use lib.Seq.{take-at}
-use borrow.Author.Tests.{eqb-false, le-leb}
+use borrow.Author.Tests.{le-leb}
 use Rattle.rules.specs.Bits.{bitsOf}
 use Rattle.rules.specs.Rows.{Settings}
 use Rattle.rules.specs.Pages as Page
-use Rattle.rules.specs.Pages.{entries, mostBytes, tooWide, refusal, readPage, decode, placesIn, overlaid, joined, endsFrom, changesAfter, endsAfter, marksAfter}
+use Rattle.rules.specs.Pages.{entries, readPage, strictIfExact, decode, placesIn, overlaid, joined, endsFrom, changesAfter, endsAfter, marksAfter}
 use Rattle.rules.specs.Write.{rowsIn, endsRise}
-use Rattle.rules.proofs.Bits.{length-bitsOf}
+use Rattle.rules.proofs.Budget.{whole-bytes}
 use Rattle.rules.proofs.Pages.{read-answered}
-use Rattle.rules.proofs.Marks.{page-came, came-as-many}
+use Rattle.rules.proofs.Answers.{short-cases, decode-cases}
+use Rattle.rules.proofs.Marks.{decode-came, came-as-many}
 use Rattle.rules.proofs.Store.{length-overlaid, length-joined, length-ends, rows-back}
 use Rattle.error.specs.Error.{answerOf}
 use Rattle.desk.specs.Listed.{Listing, rowsKept}
@@ -26,26 +26,19 @@ pub record Holds (store places : ℕ) (a : Page.Answer) : Type 0 where
   pub as-many : length (a .marks) ≡ length (a .rows)
   pub roomy : entries (a .rows) + length (a .loose) ≤ store
 
-refusal-held : (store places n : ℕ) → Holds store places (refusal n)
-unfolding entries
-refusal-held store places n = record { placed = omega arith; as-many = refl; roomy = omega arith }
-
 pub decode-held : (S : Settings) (bytes : List ℕ) (store places : ℕ) → Holds store places (decode S bytes store places)
-unfolding decode
-decode-held S bytes store places = tests (tooWide (S .columns)) (ltb mostBytes (length bytes)) (eqb (S .columns) 0) refl
+unfolding entries
+decode-held S bytes store places = record { placed = fits .0; as-many = came-as-many (decode-came S bytes store places .1); roomy = fits .1 }
   where
-    page : eqb (S .columns) 0 ≡ false → Holds store places (readPage S (bitsOf bytes) store places)
-    page e =
-        let n = eqb-false (S .columns) 0 e in
-        let a = read-answered (S .encoding) S (omega (arith, n)) (bitsOf bytes) (record { count = length bytes; whole = length-bitsOf bytes }) store places refl in
-        record { placed = a .placed; as-many = came-as-many (page-came S (bitsOf bytes) store places .1); roomy = a .roomy }
+    Fits : Page.Answer → Type 0
+    Fits a = (length (a .rows) ≤ places) × (entries (a .rows) + length (a .loose) ≤ store)
 
-    tests : (wide large none : Bool) → eqb (S .columns) 0 ≡ none
-        → Holds store places (elim wide [ true ↦ refusal 6 | false ↦ elim large [ true ↦ refusal 7 | false ↦ elim none [ true ↦ refusal 0 | false ↦ readPage S (bitsOf bytes) store places ] ] ])
-    tests true large none e = refusal-held store places 6
-    tests false true none e = refusal-held store places 7
-    tests false false true e = refusal-held store places 0
-    tests false false false e = page e
+    fits : Fits (decode S bytes store places)
+    fits =
+        decode-cases S bytes (λ f. Fits (f store places)) (λ n r. (omega arith, omega arith))
+        (λ ok.
+        let a = read-answered (S .encoding) (strictIfExact S) (ok .wide) (bitsOf bytes) (whole-bytes bytes) store places refl in
+        short-cases S (readPage (strictIfExact S) (bitsOf bytes) store places) Fits (λ l. (a .placed, a .roomy)) (λ n. (a .placed, a .roomy)))
 
 -- ends of rows that the store holds do not fall or pass it
 ends-rise : (store base : ℕ) (rows : List (List ℕ)) → base + entries rows ≤ store → endsRise store base (endsFrom base rows) ≡ true

@@ -1,17 +1,25 @@
 -- The sheet of the listing (01 "Sheets on the wall"), by computation: its line of settings, and its text. Assumes nothing.
 use mathlib.Core.Path.{_≡_, refl}
-use mathlib.Core.Bool.{false}
-use mathlib.Core.List.{[], _∷_}
-use Rattle.rules.specs.Rows.{group3-1D}
-use Rattle.desk.specs.Text.{ascii, digits, decimal}
-use Rattle.desk.specs.Line.{parted, settingsNumbers, settingsLine}
+use mathlib.Core.Bool.{Bool, true, false}
+use mathlib.Core.List.{[], _∷_, _++_}
+use native.Mathlib.Omega.{arith}
+use Rattle.rules.specs.Rows.{group3-1D, Settings}
+use Rattle.desk.specs.Text.{ascii, newline, digits, decimal}
+use Rattle.desk.specs.Line.{parted, flag, settingsNumbers, Begins}
 use Rattle.desk.specs.Sheet.{tabbed, textLine, rowLines, listingText}
 
--- Group 3 1D, columns 8, rows 2, lenient
-line : settingsLine (record { columns = 8; rows = 2; endOfBlock = false; endOfLine = false; aligned = false; encoding = group3-1D; strict = false })
-    ≡ ascii "8\t2\t0\t0\t0\t1\t0\n"
-unfolding settingsLine settingsNumbers parted decimal digits ascii
-line = refl
+-- Group 3 1D, columns 8, rows 2, lenient: the line of 01, which lacks the eighth number; and one that has it
+abbrev wall : Bool → Settings
+wall exact = record { columns = 8; rows = 2; endOfBlock = false; endOfLine = false; aligned = false; encoding = group3-1D; strict = false; exact = exact }
+
+line : Begins (ascii "8\t2\t0\t0\t0\t1\t0\n") (wall false) []
+unfolding settingsNumbers parted decimal digits ascii
+line = record { columns = omega arith; rows = omega arith; numbers = 8 ∷ 2 ∷ 0 ∷ 0 ∷ 0 ∷ 1 ∷ 0 ∷ []; said = record { seven = omega arith; all = refl }; text = refl }
+
+line-of-eight : (exact : Bool) → Begins (ascii "8\t2\t0\t0\t0\t1\t0\t" ++ (decimal (flag exact) ++ newline ∷ [])) (wall exact) []
+unfolding settingsNumbers parted decimal digits ascii
+line-of-eight true = record { columns = omega arith; rows = omega arith; numbers = 8 ∷ 2 ∷ 0 ∷ 0 ∷ 0 ∷ 1 ∷ 0 ∷ 1 ∷ []; said = record { seven = omega arith; all = refl }; text = refl }
+line-of-eight false = record { columns = omega arith; rows = omega arith; numbers = 8 ∷ 2 ∷ 0 ∷ 0 ∷ 0 ∷ 1 ∷ 0 ∷ 0 ∷ []; said = record { seven = omega arith; all = refl }; text = refl }
 
 -- with the marks of the two rows, as A5 gives them
 listing : listingText 8 0 ((2 ∷ 5 ∷ []) ∷ [] ∷ []) (2 ∷ 0 ∷ []) 5 ≡ ascii "columns\t8\nrow\t1\t2\t2\t2\t5\nrow\t2\t0\t0\nstop\t0\t2\t5\n"

@@ -1,9 +1,9 @@
--- The line of settings, and when bytes begin with one (01 "Sheets on the wall").
+-- The line of settings, and when bytes begin with one (01 "Sheets on the wall"; 02, A12).
 use mathlib.Core.Path.{_≡_}
 use mathlib.Core.Bool.{Bool, true, false}
 use mathlib.Core.List.{List, [], _∷_, _++_}
-use Prim.Native.Nat.{ℕ, _≤_}
-use lib.ListN.{length, drop}
+use Prim.Native.Nat.{ℕ, _-_, _≤_}
+use lib.ListN.{length, drop, replicate}
 use Rattle.rules.specs.Rows.{Encoding, group4, group3-1D, group3-2D, Settings}
 use Rattle.rows.specs.Settings.{settingsOf}
 use Rattle.desk.specs.Text.{tab, newline, decimal}
@@ -29,7 +29,7 @@ encodingNumber group4 = 0
 encodingNumber group3-1D = 1
 encodingNumber group3-2D = 2
 
--- "in `DecodeSettings` order"
+-- "in `DecodeSettings` order"; exact "is the listing program's eighth" (A12)
 unfoldable pub settingsNumbers : Settings → List ℕ
 settingsNumbers S =
     S .columns
@@ -39,20 +39,29 @@ settingsNumbers S =
     ∷ flag (S .aligned)
     ∷ encodingNumber (S .encoding)
     ∷ flag (S .strict)
+    ∷ flag (S .exact)
     ∷ []
 
-unfoldable pub settingsLine : Settings → List ℕ
-settingsLine S = parted (settingsNumbers S)
+-- a line's numbers, and for each that it lacks of eight a 0: "0 if missing"
+abbrev pub filled : List ℕ → List ℕ
+filled ns = ns ++ replicate (8 - length ns) 0
+
+-- the numbers of a line that says these settings: only those behind the seventh may be missing
+pub record NumbersOf (S : Settings) (ns : List ℕ) : Type 0 where
+  pub seven : 7 ≤ length ns
+  pub all : filled ns ≡ settingsNumbers S
 
 -- a number that `DecodeSettings` can hold
 abbrev pub Held : ℕ → Type 0
 Held n = n ≤ 4294967295
 
--- bytes that begin with the line of settings whose numbers can be held
+-- bytes that begin with a line of settings whose numbers can be held
 pub record Begins (bytes : List ℕ) (S : Settings) (rest : List ℕ) : Type 0 where
   pub columns : Held (S .columns)
   pub rows : Held (S .rows)
-  pub text : bytes ≡ settingsLine S ++ rest
+  pub numbers : List ℕ
+  pub said : NumbersOf S numbers
+  pub text : bytes ≡ parted numbers ++ rest
 
 -- the settings that bytes begin with, and where the rest starts; or there are none
 abbrev pub Says : List ℕ → Parsed → Type 0

@@ -3,11 +3,11 @@ use mathlib.Core.Path.{_≡_}
 use mathlib.Core.Bool.{cond, _&&_}
 use mathlib.Core.List.{List, _++_}
 use Prim.Native.Nat.{ℕ, _-_, _≤_, _<_}
-use lib.Dec.{leb, ltb}
+use lib.Dec.{leb}
 use lib.ListN.{length, getD, drop}
 use Rattle.rules.specs.Rows.{Settings}
 use Rattle.rows.specs.Settings.{settingsOf}
-use Rattle.desk.specs.Text.{tab, newline, decimal}
+use Rattle.desk.specs.Text.{decimal}
 use Rattle.desk.specs.Line.{Held, settingsNumbers}
 use Rattle.desk.specs.declared.settings.Number.{Number}
 use Rattle.desk.specs.declared.settings.Number.the-variants.{Is, Missing}
@@ -32,11 +32,7 @@ abbrev pub NumberAt : List ℕ → ℕ → Number → Type 0
 NumberAt bytes at (Is n next) = Spelt bytes at n next × (9 < digitOf (getD bytes next 0))
 NumberAt bytes at Missing = (n : ℕ) (rest : List ℕ) → Held n → Stops rest → drop at bytes ≡ decimal n ++ rest → ⊥
 
--- the byte behind the number of place k
-abbrev pub markAt : ℕ → ℕ
-markAt k = cond (ltb k 6) tab newline
-
--- the settings that numbers stand for, or none
+-- the settings that numbers, none missing, stand for; or there are none
 abbrev pub Stands : List ℕ → ℕ → Parsed → Type 0
 Stands ns at (found s next) = (settingsNumbers (settingsOf s) ≡ ns) × (next ≡ at) × Held (s .columns) × Held (s .rows)
 Stands ns at Bad = (S : Settings) → settingsNumbers S ≡ ns → ⊥

@@ -7,7 +7,7 @@ ghost use Prim.Native.Nat.{_≤_};
 ghost use lib.ListN.{length, getD};
 ghost use Rattle.rows.specs.Settings.{encodingOf};
 ghost use Rattle.desk.specs.Line.{encodingNumber, Says};
-ghost use Rattle.desk.specs.Reading.{digitOf, NumberAt, markAt, Stands};
+ghost use Rattle.desk.specs.Reading.{digitOf, NumberAt, Stands};
 
 // The settings, and where the data begins.
 pub enum Parsed {
@@ -68,13 +68,6 @@ fn read_number(bytes: &[u8], at: usize) -> Number
     }
 }
 
-// The byte behind the number of place `k`.
-fn mark(k: usize) -> u8
-    ensures { λ r. ⌜ r ≡ markAt k ⌝ }
-{
-    if k < 6 { b'\t' } else { b'\n' }
-}
-
 fn mode(n: u32) -> EncodingMode
     requires { ⌜ n ≤ 2 ⌝ }
     ensures { λ r. ⌜ encodingNumber (encodingOf r) ≡ n ⌝ }
@@ -95,9 +88,10 @@ fn stand(
     aligned: u32,
     encoding: u32,
     strict: u32,
+    exact: u32,
     next: usize,
 ) -> Parsed
-    ensures { λ r. ⌜ Stands (columns ∷ rows ∷ block ∷ line ∷ aligned ∷ encoding ∷ strict ∷ []) next r ⌝ }
+    ensures { λ r. ⌜ Stands (columns ∷ rows ∷ block ∷ line ∷ aligned ∷ encoding ∷ strict ∷ exact ∷ []) next r ⌝ }
 {
     if block > 1 {
         return Parsed::Bad;
@@ -114,6 +108,9 @@ fn stand(
     if strict > 1 {
         return Parsed::Bad;
     }
+    if exact > 1 {
+        return Parsed::Bad;
+    }
     Parsed::Settings(
         DecodeSettings {
             columns: columns,
@@ -123,28 +120,36 @@ fn stand(
             rows_are_byte_aligned: aligned == 1,
             encoding: mode(encoding),
             strict: strict == 1,
+            exact: exact == 1,
         },
         next,
     )
 }
 
-// The settings that the bytes begin with.
+// The settings that the bytes begin with: seven numbers, or eight; one that is missing is 0.
 pub fn parse(bytes: &[u8]) -> Parsed
     ensures { λ r. ⌜ Says (now (bytes .entry)) r ⌝ }
 {
-    let mut n = [0u32; 7];
+    let mut n = [0u32; 8];
     let mut at = 0;
     let mut k = 0;
-    while k < 7 {
+    while k < 8 {
         let Number::Is(value, next) = read_number(bytes, at) else {
             return Parsed::Bad;
         };
-        if byte(bytes, next) != mark(k) {
-            return Parsed::Bad;
-        }
+        let behind = byte(bytes, next);
         n[k] = value;
         at = next + 1;
         k += 1;
+        if behind == b'\n' {
+            if k < 7 {
+                return Parsed::Bad;
+            }
+            return stand(n[0], n[1], n[2], n[3], n[4], n[5], n[6], n[7], at);
+        }
+        if behind != b'\t' {
+            return Parsed::Bad;
+        }
     }
-    stand(n[0], n[1], n[2], n[3], n[4], n[5], n[6], at)
+    Parsed::Bad
 }
