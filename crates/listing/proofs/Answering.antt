@@ -12,11 +12,11 @@ use Rattle.rows.specs.declared.DecodeSettings.{DecodeSettings}
 use Rattle.rows.specs.Settings.{settingsOf}
 use Rattle.error.specs.declared.Answer.{Answer}
 use Rattle.ccitt.specs.Decode.{Gives}
-use Rattle.desk.specs.Line.{settingsLine, Says}
+use Rattle.desk.specs.Line.{Says}
 use Rattle.desk.specs.Sheet.{badInput, listingText}
 use Rattle.desk.specs.Listed.{Listing, listingOf, Prints}
 use Rattle.desk.specs.declared.settings.Parsed.the-variants.{Settings as found, Bad}
-use Rattle.desk.proofs.Standing.{begins-once, line-short}
+use Rattle.desk.proofs.Standing.{begins-once, begins-short}
 use Rattle.desk.proofs.Stored.{Holds, decode-held, rows-stored, marks-kept, can-list}
 use Rattle.io.specs.Counts.{Counts}
 use Rattle.listing.specs.Program.{mostData, mostInput, listed, pageText, room, Asks, Answers, AnswersRead}
@@ -82,7 +82,7 @@ module _ {input text : List ℕ} where
 -- So many bytes decide: an input that asks for a page is shorter, and so are its first bytes where they do.
 module _ (asked : ℕ) (enough : mostInput ≤ asked) where
   short : (xs : List ℕ) (S : Settings) (src : List ℕ) → Asks xs S src → length xs < asked
-  short xs S src a = omega (arith, a .few, line-short S (a .begins .columns) (a .begins .rows), ap length (a .begins .text), length-append (settingsLine S) src)
+  short xs S src a = omega (arith, a .few, begins-short (a .begins))
 
   module _ (input text : List ℕ) where
     whole : length input ≤ asked → take asked input ≡ input

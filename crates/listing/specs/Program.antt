@@ -13,9 +13,9 @@ use Rattle.desk.specs.Sheet.{listingText, badInput}
 abbrev pub mostData : ℕ
 mostData = 16384
 
--- "Longer data" shows by one byte more than the longest line of settings, which has 32, and the data may have: so many bytes of an input decide
+-- "Longer data" shows by one byte more than the longest line of settings, which has 34, and the data may have: so many bytes of an input decide
 abbrev pub mostInput : ℕ
-mostInput = 32 + mostData + 1
+mostInput = 34 + mostData + 1
 
 abbrev pub listed : Settings → Page.Answer → List ℕ
 listed S a = listingText (S .columns) (a .number) (a .rows) (a .marks) (a .bytes)
