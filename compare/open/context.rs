@@ -16,6 +16,15 @@ impl DecoderContext {
         &self.marks
     }
 
+    /// The first idle code (A12): the bit of its mode code, the rows before it, and the changes of its row before it.
+    pub fn idle(&self) -> Option<(usize, u32, usize)> {
+        self.idle
+    }
+
+    fn note_idle(&mut self, bit: usize) {
+        self.idle.get_or_insert((bit, self.decoded_rows, self.coding_changes.len()));
+    }
+
     /// Read one 2D line from the given bit on, and return the bit after it. Its changes are then
     /// those of `unfinished`.
     pub fn read_line(&mut self, data: &[u8], at: usize, reference: &[u32]) -> Result<usize> {

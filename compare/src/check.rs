@@ -27,6 +27,8 @@ impl Case {
 }
 
 pub struct Plan {
+    /// Whether the page is to be read exactly (A12), whatever its settings say of strictness.
+    pub exact: bool,
     pub room: Room,
     pub fill: u32,
     pub wanted: Wanted,
@@ -113,8 +115,10 @@ fn work(source: &dyn Source, seed: u64, ours: &mut dyn Ours, next: &AtomicU64) -
 /// Asks the library about a batch and compares. A batch without an answer is asked again input by input,
 /// so that the one that has none is found.
 fn compare(ours: &mut dyn Ours, start: u64, cases: &[Case], tally: &mut Tally) {
-    let calls: Vec<Call> =
-        cases.iter().flat_map(|case| case.plans.iter().map(|plan| Call { ask: &case.ask, room: plan.room, fill: plan.fill })).collect();
+    let calls: Vec<Call> = cases
+        .iter()
+        .flat_map(|case| case.plans.iter().map(|plan| Call { ask: &case.ask, exact: plan.exact, room: plan.room, fill: plan.fill }))
+        .collect();
     match ours.answer(&calls) {
         Ok(replies) => {
             assert_eq!(replies.len(), calls.len(), "every call is answered");
@@ -207,7 +211,8 @@ fn size_of_ask(ask: &Ask) -> usize {
 }
 
 fn describe(index: u64, ask: &Ask, plan: &Plan, text: &str) -> String {
-    let mut out = format!("  input {index}: {:?}, {}\n", ask.form, ask.settings);
+    let exact = if plan.exact { ", exact" } else { "" };
+    let mut out = format!("  input {index}: {:?}, {}{exact}\n", ask.form, ask.settings);
     let _ =
         writeln!(out, "  data ({} zero bytes, {} bytes, {} zero bytes behind them): {}", ask.lead, ask.src.len(), ask.tail, hex(&ask.src));
     if !matches!(ask.form, Form::Page(_)) {

@@ -143,7 +143,8 @@ fn form_number(form: Form) -> u32 {
 
 fn flags(call: &Call) -> u32 {
     let s = &call.ask.settings;
-    u32::from(s.end_of_block) | u32::from(s.end_of_line) << 1 | u32::from(s.aligned) << 2 | u32::from(s.strict) << 3
+    let flags = [s.end_of_block, s.end_of_line, s.aligned, s.strict, call.exact];
+    flags.iter().rev().fold(0, |flags, &flag| flags << 1 | u32::from(flag))
 }
 
 fn replies_of(calls: &[Call], reply: &[u8]) -> Replies {

@@ -1,14 +1,26 @@
 //! Which rooms are lent for a reader's input: more than enough, just enough, one entry short, one row
-//! end short, one mark short, or anything less.
+//! end short, one mark short, or anything less. Pages are read exactly (A12) besides.
 
 use crate::call::{Ask, Room};
 use crate::check::{Case, Plan};
 use crate::random::Random;
-use crate::truth::Outcome;
+use crate::truth::{Outcome, Wanted};
 
-/// A page, with room to spare and with each of the rooms that decide.
+/// A page, with room to spare and with each of the rooms that decide; and exactly, with room to spare and with one of them.
 pub fn page_case(ask: Ask, random: &mut Random) -> Case {
     let outcome = Outcome::of_page(&ask.settings, &ask.src, ask.tail);
+    let mut plans = planned(rooms(&outcome, random), random, |room| outcome.page_within(room));
+    let outcome = exactly(&ask, outcome);
+    let mut rooms = rooms(&outcome, random);
+    let another = rooms.swap_remove(1 + random.index(rooms.len() - 1));
+    rooms.truncate(1);
+    rooms.push(another);
+    plans.extend(exact_plans(rooms, random, &outcome));
+    Case { ask, plans, complaint: None }
+}
+
+/// Room to spare, and each of the rooms that decide.
+fn rooms(outcome: &Outcome, random: &mut Random) -> Vec<Room> {
     let (changes, ends) = (outcome.changes.len(), outcome.ends.len());
     let mut rooms = vec![Room::Rows { changes: changes + 3, ends: ends + 3, marks: ends + 2 }, Room::Rows { changes, ends, marks: ends }];
     if changes > 0 {
@@ -21,13 +33,32 @@ pub fn page_case(ask: Ask, random: &mut Random) -> Case {
     if changes + ends > 2 {
         rooms.push(random_room(random, changes, ends));
     }
-    planned(ask, rooms, random, |room| outcome.page_within(room))
+    rooms
+}
+
+/// What the same page gives when it is read exactly: of a strict page the reading is at hand.
+fn exactly(ask: &Ask, outcome: Outcome) -> Outcome {
+    if ask.settings.strict { outcome.exactly(&ask.settings) } else { Outcome::of_exact_page(&ask.settings, &ask.src, ask.tail) }
+}
+
+pub fn exact_plans(rooms: Vec<Room>, random: &mut Random, outcome: &Outcome) -> impl Iterator<Item = Plan> {
+    planned(rooms, random, |room| outcome.page_within(room)).into_iter().map(|plan| Plan { exact: true, ..plan })
 }
 
 /// A page with fewer rooms, for checks that have very many pages: room to spare or just enough, and for
-/// one page in eight one entry, one row end or one mark short.
+/// one page in eight one entry, one row end or one mark short. Each strict page is read exactly too, and
+/// one lenient page in eight: an exact reading does not look at strictness.
 pub fn quick_page_case(ask: Ask, random: &mut Random) -> Case {
     let outcome = Outcome::of_page(&ask.settings, &ask.src, ask.tail);
+    let mut plans = planned(quick_rooms(&outcome, random), random, |room| outcome.page_within(room));
+    if ask.settings.strict || random.below(8) == 0 {
+        let outcome = exactly(&ask, outcome);
+        plans.extend(exact_plans(quick_rooms(&outcome, random), random, &outcome));
+    }
+    Case { ask, plans, complaint: None }
+}
+
+fn quick_rooms(outcome: &Outcome, random: &mut Random) -> Vec<Room> {
     let (changes, ends) = (outcome.changes.len(), outcome.ends.len());
     let spare = random.index(2);
     let mut rooms = vec![Room::Rows { changes: changes + spare, ends: ends + spare, marks: ends + spare }];
@@ -37,7 +68,7 @@ pub fn quick_page_case(ask: Ask, random: &mut Random) -> Case {
         2 if ends > 0 => rooms.push(Room::Rows { changes, ends, marks: ends - 1 }),
         _ => {}
     }
-    planned(ask, rooms, random, |room| outcome.page_within(room))
+    rooms
 }
 
 /// One line, with room to spare, with just enough, and one entry short.
@@ -50,7 +81,8 @@ pub fn line_case(ask: Ask, random: &mut Random) -> Case {
         rooms.push(line_room(changes - 1));
         rooms.push(line_room(random.index(changes)));
     }
-    planned(ask, rooms, random, |room| outcome.line_within(room))
+    let plans = planned(rooms, random, |room| outcome.line_within(room));
+    Case { ask, plans, complaint: None }
 }
 
 fn random_room(random: &mut Random, changes: usize, ends: usize) -> Room {
@@ -62,7 +94,6 @@ pub fn line_room(changes: usize) -> Room {
     Room::Rows { changes, ends: 0, marks: 0 }
 }
 
-fn planned(ask: Ask, rooms: Vec<Room>, random: &mut Random, wanted: impl Fn(Room) -> crate::truth::Wanted) -> Case {
-    let plans = rooms.into_iter().map(|room| Plan { room, fill: random.next() as u32, wanted: wanted(room) }).collect();
-    Case { ask, plans, complaint: None }
+fn planned(rooms: Vec<Room>, random: &mut Random, wanted: impl Fn(Room) -> Wanted) -> Vec<Plan> {
+    rooms.into_iter().map(|room| Plan { exact: false, room, fill: random.next() as u32, wanted: wanted(room) }).collect()
 }

@@ -7,8 +7,8 @@ use crate::checks::writers::encoded;
 use crate::codes::LONGEST;
 use crate::encoder::put_line_2d;
 use crate::ours::Ours;
-use crate::settings::Encoding;
-use crate::truth::{LIMIT, Outcome, Wanted, ascends_below};
+use crate::settings::{Encoding, Settings};
+use crate::truth::{Idle, LIMIT, Outcome, Wanted, ascends_below};
 use hayro_ccitt_slipped as slipped;
 use std::io;
 
@@ -50,9 +50,15 @@ pub enum Fault {
     BehindMarks,
     MarkOfALine,
     FiveForNoMark,
+    ExactUnasked,
+    ExactIsLenient,
+    ShortPasses,
+    WholeIsShort,
+    ZeroColumnsShort,
+    BytesOfAShortPage,
 }
 
-pub const FAULTS: [Fault; 34] = [
+pub const FAULTS: [Fault; 40] = [
     Fault::Number,
     Fault::Rows,
     Fault::Entries,
@@ -87,6 +93,12 @@ pub const FAULTS: [Fault; 34] = [
     Fault::BehindMarks,
     Fault::MarkOfALine,
     Fault::FiveForNoMark,
+    Fault::ExactUnasked,
+    Fault::ExactIsLenient,
+    Fault::ShortPasses,
+    Fault::WholeIsShort,
+    Fault::ZeroColumnsShort,
+    Fault::BytesOfAShortPage,
 ];
 
 pub struct Standin(pub Fault);
@@ -112,7 +124,7 @@ impl Standin {
     fn read(&self, call: &Call, words: &mut [u32], bytes: &mut [u8]) -> Answer {
         let wanted = match call.ask.form {
             Form::ReadLine => self.line(call.ask).line_within(self.room(call.room)),
-            _ => self.page(call.ask).page_within(self.room(call.room)),
+            _ => self.page(call).page_within(self.room(call.room)),
         };
         let (changes, ends) = call.room.places();
         words[changes.clone()][..wanted.changes.len()].copy_from_slice(&wanted.changes);
@@ -139,7 +151,8 @@ impl Standin {
         }
     }
 
-    fn page(&self, ask: &Ask) -> Outcome {
+    fn page(&self, call: &Call) -> Outcome {
+        let ask = call.ask;
         let bare = |number| Outcome::bare(number, 0);
         if ask.settings.columns == u32::MAX {
             return bare(if self.0 == Fault::NoSix { 0 } else { 6 });
@@ -148,12 +161,30 @@ impl Standin {
             return bare(7);
         }
         if ask.settings.columns == 0 {
-            return bare(if self.0 == Fault::ZeroColumnsRefused { 6 } else { 0 });
+            return bare(match self.0 {
+                Fault::ZeroColumnsRefused => 6,
+                Fault::ZeroColumnsShort if call.exact && ask.settings.rows > 0 => 14,
+                _ => 0,
+            });
         }
-        if ask.lead == 0 && ask.tail == 0 {
-            return slipped_page(ask, &ask.src);
+        let strict = ask.settings.strict || call.exact && self.0 != Fault::ExactIsLenient;
+        let settings = Settings { strict, ..ask.settings };
+        let outcome = if ask.lead == 0 && ask.tail == 0 { slipped_page(&settings, &ask.src) } else { slipped_page(&settings, &ask.data()) };
+        if call.exact { self.exactly(&settings, outcome) } else { self.inexactly(&settings, outcome) }
+    }
+
+    fn exactly(&self, settings: &Settings, outcome: Outcome) -> Outcome {
+        let (number, rows) = (outcome.number, outcome.ends.len() as u32);
+        let exact = outcome.exactly(settings);
+        match self.0 {
+            Fault::ShortPasses if exact.number == 14 => Outcome { number, ..exact },
+            Fault::WholeIsShort if exact.number == 0 && rows == settings.rows => Outcome { number: 14, bytes: 0, ..exact },
+            _ => exact,
         }
-        slipped_page(ask, &ask.data())
+    }
+
+    fn inexactly(&self, settings: &Settings, outcome: Outcome) -> Outcome {
+        if self.0 == Fault::ExactUnasked && settings.strict { outcome.exactly(settings) } else { outcome }
     }
 
     fn line(&self, ask: &Ask) -> Outcome {
@@ -197,6 +228,7 @@ impl Standin {
             Fault::Loose if answer.loose > 2 => answer.loose -= 1,
             Fault::Bytes if answer.bytes > 9 => answer.bytes -= 1,
             Fault::BytesOfAFailure if answer.number == 4 => answer.bytes = 1,
+            Fault::BytesOfAShortPage if answer.number == 14 => answer.bytes = ask.src.len() as u64,
             Fault::PlaceOfFour if answer.number == 4 => answer.place = 1,
             Fault::PlaceBehind if answer.number == 2 => answer.place += 1,
             Fault::MarkOfALine if ask.form == Form::ReadLine => answer.mark = 0,
@@ -280,8 +312,7 @@ impl Standin {
     }
 }
 
-fn slipped_settings(ask: &Ask) -> slipped::DecodeSettings {
-    let s = &ask.settings;
+fn slipped_settings(s: &Settings) -> slipped::DecodeSettings {
     slipped::DecodeSettings {
         columns: s.columns,
         rows: s.rows,
@@ -318,34 +349,29 @@ fn slipped_number(error: slipped::DecodeError) -> u32 {
     }
 }
 
-fn slipped_page(ask: &Ask, src: &[u8]) -> Outcome {
+fn slipped_page(settings: &Settings, src: &[u8]) -> Outcome {
     let mut sink = Sink::default();
-    let mut context = slipped::DecoderContext::new(slipped_settings(ask));
+    let mut context = slipped::DecoderContext::new(slipped_settings(settings));
     let result = slipped::decode(src, &mut sink, &mut context);
     let (number, place, bytes) =
         result.map_or_else(|error| (slipped_number(error), slipped::place::last() as u64, 0), |bytes| (0, 0, bytes as u64));
     if number != 0 {
         sink.changes.extend_from_slice(context.unfinished());
     }
-    Outcome { number, place, bytes, changes: sink.changes, ends: sink.ends, marks: context.marks().to_vec() }
+    let idle = context.idle().map(Idle::of_open_crate);
+    Outcome { number, place, bytes, changes: sink.changes, ends: sink.ends, marks: context.marks().to_vec(), idle }
 }
 
 fn slipped_line(ask: &Ask) -> Outcome {
-    let mut context = slipped::DecoderContext::new(slipped_settings(ask));
+    let mut context = slipped::DecoderContext::new(slipped_settings(&ask.settings));
     let result = context.read_line(&ask.src, ask.at as usize, &ask.first);
     let changes = context.unfinished().to_vec();
     match result {
         Ok(bit) => {
-            Outcome { number: 0, place: 0, bytes: bit as u64, ends: vec![changes.len() as u32], marks: vec![context.mark()], changes }
+            let (ends, marks) = (vec![changes.len() as u32], vec![context.mark()]);
+            Outcome { bytes: bit as u64, changes, ends, marks, ..Outcome::bare(0, 0) }
         }
-        Err(error) => Outcome {
-            number: slipped_number(error),
-            place: slipped::place::last() as u64,
-            bytes: 0,
-            ends: Vec::new(),
-            marks: Vec::new(),
-            changes,
-        },
+        Err(error) => Outcome { changes, ..Outcome::bare(slipped_number(error), slipped::place::last() as u64) },
     }
 }
 
@@ -380,7 +406,15 @@ mod tests {
     /// The checks that a fault fails.
     fn failing(fault: Fault, sources: &[Box<dyn Source>]) -> Vec<String> {
         let mut ours: Vec<Box<dyn Ours>> = vec![Box::new(Standin(fault))];
-        sources.iter().filter(|source| !check::run(source.as_ref(), 7, &mut ours).passed()).map(|source| source.name()).collect()
+        let mut failing = Vec::new();
+        for source in sources {
+            let tally = check::run(source.as_ref(), 7, &mut ours);
+            if !tally.passed() {
+                println!("{}:\n{}", source.name(), tally.smallest.map_or(String::new(), |(_, text)| text));
+                failing.push(source.name());
+            }
+        }
+        failing
     }
 
     #[test]

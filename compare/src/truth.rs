@@ -20,6 +20,23 @@ pub struct Outcome {
     pub ends: Vec<u32>,
     /// And its mark: 0 clean, 1 cut, 2 recovered.
     pub marks: Vec<u8>,
+    /// The first code that an exact reading refuses (A12).
+    pub idle: Option<Idle>,
+}
+
+/// An idle code: the bit of its mode code, and what was read before it.
+#[derive(Clone, Copy, Debug, PartialEq, Eq)]
+pub struct Idle {
+    pub place: u64,
+    pub rows: usize,
+    /// The changes of its own row alone.
+    pub changes: usize,
+}
+
+impl Idle {
+    pub fn of_open_crate((bit, rows, changes): (usize, u32, usize)) -> Self {
+        Idle { place: bit as u64, rows: rows as usize, changes }
+    }
 }
 
 /// What must come back from one call: the answer, and what the lent arrays begin with. Everything
@@ -44,7 +61,7 @@ impl Wanted {
 impl Outcome {
     /// An answer that leaves everything as it was.
     pub fn bare(number: u32, place: u64) -> Self {
-        Outcome { number, place, bytes: 0, changes: Vec::new(), ends: Vec::new(), marks: Vec::new() }
+        Outcome { number, place, bytes: 0, changes: Vec::new(), ends: Vec::new(), marks: Vec::new(), idle: None }
     }
 
     /// A page: tests 6 and 7, then what the crate gives.
@@ -61,6 +78,29 @@ impl Outcome {
         Self::of_crate(settings, &with_zeros(0, src, tail))
     }
 
+    /// A page read exactly.
+    pub fn of_exact_page(settings: &Settings, src: &[u8], tail: usize) -> Self {
+        Self::of_page(&Settings { strict: true, ..*settings }, src, tail).exactly(settings)
+    }
+
+    /// What an exact reading gives, from the strict one, which it implies: the first idle code answers 1, and a page that is
+    /// done with fewer rows than it is to have 14. Columns 0 still answers 0.
+    pub fn exactly(self, settings: &Settings) -> Self {
+        if let Some(idle) = self.idle {
+            let base = if idle.rows == 0 { 0 } else { self.ends[idle.rows - 1] as usize };
+            return Outcome {
+                changes: self.changes[..base + idle.changes].to_vec(),
+                ends: self.ends[..idle.rows].to_vec(),
+                marks: self.marks[..idle.rows].to_vec(),
+                ..Self::bare(1, idle.place)
+            };
+        }
+        if self.number == 0 && settings.columns != 0 && self.ends.len() < settings.rows as usize {
+            return Outcome { number: 14, bytes: 0, ..self };
+        }
+        self
+    }
+
     fn of_crate(settings: &Settings, src: &[u8]) -> Self {
         let mut sink = Sink::default();
         let mut context = hayro_ccitt::DecoderContext::new(settings.for_crate());
@@ -69,7 +109,7 @@ impl Outcome {
         Self::of_open_crate(settings, src, number, bytes, sink)
     }
 
-    /// The crate hands out no unfinished row and no place, and marks no row, so the copy that does is asked again. It must
+    /// The crate hands out no unfinished row and no place, marks no row and tells no idle code, so the copy that does is asked again. It must
     /// agree with the crate in everything else.
     fn of_open_crate(settings: &Settings, src: &[u8], number: u32, bytes: usize, sink: Sink) -> Self {
         let mut again = Sink::default();
@@ -83,7 +123,8 @@ impl Outcome {
             changes.extend_from_slice(context.unfinished());
             place = hayro_ccitt_open::place::last() as u64;
         }
-        Outcome { number, place, bytes: bytes as u64, changes, ends: sink.ends, marks: context.marks().to_vec() }
+        let idle = context.idle().map(Idle::of_open_crate);
+        Outcome { number, place, bytes: bytes as u64, changes, ends: sink.ends, marks: context.marks().to_vec(), idle }
     }
 
     /// One line: tests 6, 7 and 8, a start past the data, then what the crate's reading of a line gives.
@@ -106,19 +147,14 @@ impl Outcome {
             return Self::of_line(columns, strict, &with_zeros(0, src, tail), 0, at, reference);
         }
         let mut context = hayro_ccitt_open::DecoderContext::new(Settings::of_line(columns, strict).for_open_crate());
-        match context.read_line(src, at as usize, reference) {
+        let result = context.read_line(src, at as usize, reference);
+        let (changes, idle) = (context.unfinished().to_vec(), context.idle().map(Idle::of_open_crate));
+        match result {
             Ok(bit) => {
-                let changes = context.unfinished().to_vec();
-                Outcome { number: 0, place: 0, bytes: bit as u64, ends: vec![changes.len() as u32], marks: vec![context.mark()], changes }
+                let (ends, marks) = (vec![changes.len() as u32], vec![context.mark()]);
+                Outcome { number: 0, place: 0, bytes: bit as u64, changes, ends, marks, idle }
             }
-            Err(error) => Outcome {
-                number: open_crate_number(error),
-                place: hayro_ccitt_open::place::last() as u64,
-                bytes: 0,
-                changes: context.unfinished().to_vec(),
-                ends: Vec::new(),
-                marks: Vec::new(),
-            },
+            Err(error) => Outcome { changes, idle, ..Self::bare(open_crate_number(error), hayro_ccitt_open::place::last() as u64) },
         }
     }
 

@@ -85,7 +85,7 @@ fn compare(name: &str, pages: &[&Page], store: &mut Store) {
 fn time_ours(page: &Page, store: &mut Store) -> Duration {
     let store = store.cleared();
     let began = Instant::now();
-    let answer = linked::page(&page.settings, &page.src, &mut store.changes, &mut store.ends, &mut store.marks);
+    let answer = linked::page(&page.settings, false, &page.src, &mut store.changes, &mut store.ends, &mut store.marks);
     let took = began.elapsed();
     assert!(answer.number == page.number && answer.rows as usize == page.rows, "ours answers as the crate does");
     took

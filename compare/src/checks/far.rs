@@ -31,10 +31,11 @@ impl Source for Far {
         let mut ask = Ask::page(settings, [vec![1], encoded(COLUMNS, &rows).into_bytes()].concat());
         ask.lead = FILL;
         let outcome = Outcome::of_page(&settings, &ask.data(), 0);
-        let agrees = outcome.number == 0 && outcome.rows().eq(rows.iter().map(Vec::as_slice));
+        let agrees = outcome.number == 0 && outcome.idle.is_none() && outcome.rows().eq(rows.iter().map(Vec::as_slice));
         let room = Room::Rows { changes: outcome.changes.len() + 3, ends: rows.len() + 3, marks: rows.len() + 3 };
-        let plan = Plan { room, fill: random.next() as u32, wanted: outcome.page_within(room) };
-        Case { ask, plans: vec![plan], complaint: None }.require(agrees, || "the crate does not read the rows back".to_string())
+        let plan = |exact| Plan { exact, room, fill: random.next() as u32, wanted: outcome.page_within(room) };
+        Case { ask, plans: [false, true].map(plan).into(), complaint: None }
+            .require(agrees, || "the crate does not read the rows back".to_string())
     }
 
     fn batch(&self) -> u64 {

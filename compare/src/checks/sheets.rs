@@ -22,6 +22,7 @@ pub const LINES: [(u32, &[u32], &[u32], &str); 6] = [
 /// A page and its answer.
 struct Sheet {
     settings: Settings,
+    exact: bool,
     src: &'static [u8],
     room: Room,
     answer: Answer,
@@ -59,12 +60,12 @@ const ENDS: &[u32] = &[0; 9];
 /// A sheet with room to spare and no black pixel.
 const fn white(settings: Settings, src: &'static [u8], answer: Answer, marks: &'static [u8]) -> Sheet {
     let (ends, _) = ENDS.split_at(marks.len());
-    Sheet { settings, src, room: PLENTY, answer, changes: &[], ends, marks }
+    Sheet { settings, exact: false, src, room: PLENTY, answer, changes: &[], ends, marks }
 }
 
 const fn black(room: Room, answer: Answer, ends: &'static [u32], changes: &'static [u32]) -> Sheet {
     let marks: &[u8] = if ends.is_empty() { &[] } else { &[0] };
-    Sheet { settings: group4(8, 1, true), src: &[0x31, 0xC0], room, answer, changes, ends, marks }
+    Sheet { settings: group4(8, 1, true), exact: false, src: &[0x31, 0xC0], room, answer, changes, ends, marks }
 }
 
 const fn with_eols(settings: Settings) -> Settings {
@@ -99,7 +100,7 @@ const SHEETS: [Sheet; 22] = [
     white(one_d(0, false), &[0x00, 0x01], answer(0, 1, 0, 0, 2), &[2]),
     white(one_d(0, true), &[0x00, 0x01], fault(2, 0, 16), &[]),
     Sheet {
-        settings: one_d(2, false), src: &[0x00, 0x17, 0x80, 0x06, 0x60], room: PLENTY,
+        settings: one_d(2, false), exact: false, src: &[0x00, 0x17, 0x80, 0x06, 0x60], room: PLENTY,
         answer: answer(0, 2, 2, 0, 5), changes: &[2, 5], ends: &[2, 2], marks: &[2, 0],
     },
 ];
@@ -128,7 +129,7 @@ const PARTINGS: [Sheet; 25] = [
     white(group4(8, 1, true), &[0x10], answer(0, 1, 0, 0, 1), &[0]),
     white(group4(8, 1, true), &[0x33, 0x0D, 0xC0], answer(0, 1, 0, 0, 3), &[0]),
     Sheet {
-        settings: group4(8, 2, true), src: &[0x2E, 0xA0, 0xE0], room: PLENTY,
+        settings: group4(8, 2, true), exact: false, src: &[0x2E, 0xA0, 0xE0], room: PLENTY,
         answer: answer(0, 2, 3, 0, 3), changes: &[2, 3, 5], ends: &[2, 3], marks: &[0, 0],
     },
     white(group4(8, 1, true), &[0x00, 0x18], answer(0, 1, 0, 0, 2), &[0]),
@@ -167,9 +168,55 @@ const PLACES: [Sheet; 13] = [
     white(one_d(2, false), &[0x00, 0x01, 0x00, 0x80, 0x0C, 0xC0], answer(0, 2, 0, 0, 6), &[2, 0]),
 ];
 
+/// A sheet that is read exactly, whatever its settings say of strictness.
+const fn exact(sheet: Sheet) -> Sheet {
+    Sheet { exact: true, ..sheet }
+}
+
+/// One for each clause of A12: two zero runs, in Group 4 and in Group 3 2D, and one of them; a move that stays, further on and at 0, in black and as the line's first
+/// code; a page short of rows, in Group 4 and in Group 3, and one that is not, or that is to have no number of them; 5 and `check_eob` before 14; strict implied;
+/// columns 0; and a zero run of a 1D line.
+#[rustfmt::skip]
+const EXACT: [Sheet; 16] = [
+    exact(white(group4(8, 1, true), &[0x26, 0xA1, 0xBC], fault(1, 0, 0), &[])),
+    exact(white(two_d(1), &[0x13, 0x50, 0xDE], fault(1, 0, 1), &[])),
+    Sheet {
+        settings: group4(8, 1, true), exact: true, src: &[0x26, 0xAA], room: PLENTY,
+        answer: answer(0, 1, 2, 0, 2), changes: &[0, 1], ends: &[2], marks: &[0],
+    },
+    Sheet {
+        settings: group4(8, 1, true), exact: true, src: &[0x36, 0x81, 0x40], room: PLENTY,
+        answer: Answer { place: 10, ..answer(1, 0, 0, 1, 0) }, changes: &[4], ends: &[], marks: &[],
+    },
+    Sheet {
+        settings: group4(8, 2, true), exact: true, src: &[0x26, 0xB6, 0x08], room: PLENTY,
+        answer: Answer { place: 15, ..answer(1, 1, 2, 0, 0) }, changes: &[0, 3], ends: &[2], marks: &[0],
+    },
+    Sheet {
+        settings: group4(1, 1, true), exact: true, src: &[0x50], room: PLENTY,
+        answer: answer(0, 1, 1, 0, 1), changes: &[0], ends: &[1], marks: &[0],
+    },
+    exact(white(with_end(group4(8, 2, true)), &[0x80, 0x08, 0x00, 0x80], answer(14, 1, 0, 0, 0), &[0])),
+    exact(white(with_end(one_d(2, true)), &[0x00, 0x19, 0x80, 0x01], answer(14, 1, 0, 0, 0), &[0])),
+    exact(white(with_end(group4(8, 1, true)), &[0x80, 0x08, 0x00, 0x80], answer(0, 1, 0, 0, 4), &[0])),
+    exact(white(with_end(group4(8, 0, true)), &[0x80, 0x08, 0x00, 0x80], answer(0, 1, 0, 0, 4), &[0])),
+    Sheet {
+        settings: with_end(group4(8, 2, true)), exact: true, src: &[0x80, 0x08, 0x00, 0x80], room: Room::Rows { changes: 0, ends: 0, marks: 1 },
+        answer: answer(5, 0, 0, 0, 0), changes: &[], ends: &[], marks: &[],
+    },
+    exact(white(one_d(3, true), &[0x00, 0x01, 0x9C, 0xC0], fault(1, 1, 21), &[0])),
+    exact(white(group4(8, 1, false), &[0x60], fault(1, 0, 0), &[])),
+    Sheet {
+        settings: one_d(2, false), exact: true, src: &[0x00, 0x17, 0x80, 0x06, 0x60], room: PLENTY,
+        answer: Answer { place: 18, ..answer(1, 0, 0, 1, 0) }, changes: &[2], ends: &[], marks: &[],
+    },
+    exact(white(group4(0, 2, true), &[], answer(0, 0, 0, 0, 0), &[])),
+    exact(white(one_d(1, true), &[0x80, 0xDF, 0x00], answer(0, 1, 0, 0, 3), &[0])),
+];
+
 /// Every page that is listed above.
 fn pages() -> impl Iterator<Item = &'static Sheet> {
-    SHEETS.iter().chain(&PARTINGS).chain(&PLACES)
+    SHEETS.iter().chain(&PARTINGS).chain(&PLACES).chain(&EXACT)
 }
 
 pub struct Sheets;
@@ -195,9 +242,9 @@ impl Source for Sheets {
 fn page_sheet(sheet: &Sheet, fill: u32) -> Case {
     let (changes, ends, marks) = (sheet.changes.to_vec(), sheet.ends.to_vec(), sheet.marks.to_vec());
     let wanted = Wanted { answer: sheet.answer, changes, ends, marks, out: None };
-    let of_crate = Outcome::of_page(&sheet.settings, sheet.src, 0).page_within(sheet.room);
-    let agrees = of_crate == wanted;
-    let plans = vec![Plan { room: sheet.room, fill, wanted }];
+    let of_crate = if sheet.exact { Outcome::of_exact_page } else { Outcome::of_page }(&sheet.settings, sheet.src, 0);
+    let agrees = of_crate.page_within(sheet.room) == wanted;
+    let plans = vec![Plan { exact: sheet.exact, room: sheet.room, fill, wanted }];
     Case { ask: Ask::page(sheet.settings, sheet.src.to_vec()), plans, complaint: None }
         .require(agrees, || "the crate does not give what the sheet says".to_string())
 }
@@ -210,7 +257,7 @@ fn line_sheet(index: usize, fill: u32) -> Case {
     let src = bits.into_bytes();
     let of_crate = Outcome::of_line(columns, true, &src, 0, 0, reference).line_within(PLENTY);
     let agrees = of_crate == wanted;
-    let plans = vec![Plan { room: line_room(row.len() + 1), fill, wanted }];
+    let plans = vec![Plan { exact: false, room: line_room(row.len() + 1), fill, wanted }];
     Case { ask: Ask::read_line(columns, true, src, 0, reference.to_vec()), plans, complaint: None }
         .require(agrees, || "the crate does not give what the sheet says".to_string())
 }
