@@ -10,7 +10,8 @@
 /* number: 0 done; 1 invalid code; 2 unexpected end of the data; 3 overflow; 4 no entry left for a change; 5 no place left for a row's end with
            its mark;
            6 columns 4294967295 (for one line or a writer also 0); 7 data or output above 4294967296 bytes;
-           8 a row or reference that does not ascend strictly below the columns, or row ends that fall or pass the array; 9 the bits do not fit.
+           8 a row or reference that does not ascend strictly below the columns, or row ends that fall or pass the array; 9 the bits do not fit;
+           14 an exact page that ends with fewer rows than it is to have.
    mark:    for one line read whole its mark: 0 clean, 1 cut to the width; else 0.
    rows:    rows kept. Row n's changes lie in `changes` from ends[n - 1] (0 for the first) to ends[n].
    entries: entries in kept rows.
@@ -29,17 +30,20 @@ typedef struct {
 } ccitt_answer;
 
 /* A page of the given encoding. rows 0: to the end of block or of the data. marks[n] is the mark of row n, beside its end: 0 read clean, 1 cut to
-   the width (a lenient count was shortened in it), 2 recovered (a damaged line, white from the fault on). */
+   the width (a lenient count was shortened in it), 2 recovered (a damaged line, white from the fault on).
+   exact: stricter than strict, which it implies. A vertical move to the position that it starts from, other than the line's first code moving to 0,
+   and a horizontal code with two zero runs answer 1, at their mode code; a page that ends with fewer rows than `rows`, if that is not 0, answers 14
+   and keeps its rows. */
 ccitt_answer ccitt_decode_group4(const uint8_t *src, size_t src_len, uint32_t columns, uint32_t rows, bool end_of_block,
-                                 bool rows_are_byte_aligned, bool strict, uint32_t *changes, size_t changes_len, uint64_t *ends,
-                                 size_t ends_len, uint8_t *marks, size_t marks_len);
+                                 bool rows_are_byte_aligned, bool strict, bool exact, uint32_t *changes, size_t changes_len,
+                                 uint64_t *ends, size_t ends_len, uint8_t *marks, size_t marks_len);
 
 ccitt_answer ccitt_decode_group3_1d(const uint8_t *src, size_t src_len, uint32_t columns, uint32_t rows, bool end_of_block,
-                                    bool end_of_line, bool rows_are_byte_aligned, bool strict, uint32_t *changes,
+                                    bool end_of_line, bool rows_are_byte_aligned, bool strict, bool exact, uint32_t *changes,
                                     size_t changes_len, uint64_t *ends, size_t ends_len, uint8_t *marks, size_t marks_len);
 
 ccitt_answer ccitt_decode_group3_2d(const uint8_t *src, size_t src_len, uint32_t columns, uint32_t rows, bool end_of_block,
-                                    bool end_of_line, bool rows_are_byte_aligned, bool strict, uint32_t *changes,
+                                    bool end_of_line, bool rows_are_byte_aligned, bool strict, bool exact, uint32_t *changes,
                                     size_t changes_len, uint64_t *ends, size_t ends_len, uint8_t *marks, size_t marks_len);
 
 /* One 2D line that begins at bit `at`, under a reference. */
