@@ -21,7 +21,7 @@ use Rattle.context.specs.declared.line.Line.{Line}
 use Rattle.context.specs.declared.step.Rules as Code
 use Rattle.context.specs.declared.step.Step.{Step}
 use Rattle.context.specs.declared.step.Step.the-variants.{On, Stop}
-use Rattle.context.specs.State.{lineAt, lineFor, rulesFor, changesOf, Holds}
+use Rattle.context.specs.State.{lineAt, rulesFor, changesOf, Holds}
 use Rattle.context.specs.Outcome.{Steps, runsFrom}
 use Rattle.context.specs.Coding.{idleMove, TwoRuns}
 use Rattle.context.proofs.State.{line-for}
