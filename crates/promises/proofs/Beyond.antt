@@ -58,7 +58,7 @@ rows-go-back bytes settings changes ends marks r changes′ ends′ marks′ nar
         ⊎-elim (λ e. kept (decode-answers bytes settings changes ends marks r changes′ ends′ marks′ narrow called .2 .no-rows e))
         (λ e.
         let d = decode-answers bytes settings changes ends marks r changes′ ends′ marks′ narrow called in
-        kept (d .1 (omega (arith, d .0 .six .1 e)) .counts .0))
+        kept (d .1 (omega (arith, d .0 .six .1 e)) (omega (arith, d .0 .six .1 e)) .counts .0))
 
     done : w .number ≡ 0
     done =

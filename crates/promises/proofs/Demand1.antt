@@ -1,6 +1,6 @@
 -- Demand 1 is met. Assumes nothing.
 use mathlib.Core.Path.{_≡_, refl, sym, ap, ap₂, _∙_, subst, subst₂}
-use mathlib.Core.Logic.{_↔_}
+use mathlib.Core.Logic.{_⊎_, inl, inr, _↔_, ⊎-elim}
 use mathlib.Core.Bool.{Bool, true, false}
 use mathlib.Core.List.{List, [], _++_, append-assoc}
 use Prim.Native.Nat.{ℕ, zero, suc, _+_, _*_, _≤_, _<_}
@@ -11,13 +11,15 @@ use lib.Seq.{take-at, drop-at}
 use borrow.Author.Tests.{eqb-true, eqb-false, ltb-true, ltb-false}
 use Rattle.rules.specs.Bits.{bitsOf}
 use Rattle.rules.specs.Pages as Page
-use Rattle.rules.specs.Pages.{mostBytes, tooWide, entries, joined, endsFrom, overlaid, decode, readPage, placesIn, changesAfter, endsAfter, marksAfter}
+use Rattle.rules.specs.Pages.{mostBytes, tooWide, entries, joined, endsFrom, overlaid, decode, readPage, strictIfExact, unlessShort, placesIn, changesAfter, endsAfter, marksAfter}
 use Rattle.rules.specs.Write.{rowsIn}
 use Rattle.rules.proofs.Bits.{length-bitsOf}
 use Rattle.rules.proofs.Budget.{Bytes}
 use Rattle.rules.proofs.PageBack.{Rows, no-rows}
 use Rattle.rules.proofs.Pages.{read-answered}
-use Rattle.rules.proofs.MoreRoom.{decode-stays}
+use Rattle.rules.proofs.Answers.{short-cases}
+use Rattle.rules.proofs.ExactPages.{ShortPage, decode-short, decode-done}
+use Rattle.rules.proofs.MoreRoom.{decode-settled}
 use Rattle.rules.proofs.Marks.{came-as-many, decode-came}
 use Rattle.rules.proofs.Store.{length-joined, length-ends, rows-back}
 use Rattle.error.specs.Error.{answerOf}
@@ -25,7 +27,7 @@ use Rattle.error.specs.declared.Answer.{Answer}
 use Rattle.rows.specs.declared.DecodeSettings.{DecodeSettings}
 use Rattle.rows.specs.Settings.{settingsOf}
 use Rattle.ccitt.specs.Decode.{Gives}
-use Rattle.promises.specs.Demand1.{Listed, Refused, Stored, DecodeAnswers, MoreRoom}
+use Rattle.promises.specs.Demand1.{TooFew, Listed, Refused, Stored, DecodeAnswers, Stays, MoreRoom}
 
 -- ---- The rules' answer, by the tests
 
@@ -35,7 +37,7 @@ pub data Said (settings : DecodeSettings) (bytes changes ends marks : List ℕ) 
   is-seven : (settings .columns ≡ 4294967295 → ⊥) → mostBytes < length bytes → Said settings bytes changes ends marks (Page.refusal 7)
   no-columns : (settings .columns ≡ 4294967295 → ⊥) → length bytes ≤ mostBytes → Said settings bytes changes ends marks (Page.refusal 0)
   is-read : (settings .columns ≡ 4294967295 → ⊥) → length bytes ≤ mostBytes → (settings .columns ≡ 0 → ⊥)
-      → Said settings bytes changes ends marks (readPage (settingsOf settings) (bitsOf bytes) (length changes) (placesIn ends marks))
+      → Said settings bytes changes ends marks (unlessShort (settingsOf settings) (readPage (strictIfExact (settingsOf settings)) (bitsOf bytes) (length changes) (placesIn ends marks)))
 
 pub said : (settings : DecodeSettings) (bytes changes ends marks : List ℕ) → Said settings bytes changes ends marks (decode (settingsOf settings) bytes (length changes) (placesIn ends marks))
 unfolding decode
@@ -48,7 +50,7 @@ said settings bytes changes ends marks = tests (tooWide (settings .columns)) (eq
           | true ↦ Page.refusal 6
           | false ↦ elim b as (λ _. Page.Answer) [
             | true ↦ Page.refusal 7
-            | false ↦ elim c as (λ _. Page.Answer) [ true ↦ Page.refusal 0 | false ↦ readPage (settingsOf settings) (bitsOf bytes) (length changes) (placesIn ends marks) ]
+            | false ↦ elim c as (λ _. Page.Answer) [ true ↦ Page.refusal 0 | false ↦ unlessShort (settingsOf settings) (readPage (strictIfExact (settingsOf settings)) (bitsOf bytes) (length changes) (placesIn ends marks)) ]
           ]
         ])
     tests true p q b r s c t = is-six (p refl)
@@ -59,10 +61,10 @@ said settings bytes changes ends marks = tests (tooWide (settings .columns)) (eq
 -- ---- What holds of every answer of the rules
 
 pub record Fine (settings : DecodeSettings) (bytes changes ends marks : List ℕ) (a : Page.Answer) : Type 0 where
-  pub at-most-7 : a .number ≤ 7
+  pub listed : (a .number ≤ 7) ⊎ (a .number ≡ 14)
   pub six : (a .number ≡ 6) ↔ (settings .columns ≡ 4294967295)
   pub seven : (a .number ≡ 7) ↔ ((settings .columns ≡ 4294967295 → ⊥) × (mostBytes < length bytes))
-  pub refused : 6 ≤ a .number → a ≡ Page.refusal (a .number)
+  pub refused : 6 ≤ a .number → a .number ≤ 9 → a ≡ Page.refusal (a .number)
   pub rows-fit : length (a .rows) ≤ placesIn ends marks
   pub entries-fit : entries (a .rows) + length (a .loose) ≤ length changes
   pub rising : Rows (settings .columns) (a .rows)
@@ -73,10 +75,10 @@ pub record Fine (settings : DecodeSettings) (bytes changes ends marks : List ℕ
 fine : {settings : DecodeSettings} {bytes changes ends marks : List ℕ} {a : Page.Answer} → settings .columns ≤ 4294967295 → Said settings bytes changes ends marks a → Fine settings bytes changes ends marks a
 unfolding entries
 fine h (is-six e) = record {
-  at-most-7 = omega arith;
+  listed = inl (omega arith);
   six = ((λ q. e), λ q. refl);
   seven = ((λ q. absurd (omega arith)), λ q. absurd (q .0 e));
-  refused = λ q. refl;
+  refused = λ q l. refl;
   rows-fit = omega arith;
   entries-fit = omega arith;
   rising = no-rows;
@@ -85,10 +87,10 @@ fine h (is-six e) = record {
   none = λ q. (refl, λ l. absurd (omega (arith, e, q)));
 }
 fine h (is-seven n l) = record {
-  at-most-7 = omega arith;
+  listed = inl (omega arith);
   six = ((λ q. absurd (omega arith)), λ q. absurd (n q));
   seven = ((λ q. (n, l)), λ q. refl);
-  refused = λ q. refl;
+  refused = λ q l. refl;
   rows-fit = omega arith;
   entries-fit = omega arith;
   rising = no-rows;
@@ -97,10 +99,10 @@ fine h (is-seven n l) = record {
   none = λ q. (refl, λ k. absurd (omega (arith, l, k)));
 }
 fine h (no-columns n l) = record {
-  at-most-7 = omega arith;
+  listed = inl (omega arith);
   six = ((λ q. absurd (omega arith)), λ q. absurd (n q));
   seven = ((λ q. absurd (omega arith)), λ q. absurd (omega (arith, q .1)));
-  refused = λ q. refl;
+  refused = λ q l. refl;
   rows-fit = omega arith;
   entries-fit = omega arith;
   rising = no-rows;
@@ -111,19 +113,32 @@ fine h (no-columns n l) = record {
 fine {settings} {bytes} {changes} {ends} {marks} h (is-read n l z) =
     let w : 0 < settings .columns = positive (settings .columns) z in
     let b : Bytes (bitsOf bytes) = record { count = length bytes; whole = length-bitsOf bytes } in
-    let a = read-answered (settingsOf settings .encoding) (settingsOf settings) w (bitsOf bytes) b (length changes) (placesIn ends marks) refl in
-    record {
-      at-most-7 = omega (arith, a .numbered);
+    let a = read-answered (settingsOf settings .encoding) (strictIfExact (settingsOf settings)) w (bitsOf bytes) b (length changes) (placesIn ends marks) refl in
+    short-cases (settingsOf settings) (readPage (strictIfExact (settingsOf settings)) (bitsOf bytes) (length changes) (placesIn ends marks)) (Fine settings bytes changes ends marks)
+    (λ k. record {
+      listed = inr refl;
+      six = ((λ q. absurd (omega arith)), λ q. absurd (n q));
+      seven = ((λ q. absurd (omega arith)), λ q. absurd (omega (arith, q .1)));
+      refused = λ q t. absurd (omega arith);
+      rows-fit = a .placed;
+      entries-fit = a .roomy;
+      rising = a .rising;
+      clean = λ q. absurd (omega arith);
+      few-rows = omega (arith, a .few-rows, length-bitsOf bytes);
+      none = λ q. absurd (z q);
+    })
+    (λ k. record {
+      listed = inl (omega (arith, a .numbered));
       six = ((λ q. absurd (omega (arith, a .numbered))), λ q. absurd (n q));
       seven = ((λ q. absurd (omega (arith, a .numbered))), λ q. absurd (omega (arith, q .1)));
-      refused = λ q. absurd (omega (arith, a .numbered));
+      refused = λ q t. absurd (omega (arith, a .numbered));
       rows-fit = a .placed;
       entries-fit = a .roomy;
       rising = a .rising;
       clean = a .clean;
       few-rows = omega (arith, a .few-rows, length-bitsOf bytes);
       none = λ q. absurd (z q);
-    }
+    })
   where
     positive : (n : ℕ) → (n ≡ 0 → ⊥) → 0 < n
     positive zero z = absurd (z refl)
@@ -192,19 +207,28 @@ module _ (a : Page.Answer) (changes ends marks : List ℕ) (r : Answer) (changes
       ap₂ (λ (x y : List ℕ). rowsIn 0 x y) (changes-are ∙ append-assoc (joined (a .rows)) (a .loose) (drop (length (joined (a .rows) ++ a .loose)) changes)) ends-front
       ∙ rows-back (a .rows) (a .loose ++ drop (length (joined (a .rows) ++ a .loose)) changes)
 
-  module _ (settings : DecodeSettings) (bytes : List ℕ) (f : Fine settings bytes changes ends marks a) where
+  module _ (settings : DecodeSettings) (bytes : List ℕ) (f : Fine settings bytes changes ends marks a) (short : a .number ≡ 14 → ShortPage (settingsOf settings) bytes a)
+      (done : a .number ≡ 0 → settings .exact ≡ true → 0 < settings .columns → settings .rows ≤ length (a .rows)) where
+    too-few : r .number ≡ 14 → TooFew bytes settings changes ends marks r changes′ ends′ marks′
+    too-few q = let s = short (sym number-is ∙ q) in record { exact = s .exact; wide = s .allowed .wide; fewer = omega (arith, rows-are, s .fewer) }
+
+    -- a page that ended with 0 has rows enough
+    enough : r .number ≡ 0 → TooFew bytes settings changes ends marks r changes′ ends′ marks′ → ⊥
+    enough q t = omega (arith, rows-are, t .fewer, done (sym number-is ∙ q) (t .exact) (t .wide))
+
     listed : Listed bytes settings changes ends marks r changes′ ends′ marks′
     listed = record {
-      at-most-7 = omega (arith, number-is, f .at-most-7);
+      listed = subst (λ (n : ℕ). (n ≤ 7) ⊎ (n ≡ 14)) (sym number-is) (f .listed);
+      fourteen = ⊎-elim (λ q. ((λ e. too-few e), λ t. absurd (enough q t))) (λ q. ((λ e. too-few e), λ t. q));
       six = ((λ q. f .six .0 (sym number-is ∙ q)), λ q. number-is ∙ f .six .1 q);
       seven = ((λ q. f .seven .0 (sym number-is ∙ q)), λ q. number-is ∙ f .seven .1 q);
       no-columns = λ q l. number-is ∙ f .none q .1 l;
     }
 
-    refused : 6 ≤ r .number → Refused bytes settings changes ends marks r changes′ ends′ marks′
+    refused : 6 ≤ r .number → r .number ≤ 9 → Refused bytes settings changes ends marks r changes′ ends′ marks′
     unfolding changesAfter endsAfter marksAfter overlaid joined endsFrom entries
-    refused h =
-        let e = f .refused (omega (arith, number-is)) in
+    refused h k =
+        let e = f .refused (omega (arith, number-is)) (omega (arith, number-is)) in
         record {
           same-changes = given .changes ∙ ap (λ (x : Page.Answer). changesAfter x changes) e;
           same-ends = given .ends ∙ ap (λ (x : Page.Answer). endsAfter x ends) e;
@@ -223,6 +247,7 @@ module _ (a : Page.Answer) (changes ends marks : List ℕ) (r : Answer) (changes
       later-ends = later-ends;
       later-marks = later-marks as-many;
       clean = λ q. loose-is ∙ ap length (f .clean (sym number-is ∙ q));
+      short = λ q. let s = short (sym number-is ∙ q) in (loose-is ∙ ap length (s .no-loose), ap (λ (x : Answer). x .bytes) (given .answer) ∙ s .no-bytes);
       no-rows = λ q. rows-are ∙ ap length (f .none q .0);
       few-rows = omega (arith, rows-are, f .few-rows);
     }
@@ -236,15 +261,20 @@ all-marked settings bytes changes ends marks = came-as-many (decode-came (settin
 pub decode-answers : DecodeAnswers
 decode-answers bytes settings changes ends marks r changes′ ends′ marks′ h called =
     let f = fine h (said settings bytes changes ends marks) in
-    (listed _ changes ends marks r changes′ ends′ marks′ called settings bytes f, refused _ changes ends marks r changes′ ends′ marks′ called settings bytes f, stored _ changes ends marks r changes′ ends′ marks′ called settings bytes f (all-marked settings bytes changes ends marks))
+    let short = decode-short (settingsOf settings) bytes (length changes) (placesIn ends marks) in
+    let done = decode-done (settingsOf settings) bytes (length changes) (placesIn ends marks) in (
+      listed _ changes ends marks r changes′ ends′ marks′ called settings bytes f short done,
+      refused _ changes ends marks r changes′ ends′ marks′ called settings bytes f short done,
+      stored _ changes ends marks r changes′ ends′ marks′ called settings bytes f short done (all-marked settings bytes changes ends marks),
+    )
 
--- More room never changes an answer from 0 to 3.
-pub more-room : MoreRoom
-more-room bytes settings changes ends marks larger-changes larger-ends larger-marks r s changes′ ends′ marks′ larger-changes′ larger-ends′ larger-marks′ hc he hm called later n =
+-- More room never changes an answer but 4 and 5,
+pub settled-stays : Stays (λ n. (n ≡ 4 → ⊥) × (n ≡ 5 → ⊥))
+settled-stays bytes settings changes ends marks larger-changes larger-ends larger-marks r s changes′ ends′ marks′ larger-changes′ larger-ends′ larger-marks′ hc he hm called later n =
     (is, fronts, row-fronts, mark-fronts)
   where
     same : decode (settingsOf settings) bytes (length larger-changes) (placesIn larger-ends larger-marks) ≡ decode (settingsOf settings) bytes (length changes) (placesIn ends marks)
-    same = decode-stays (settingsOf settings) (length changes) (length larger-changes) (placesIn ends marks) (placesIn larger-ends larger-marks) hc (omega arith) bytes (omega (arith, number-is _ changes ends marks r changes′ ends′ marks′ called))
+    same = decode-settled (settingsOf settings) (length changes) (length larger-changes) (placesIn ends marks) (placesIn larger-ends larger-marks) hc (omega arith) bytes (λ e. n .0 (number-is _ changes ends marks r changes′ ends′ marks′ called ∙ e)) (λ e. n .1 (number-is _ changes ends marks r changes′ ends′ marks′ called ∙ e))
 
     is : s ≡ r
     is = later .answer ∙ ap answerOf same ∙ sym (called .answer)
@@ -262,3 +292,9 @@ more-room bytes settings changes ends marks larger-changes larger-ends larger-ma
     mark-fronts =
         let m = all-marked settings bytes changes ends marks in
         marks-front _ larger-changes larger-ends larger-marks r larger-changes′ larger-ends′ larger-marks′ large m ∙ sym (marks-front _ changes ends marks r changes′ ends′ marks′ called m)
+
+-- so none from 0 to 3.
+pub more-room : MoreRoom
+more-room bytes settings changes ends marks larger-changes larger-ends larger-marks r s changes′ ends′ marks′ larger-changes′ larger-ends′ larger-marks′ hc he hm called later n =
+    settled-stays bytes settings changes ends marks larger-changes larger-ends larger-marks r s changes′ ends′ marks′ larger-changes′ larger-ends′ larger-marks′ hc he hm called later
+    ((λ e. omega arith), λ e. omega arith)

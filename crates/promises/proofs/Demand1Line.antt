@@ -36,7 +36,7 @@ module _ (bytes : List ℕ) (at columns : ℕ) (strict : Bool) (reference change
     is-eight : (None → ⊥) → (Long → ⊥) → ascends columns reference ≡ false → Said (Page.refusal 8)
     past-end : (None → ⊥) → (Long → ⊥) → ascends columns reference ≡ true → length (bitsOf bytes) < at → Said (oneLine (failed 2 (length (bitsOf bytes)) (newLine at)))
     is-read : (None → ⊥) → (Long → ⊥) → ascends columns reference ≡ true → at ≤ length (bitsOf bytes)
-        → Said (oneLine (readLine (record { width = columns; strict = strict; room = length changes }) (two reference) (bitsOf bytes) at))
+        → Said (oneLine (readLine (record { width = columns; strict = strict; exact = false; room = length changes }) (two reference) (bitsOf bytes) at))
 
   pub said : Said (readOneLine bytes at columns strict reference (length changes))
   unfolding readOneLine
@@ -52,7 +52,7 @@ module _ (bytes : List ℕ) (at columns : ℕ) (strict : Bool) (reference change
                 | false ↦ Page.refusal 8
                 | true ↦ elim e as (λ _. Page.Answer) [
                   | false ↦ oneLine (failed 2 (length (bitsOf bytes)) (newLine at))
-                  | true ↦ oneLine (readLine (record { width = columns; strict = strict; room = length changes }) (two reference) (bitsOf bytes) at)
+                  | true ↦ oneLine (readLine (record { width = columns; strict = strict; exact = false; room = length changes }) (two reference) (bitsOf bytes) at)
                 ]
               ]
             ]
@@ -121,7 +121,7 @@ module _ (bytes : List ℕ) (at columns : ℕ) (strict : Bool) (reference change
   fine h (is-read n l up i) = cases (readLine R (two reference) (bitsOf bytes) at) refl
     where
       R : Rules
-      R = record { width = columns; strict = strict; room = length changes }
+      R = record { width = columns; strict = strict; exact = false; room = length changes }
 
       wide : 0 < columns
       wide = positive columns (λ q. n (inl q))

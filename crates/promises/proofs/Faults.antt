@@ -1,24 +1,27 @@
 -- Why a code, a line and a row fail, and at which bit: the causes of A7, from the definitions. Assumes nothing.
 use mathlib.Core.Path.{_≡_, refl, sym, ap, _∙_, subst, subst₂}
-use mathlib.Core.Bool.{Bool, true, false, cond, _&&_}
+use mathlib.Core.Bool.{Bool, true, false, cond, not, _&&_}
 use mathlib.Core.List.{List, [], _∷_, _++_, append-assoc}
 use Prim.Native.Nat.{ℕ, _+_, _-_, _≤_, _<_}
 use native.Mathlib.Omega.{arith}
 use lib.Dec.{eqb, leb, ltb}
 use lib.ListN.{length, drop, length-append}
-use borrow.Author.Tests.{leb-true, leb-false}
+use borrow.Author.Tests.{leb-true, leb-false, eqb-true, not-true}
 use Rattle.rules.specs.Machine.{Out, more, done, run, ends}
 use Rattle.rules.specs.Codes.{Colour, Code, codeBits}
 use Rattle.rules.specs.Lookup.{Entry, valid, invalid}
 use Rattle.rules.specs.Runs.{Res, ok, fault, Sum, sum, runTake, runStep, bitsAfter, answer, readRun}
 use Rattle.rules.specs.Modes.{Mode, pass, horizontal, VR, VL, ModeIn, known, unknown, modeByTable, modeTake, Moded, readMode}
-use Rattle.rules.specs.Lines.{Rules, Line, line, newLine, turned, movedTo, withCut, Went, went, failed, next, recorded, add, push, pushTurn, afterRun, pushRun, b1, b2, vertical, apply, afterMode, code2D, Kind, one, two, codeOf, lineOf, lineStep, lineEnd, readLine}
+use Rattle.rules.specs.Lines.{Rules, Line, line, newLine, turned, movedTo, withCut, Went, went, failed, next, recorded, add, push, pushTurn, afterRun, pushRun, b1, b2, atFirst, unmoved, idle, unlessIdle, vertical, apply, afterMode, code2D, Kind, one, two, codeOf, lineOf, lineStep, lineEnd, readLine}
 use Rattle.rules.specs.Write.{codesBits}
 use Rattle.rules.proofs.Machine.{Reaches, reach-here, reach-more, ends-ind, ends-stops}
 use Rattle.rules.proofs.Codes.{length-codeBits}
 use Rattle.rules.proofs.Runs.{Takes, after, run-cases, run-falls}
-use Rattle.rules.proofs.Lines.{line-cases, line-falls, moves}
-use Rattle.promises.specs.Places.{MakeUps, none, next as longer, entryAt, CodeFails, no-code, cut-code, cut-short, passes, RunFault, ModeFault, no-mode, cut-mode, cut-zeros, PushFails, in-run, too-long, MovesTo, by-pass, right, left, NoMove, below-0, above, left-of, Fails, run-1D, mode, move, too-many, first-run, second-run, LineFault}
+use Rattle.rules.proofs.Bits.{both-true}
+use Rattle.rules.proofs.Lines.{Each, line-cases, line-falls, moves}
+use Rattle.rules.proofs.Counts.{AtA1, to-a1, by-two-runs, Vertical}
+use Rattle.rules.proofs.Counts as Counts
+use Rattle.promises.specs.Places.{MakeUps, none, next as longer, entryAt, CodeFails, no-code, cut-code, cut-short, passes, RunFault, ModeFault, no-mode, cut-mode, cut-zeros, PushFails, in-run, too-long, MovesTo, by-pass, right, left, NoMove, below-0, above, left-of, Fails, run-1D, mode, move, too-many, idle-move, idle-runs, first-run, second-run, LineFault}
 
 -- ---- A run
 
@@ -175,7 +178,8 @@ module _ (R : Rules) where
   turn-why (went u) n p t e = absurd (let z : _≡_ {A = ℕ} 0 1 = cc in omega arith)
   turn-why (failed m i u) n p t e = e
 
-  module _ (bs : List Bool) where
+  -- exact implies strict (A12)
+  module _ (bs : List Bool) (implies : R .exact ≡ true → R .strict ≡ true) where
     run-why : (s : Line) (n p : ℕ) (t : Line) → pushRun R bs s ≡ failed n p t → n ≤ 3 → PushFails R bs s n p
     unfolding pushRun
     run-why s n p t e h = cases (readRun (s .colour) bs (s .at)) refl e
@@ -234,12 +238,60 @@ module _ (R : Rules) where
           tests true h l = moved (record { at = at; mode = VL k }) q (B1 - k) (left (h refl))
           tests false h l = over (record { at = at; mode = VL k }) q (below-0 (l refl))
 
+      -- an idle code: the line u that it made has not moved
+      module _ (at : ℕ) (u : Line) (exact : R .exact ≡ true) where
+        abbrev Reason : Mode → Type 0
+        Reason m = readMode bs (s .at) ≡ ok (record { at = at; mode = m }) → apply R reference bs (s .at) m (movedTo at s) ≡ went u → idle m s u ≡ true → Fails R bs s (two reference) 1 (s .at)
+
+        upright : (m : Mode) (a1 : ℕ) → readMode bs (s .at) ≡ ok (record { at = at; mode = m }) → Vertical m → MovesTo B1 B2 m a1 → u .position ≡ a1 → (unmoved s u && not (atFirst s)) ≡ true
+            → Fails R bs s (two reference) 1 (s .at)
+        upright m a1 q v moves e i =
+            let b = both-true (unmoved s u) (not (atFirst s)) i in
+            idle-move q v (subst (MovesTo B1 B2 m) (sym e ∙ eqb-true (u .position) (s .position) (b .0)) moves) exact (not-true (atFirst s) (b .1))
+
+        reason : (m : Mode) → Reason m
+        unfolding apply
+        reason pass q e i = absurd (let z : _≡_ {A = ℕ} 0 1 = cc in omega arith)
+        reason horizontal q e i =
+            let r = by-two-runs R (implies exact) bs (movedTo at s) u e in
+            let stays = eqb-true (u .position) (s .position) i in
+            let none-first : r .first .total ≡ 0 = omega (arith, r .moves) in
+            let none-second : r .second .total ≡ 0 = omega (arith, r .moves) in
+            idle-runs q
+            (record {
+              between = r .first .at;
+              behind = r .second .at;
+              first = r .first-is ∙ ap (λ (k : ℕ). ok (sum (r .first .at) k)) none-first;
+              second = r .second-is ∙ ap (λ (k : ℕ). ok (sum (r .second .at) k)) none-second;
+            })
+            exact
+        reason (VR k) q e i =
+            upright (VR k) (B1 + k) q (Counts.right k) right
+            (subst (Each (AtA1 R (implies exact) (B1 + k) s) (λ n t. Unit {0})) e (to-a1 R (implies exact) reference (s .at) (B1 + k) (movedTo at s)) .1) i
+        reason (VL k) q e i = tests (leb k B1) (leb-true _ _) e
+          where
+            tests : (b : Bool) → (b ≡ true → k ≤ B1) → cond b (vertical R reference (s .at) (B1 - k) (movedTo at s)) (failed 3 (s .at) (movedTo at s)) ≡ went u → Fails R bs s (two reference) 1 (s .at)
+            tests true h e =
+                upright (VL k) (B1 - k) q (Counts.left k) (left (h refl))
+                (subst (Each (AtA1 R (implies exact) (B1 - k) s) (λ n t. Unit {0})) e (to-a1 R (implies exact) reference (s .at) (B1 - k) (movedTo at s)) .1) i
+            tests false h e = absurd (let z : _≡_ {A = ℕ} 0 1 = cc in omega arith)
+
+      -- what a code did, or that it was idle
+      done-or-idle : (at : ℕ) (m : Mode) → readMode bs (s .at) ≡ ok (record { at = at; mode = m }) → (w : Went) → apply R reference bs (s .at) m (movedTo at s) ≡ w → unlessIdle R m s w ≡ failed n p t → Why
+      done-or-idle at m q (failed k i u) z e = applied at m q (z ∙ e)
+      done-or-idle at m q (went u) z e = tests (R .exact) refl (idle m s u) refl e
+        where
+          tests : (x : Bool) → R .exact ≡ x → (y : Bool) → idle m s u ≡ y → cond (x && y) (failed 1 (s .at) s) (went u) ≡ failed n p t → Why
+          tests true x true y e = subst₂ (λ (k i : ℕ). Fails R bs s (two reference) k i) (let c : 1 ≡ n = cc in c) (let c : s .at ≡ p = cc in c) (reason at u x m q z y)
+          tests true x false y e = absurd (let c : _≡_ {A = ℕ} 0 1 = cc in omega arith)
+          tests false x y i e = absurd (let c : _≡_ {A = ℕ} 0 1 = cc in omega arith)
+
       code-2D : code2D R reference bs s ≡ failed n p t → Why
       unfolding code2D
       code-2D e = cases (readMode bs (s .at)) refl e
         where
           cases : (r : Res Moded) → readMode bs (s .at) ≡ r → afterMode R reference bs s r ≡ failed n p t → Why
-          cases (ok m) q e = applied (m .at) (m .mode) q e
+          cases (ok m) q e = done-or-idle (m .at) (m .mode) q (apply R reference bs (s .at) (m .mode) (movedTo (m .at) s)) refl e
           cases (fault m i) q e =
               let f = mode-fault bs (s .at) m i q in
               subst₂ (λ (m i : ℕ). Fails R bs s (two reference) m i) (let z : m ≡ n = cc in z) (sym (f .0) ∙ (let z : i ≡ p = cc in z)) (mode (f .1))

@@ -13,3 +13,4 @@ pub mod Faults
 pub mod PageFaults
 pub mod Places
 pub mod Marks
+pub mod Exact

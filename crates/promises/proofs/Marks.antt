@@ -12,7 +12,7 @@ use Rattle.rules.specs.Bits.{bitsOf}
 use Rattle.rules.specs.Lines.{Rules, Line, headOr, Went, went, failed, two, readLine}
 use Rattle.rules.specs.Rows.{readMark}
 use Rattle.rules.specs.Pages as Page
-use Rattle.rules.specs.Pages.{mostBytes, tooWide, noLine, ascends, placesIn, decode, oneLine, readOneLine, changesAfter}
+use Rattle.rules.specs.Pages.{mostBytes, tooWide, noLine, ascends, placesIn, strictIfExact, decode, oneLine, readOneLine, changesAfter}
 use Rattle.rules.specs.Write.{mostMakeup, rowsIn}
 use Rattle.rules.proofs.Lines.{data-bound, read-broken}
 use Rattle.rules.proofs.Clean.{Twin, alike, apart, cutOf, Refused, refused, line-twins}
@@ -46,13 +46,18 @@ pub decode-marks : DecodeMarks
 decode-marks bytes settings changes ends marks r changes′ ends′ marks′ called n h =
     let m = mark-at bytes settings changes ends marks r changes′ ends′ marks′ called n h in
     let c = decode-came (settingsOf settings) bytes (length changes) (placesIn ends marks) .1 in
-    (omega (arith, m, at-most-at (came-listed c) n), λ e. omega (arith, m, at-most-at (came-strict e c) n))
+    let clean : (settings .exact || settings .strict) ≡ true → getD marks′ n 0 ≡ 0 = λ e. omega (arith, m, at-most-at (came-strict e c) n) in
+    (omega (arith, m, at-most-at (came-listed c) n), (λ e. clean (either (settings .exact) e)), λ e. clean (rw e))
+  where
+    either : {strict : Bool} (exact : Bool) → strict ≡ true → (exact || strict) ≡ true
+    either true e = refl
+    either false e = e
 
 pub marks-tell : MarksTell
 marks-tell bytes settings changes ends marks r changes′ ends′ marks′ called =
     let c = decode-came (settingsOf settings) bytes (length changes) (placesIn ends marks) in (
       c .0,
-      subst₂ (λ (rows : List (List ℕ)) (ms : List ℕ). Came (settingsOf settings) (bitsOf bytes) rows ms (c .0))
+      subst₂ (λ (rows : List (List ℕ)) (ms : List ℕ). Came (strictIfExact (settingsOf settings)) (bitsOf bytes) rows ms (c .0))
           (sym (Paged.in-store _ changes ends marks r changes′ ends′ marks′ called)) (sym (kept bytes settings changes ends marks r changes′ ends′ marks′ called)) (c .1),
     )
 
@@ -97,7 +102,7 @@ module _ (bytes : List ℕ) (at columns : ℕ) (strict : Bool) (reference change
   line-marked (Lined.past-end n l up beyond) = (omega arith, (λ e. absurd (omega arith)), λ e. refl)
   line-marked (Lined.is-read n l up i) =
       one-marked strict _ _
-      (λ e. ap (λ (b : Bool). readLine (record { width = columns; strict = b; room = length changes }) (two reference) (bitsOf bytes) at) (sym e))
+      (λ e. ap (λ (b : Bool). readLine (record { width = columns; strict = b; exact = false; room = length changes }) (two reference) (bitsOf bytes) at) (sym e))
       (line-twins columns (length changes) (two reference) (bitsOf bytes) at strict)
 
 pub read-line-marks : ReadLineMarks
@@ -121,7 +126,7 @@ twins-tell v (went l) some t e = cases v t
 
 module _ (bytes : List ℕ) (at columns : ℕ) (reference : List ℕ) (room : ℕ) where
   abbrev R : Rules
-  R = record { width = columns; strict = false; room = room }
+  R = record { width = columns; strict = false; exact = false; room = room }
 
   wide : (b : Bool) → eqb columns 0 ≡ b → (b || tooWide columns) ≡ false → 0 < columns
   wide true e q = absurd (let z : _≡_ {A = ℕ} 0 1 = cc in omega arith)

@@ -21,6 +21,7 @@ use Rattle.rules.proofs.Eols.{EolAt, eols3-ahead, eols3-read}
 use Rattle.rules.proofs.Budget.{Bytes}
 use Rattle.rules.proofs.Rows.{row4-cases, row3-cases}
 use Rattle.rules.proofs.Pages.{step, page-cases, page-falls}
+use Rattle.rules.proofs.Marks.{Implied}
 use Rattle.promises.specs.Places.{LineFault, kindOf, RowFault, in-group4, in-group3-1D, in-group3-2D, no-tag, no-eol, PageFault}
 use Rattle.promises.proofs.Faults.{push-why, line-fault}
 
@@ -88,7 +89,7 @@ module _ (S : Settings) (t : Tagging) (bs : List Bool) (st : State) where
 
 -- ---- A row
 
-module _ (S : Settings) (bs : List Bool) (room : ℕ) (st : State) where
+module _ (S : Settings) (implies : Implied S) (bs : List Bool) (room : ℕ) (st : State) where
   abbrev R : Rules
   R = rulesOf S room
 
@@ -101,7 +102,7 @@ module _ (S : Settings) (bs : List Bool) (room : ℕ) (st : State) where
     where
       cases : (w : Went) → readLine R (two (st .reference)) bs (eolsBefore S bs st .at) ≡ w → RowTold (afterLine4 S bs st w)
       cases (went l) q = tt
-      cases (failed n p l) q = λ a b. in-group4 g (line-fault R bs (two (st .reference)) (eolsBefore S bs st .at) n p l q b)
+      cases (failed n p l) q = λ a b. in-group4 g (line-fault R bs implies (two (st .reference)) (eolsBefore S bs st .at) n p l q b)
 
   -- the encoding of a tagging
   abbrev Encoded : Tagging → Type 0
@@ -115,13 +116,13 @@ module _ (S : Settings) (bs : List Bool) (room : ℕ) (st : State) where
   module _ (at : ℕ) (expected : Bool) where
     -- a line behind its tag bit
     behind-tag : (t : Tagging) (b : Bool) (n p : ℕ) (l : Line) → taggedLine S t bs R (st .reference) at b ≡ failed n p l → n ≤ 3 → LineFault R (kindOf b (st .reference)) bs (suc at) n p
-    behind-tag t true n p l e h = line-fault R bs one (suc at) n p l e h
-    behind-tag t false n p l e h = line-fault R bs (two (st .reference)) (suc at) n p l e h
+    behind-tag t true n p l e h = line-fault R bs implies one (suc at) n p l e h
+    behind-tag t false n p l e h = line-fault R bs implies (two (st .reference)) (suc at) n p l e h
 
     -- the line's fault is the row's, where it is not recovered
     of-line : (t : Tagging) → Encoded t → before S t bs st (eqb (st .count) 0) ≡ line-at at expected → (expected ≡ true → S .strict ≡ true) → (n p : ℕ) (l : Line)
         → line3 S t bs R (st .reference) at t ≡ failed n p l → n ≤ 3 → RowFault S bs room st n p
-    of-line untagged g e x n p l q h = in-group3-1D g e x (line-fault R bs one at n p l q h)
+    of-line untagged g e x n p l q h = in-group3-1D g e x (line-fault R bs implies one at n p l q h)
     of-line tagged g e x n p l q h = cases (ltb at (length bs)) (ltb-true _ _) (ltb-false _ _) q
       where
         cases : (b : Bool) → (b ≡ true → at < length bs) → (b ≡ false → length bs ≤ at) → lineOfTag S tagged bs R (st .reference) at b ≡ failed n p l → RowFault S bs room st n p
@@ -165,7 +166,17 @@ module _ (S : Settings) (bs : List Bool) (room : ℕ) (st : State) where
 
 -- ---- A page
 
-module _ (S : Settings) (wide : 0 < S .columns) (bs : List Bool) (bytes : Bytes bs) (store places : ℕ) where
+-- a step that goes on has kept one row more
+pub one-more : (S : Settings) (wide : 0 < S .columns) (bs : List Bool) (bytes : Bytes bs) (store places : ℕ) (k j : Kept)
+    → step (S .encoding) S wide bs bytes store places k ≡ more j → length (j .rows) ≡ length (k .rows) + 1
+one-more S wide bs bytes store places k j =
+    page-cases (S .encoding) S wide bs bytes store places k (λ o. o ≡ more j → length (j .rows) ≡ length (k .rows) + 1)
+    (λ r mark next e l q. let g : withRow k r mark next ≡ j = cc in
+    sym (ap (λ (x : Kept). length (x .rows)) g) ∙ length-append (k .rows) (r ∷ []))
+    (λ r mark next e l q. absurd (let z : _≡_ {A = ℕ} 0 1 = cc in omega arith))
+    (λ n p b loose e q. absurd (let z : _≡_ {A = ℕ} 0 1 = cc in omega arith))
+
+module _ (S : Settings) (implies : Implied S) (wide : 0 < S .columns) (bs : List Bool) (bytes : Bytes bs) (store places : ℕ) where
   abbrev stepped : Kept → Out Kept Answer
   stepped = step (S .encoding) S wide bs bytes store places
 
@@ -195,7 +206,7 @@ module _ (S : Settings) (wide : 0 < S .columns) (bs : List Bool) (bytes : Bytes 
             kept = k;
             reached = refl;
             counted = omega arith;
-            fails = subst (RowTold S bs (store - entries (k .rows)) (k .state)) e (row-told S bs (store - entries (k .rows)) (k .state) (S .encoding) refl) x y;
+            fails = subst (RowTold S implies bs (store - entries (k .rows)) (k .state)) e (row-told S implies bs (store - entries (k .rows)) (k .state) (S .encoding) refl) x y;
           }))
 
       goes : (k j : Kept) (a : Answer) → stepped k ≡ more j → Tells j a → Tells k a
@@ -205,17 +216,9 @@ module _ (S : Settings) (wide : 0 < S .columns) (bs : List Bool) (bytes : Bytes 
             rows = suc (t .rows);
             kept = t .kept;
             reached = rw e (t .reached);
-            counted = omega (arith, t .counted, longer e);
+            counted = omega (arith, t .counted, one-more S wide bs bytes store places k j e);
             fails = t .fails;
           }
-        where
-          longer : stepped k ≡ more j → length (j .rows) ≡ length (k .rows) + 1
-          longer =
-              page-cases (S .encoding) S wide bs bytes store places k (λ o. o ≡ more j → length (j .rows) ≡ length (k .rows) + 1)
-              (λ r mark next e l q. let g : withRow k r mark next ≡ j = cc in
-              sym (ap (λ (x : Kept). length (x .rows)) g) ∙ length-append (k .rows) (r ∷ []))
-              (λ r mark next e l q. absurd (let z : _≡_ {A = ℕ} 0 1 = cc in omega arith))
-              (λ n p b loose e q. absurd (let z : _≡_ {A = ℕ} 0 1 = cc in omega arith))
 
   abbrev page : Answer
   page = readPage S bs store places

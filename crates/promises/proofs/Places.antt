@@ -1,18 +1,21 @@
 -- A7 is met: an answer's place is that of the rules, which lies in the data and is that of the code at fault. Assumes nothing.
 use mathlib.Core.Path.{_≡_, refl, sym, ap, _∙_, subst}
-use mathlib.Core.Bool.{Bool}
+use mathlib.Core.Bool.{Bool, false, true≢false}
 use mathlib.Core.List.{List}
 use Prim.Native.Nat.{ℕ, zero, suc, _*_, _≤_, _<_}
 use native.Mathlib.Omega.{arith}
 use lib.ListN.{length}
 use Rattle.rules.specs.Bits.{bitsOf}
 use Rattle.rules.specs.Lines.{Rules, Went, went, failed, two, readLine}
+use Rattle.rules.specs.Rows.{Settings}
 use Rattle.rules.specs.Pages as Page
-use Rattle.rules.specs.Pages.{decode, placesIn, oneLine, readOneLine}
+use Rattle.rules.specs.Pages.{decode, readPage, strictIfExact, placesIn, oneLine, readOneLine}
 use Rattle.rules.proofs.Bits.{length-bitsOf}
 use Rattle.rules.proofs.Budget.{Bytes}
 use Rattle.rules.proofs.Places.{Fault, read-placed, page-placed}
 use Rattle.rules.proofs.Places as Law
+use Rattle.rules.proofs.Answers.{short-cases}
+use Rattle.rules.proofs.Marks.{implied}
 use Rattle.error.specs.Error.{answerWith}
 use Rattle.error.specs.declared.Answer.{Answer}
 use Rattle.rows.specs.declared.DecodeSettings.{DecodeSettings}
@@ -59,21 +62,31 @@ module _ (bytes : List ℕ) (settings : DecodeSettings) (changes ends marks : Li
   positive zero z = absurd (z refl)
   positive (suc n) z = omega arith
 
+  -- as the page is read
+  abbrev S : Settings
+  S = strictIfExact (settingsOf settings)
+
+  abbrev page : Page.Answer
+  page = readPage S (bitsOf bytes) (length changes) (placesIn ends marks)
+
   page-placed′ : {a : Page.Answer} → Paged.Said settings bytes changes ends marks a → Fault (bitsOf bytes) (a .number) (a .place)
   page-placed′ (Paged.is-six e) = refused (bitsOf bytes) 6
   page-placed′ (Paged.is-seven n l) = refused (bitsOf bytes) 7
   page-placed′ (Paged.no-columns n l) = refused (bitsOf bytes) 0
   page-placed′ (Paged.is-read n l z) =
-      page-placed (settingsOf settings .encoding) (settingsOf settings) (positive (settings .columns) z) (bitsOf bytes) whole (length changes) (placesIn ends marks) refl
+      short-cases (settingsOf settings) page (λ a. Fault (bitsOf bytes) (a .number) (a .place)) (λ k. refused (bitsOf bytes) 14)
+      (λ k. page-placed (settingsOf settings .encoding) S (positive (settings .columns) z) (bitsOf bytes) whole (length changes) (placesIn ends marks) refl)
 
   abbrev Blames : Page.Answer → Type 0
-  Blames a = 1 ≤ a .number → a .number ≤ 3 → PageFault (settingsOf settings) (bitsOf bytes) (length changes) (placesIn ends marks) (length (a .rows)) (a .number) (a .place)
+  Blames a = 1 ≤ a .number → a .number ≤ 3 → PageFault S (bitsOf bytes) (length changes) (placesIn ends marks) (length (a .rows)) (a .number) (a .place)
 
   page-blames : {a : Page.Answer} → Paged.Said settings bytes changes ends marks a → Blames a
   page-blames (Paged.is-six e) = λ x y. absurd (omega arith)
   page-blames (Paged.is-seven n l) = λ x y. absurd (omega arith)
   page-blames (Paged.no-columns n l) = λ x y. absurd (omega arith)
-  page-blames (Paged.is-read n l z) = Pages.page-fault (settingsOf settings) (positive (settings .columns) z) (bitsOf bytes) whole (length changes) (placesIn ends marks)
+  page-blames (Paged.is-read n l z) =
+      short-cases (settingsOf settings) page Blames (λ k x y. absurd (omega arith))
+      (λ k. Pages.page-fault S (implied (settingsOf settings)) (positive (settings .columns) z) (bitsOf bytes) whole (length changes) (placesIn ends marks))
 
 pub decode-places : DecodePlaces
 decode-places bytes settings changes ends marks r changes′ ends′ marks′ called =
@@ -81,14 +94,14 @@ decode-places bytes settings changes ends marks r changes′ ends′ marks′ ca
 
 pub decode-faults : DecodeFaults
 decode-faults bytes settings changes ends marks r changes′ ends′ marks′ called =
-    subst (λ (x : Answer). 1 ≤ x .number → x .number ≤ 3 → PageFault (settingsOf settings) (bitsOf bytes) (length changes) (placesIn ends marks) (x .rows) (x .number) (x .place)) (sym (called .answer))
+    subst (λ (x : Answer). 1 ≤ x .number → x .number ≤ 3 → PageFault (strictIfExact (settingsOf settings)) (bitsOf bytes) (length changes) (placesIn ends marks) (x .rows) (x .number) (x .place)) (sym (called .answer))
     (page-blames bytes settings changes ends marks (Paged.said settings bytes changes ends marks))
 
 -- ---- One line
 
 module _ (bytes : List ℕ) (at columns : ℕ) (strict : Bool) (reference changes : List ℕ) where
   abbrev R : Rules
-  R = record { width = columns; strict = strict; room = length changes }
+  R = record { width = columns; strict = strict; exact = false; room = length changes }
 
   line-placed : {a : Page.Answer} → Lined.Said bytes at columns strict reference changes a → Fault (bitsOf bytes) (a .number) (a .place)
   line-placed (Lined.is-six e) = refused (bitsOf bytes) 6
@@ -121,7 +134,7 @@ module _ (bytes : List ℕ) (at columns : ℕ) (strict : Bool) (reference change
     where
       cases : (w : Went) → readLine R (two reference) (bitsOf bytes) at ≡ w → Blamed (oneLine w)
       cases (went s) e = λ x y z. absurd (omega arith)
-      cases (failed m p s) e = λ x y z. line-fault R (bitsOf bytes) (two reference) at m p s e y
+      cases (failed m p s) e = λ x y z. line-fault R (bitsOf bytes) (λ q. absurd (true≢false (sym q))) (two reference) at m p s e y
 
 pub read-line-places : ReadLinePlaces
 read-line-places bytes at columns strict reference changes r changes′ called =

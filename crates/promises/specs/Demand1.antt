@@ -2,7 +2,8 @@
 -- holds; entries behind keep their value; and every row handed over ascends strictly below the width.
 -- A statement is about whatever answer and arrays a function's contract permits.
 use mathlib.Core.Path.{_≡_}
-use mathlib.Core.Logic.{_↔_}
+use mathlib.Core.Logic.{_⊎_, _↔_}
+use mathlib.Core.Bool.{true}
 use mathlib.Core.List.{List}
 use Prim.Native.Nat.{ℕ, _+_, _*_, _≤_, _<_}
 use lib.ListN.{length, take, drop}
@@ -17,9 +18,17 @@ use Rattle.ccitt.specs.Decode.{Decodes}
 
 -- a call of `decode` on bytes, with settings and three arrays of changes, row ends and marks: its answer, and the arrays after it
 module _ (bytes : List ℕ) (settings : DecodeSettings) (changes ends marks : List ℕ) (r : Answer) (changes′ ends′ marks′ : List ℕ) where
-  -- a number of the list: 0 to 5, or a refusal with 6 or 7, each exactly when 01 says so; without columns, and without a refusal, it is 0
+  -- 02, A12: exact is set, and the rows are fewer than asked for, which 0 rows never are; "columns 0 still answers 0"
+  pub record TooFew : Type 0 where
+    pub exact : settings .exact ≡ true
+    pub wide : 0 < settings .columns
+    pub fewer : r .rows < settings .rows
+
+  -- A number of the list: 0 to 5; a refusal with 6 or 7, each exactly when 01 says so; or 14. A page that ends has 14 exactly where its rows are too few, and else 0. Without columns,
+  -- and without a refusal, it is 0.
   pub record Listed : Type 0 where
-    pub at-most-7 : r .number ≤ 7
+    pub listed : (r .number ≤ 7) ⊎ (r .number ≡ 14)
+    pub fourteen : ((r .number ≡ 0) ⊎ (r .number ≡ 14)) → (r .number ≡ 14) ↔ TooFew
     pub six : (r .number ≡ 6) ↔ (settings .columns ≡ 4294967295)
     pub seven : (r .number ≡ 7) ↔ ((settings .columns ≡ 4294967295 → ⊥) × (mostBytes < length bytes))
     pub no-columns : settings .columns ≡ 0 → length bytes ≤ mostBytes → r .number ≡ 0
@@ -32,7 +41,7 @@ module _ (bytes : List ℕ) (settings : DecodeSettings) (changes ends marks : Li
     pub counts : (r .rows ≡ 0) × (r .entries ≡ 0) × (r .loose ≡ 0) × (r .bytes ≡ 0)
 
   -- The counts fit the arrays; the rows that lie in the store ascend strictly below the width, and their entries are as many as the answer says;
-  -- every later entry keeps its value; after 0 there are no loose entries; without columns there are no rows; and rows never exceed 8 × bytes + 1.
+  -- every later entry keeps its value; after 0 there are no loose entries, nor after 14, which has no bytes; without columns there are no rows; and rows never exceed 8 × bytes + 1.
   pub record Stored : Type 0 where
     pub rows-fit : r .rows ≤ length ends
     pub marks-fit : r .rows ≤ length marks
@@ -43,6 +52,7 @@ module _ (bytes : List ℕ) (settings : DecodeSettings) (changes ends marks : Li
     pub later-ends : drop (r .rows) ends′ ≡ drop (r .rows) ends
     pub later-marks : drop (r .rows) marks′ ≡ drop (r .rows) marks
     pub clean : r .number ≡ 0 → r .loose ≡ 0
+    pub short : r .number ≡ 14 → (r .loose ≡ 0) × (r .bytes ≡ 0)
     pub no-rows : settings .columns ≡ 0 → r .rows ≡ 0
     pub few-rows : r .rows ≤ 8 * length bytes + 1
 
@@ -52,17 +62,21 @@ DecodeAnswers =
     (bytes : List ℕ) (settings : DecodeSettings) (changes ends marks : List ℕ) (r : Answer) (changes′ ends′ marks′ : List ℕ)
     → settings .columns ≤ 4294967295
     → Decodes bytes settings changes ends marks r changes′ ends′ marks′
-    → Listed bytes settings changes ends marks r changes′ ends′ marks′ × (6 ≤ r .number → Refused bytes settings changes ends marks r changes′ ends′ marks′) × Stored bytes settings changes ends marks r changes′ ends′ marks′
+    → Listed bytes settings changes ends marks r changes′ ends′ marks′ × (6 ≤ r .number → r .number ≤ 9 → Refused bytes settings changes ends marks r changes′ ends′ marks′) × Stored bytes settings changes ends marks r changes′ ends′ marks′
 
--- more room never changes an answer from 0 to 3: same number, counts, and the same front of the arrays
-abbrev pub MoreRoom : Type 0
-MoreRoom =
+-- more room never changes an answer of which something holds: same number, counts, and the same front of the arrays
+abbrev pub Stays : (ℕ → Type 0) → Type 0
+Stays Settled =
     (bytes : List ℕ) (settings : DecodeSettings) (changes ends marks larger-changes larger-ends larger-marks : List ℕ) (r s : Answer) (changes′ ends′ marks′ larger-changes′ larger-ends′ larger-marks′ : List ℕ)
     → length changes ≤ length larger-changes
     → length ends ≤ length larger-ends
     → length marks ≤ length larger-marks
     → Decodes bytes settings changes ends marks r changes′ ends′ marks′
     → Decodes bytes settings larger-changes larger-ends larger-marks s larger-changes′ larger-ends′ larger-marks′
-    → r .number ≤ 3
+    → Settled (r .number)
     → (s ≡ r) × (take (r .entries + r .loose) larger-changes′ ≡ take (r .entries + r .loose) changes′) × (take (r .rows) larger-ends′ ≡ take (r .rows) ends′)
     × (take (r .rows) larger-marks′ ≡ take (r .rows) marks′)
+
+-- more room never changes an answer from 0 to 3
+abbrev pub MoreRoom : Type 0
+MoreRoom = Stays (λ n. n ≤ 3)

@@ -1,6 +1,6 @@
 -- Demand 3: what is written reads back. For a width from 1 to 4,294,967,294, a reference and a row that ascend strictly below it, strict reading (and lenient) of the
 -- written line, given room and whatever bits follow, gives back the row and takes exactly its bits; so does a written page, whatever bytes follow, and cut after any
--- byte it gives only its own first rows.
+-- byte it gives only its own first rows. The pages are read so strict, lenient and exact (A12); a cut page may answer 14 where it answered 0.
 use mathlib.Core.Path.{_≡_}
 use mathlib.Core.Logic.{_⊎_}
 use mathlib.Core.Bool.{Bool, true, false}

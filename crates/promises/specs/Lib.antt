@@ -11,3 +11,4 @@ pub mod PinnedAround
 pub mod Beyond
 pub mod Places
 pub mod Marks
+pub mod Exact

@@ -9,7 +9,7 @@ use lib.ListN.{length, getD, take, drop}
 use Rattle.rules.specs.Bits.{bitsOf}
 use Rattle.rules.specs.Lines.{two}
 use Rattle.rules.specs.Rows.{State}
-use Rattle.rules.specs.Pages.{mostBytes, entries}
+use Rattle.rules.specs.Pages.{mostBytes, entries, strictIfExact}
 use Rattle.rules.specs.Write.{mostMakeup, lineBits, rowsIn, writePage}
 use Rattle.rules.proofs.Ascending.{Rising}
 use Rattle.rules.proofs.Marks.{Came}
@@ -23,22 +23,22 @@ use Rattle.promises.specs.Demand3.{Plainly}
 
 -- ---- The page form
 
--- every kept row is marked, and clean where the page is read strictly
+-- every kept row is marked, and clean where the page is read strictly, or exactly (A12)
 abbrev pub DecodeMarks : Type 0
 DecodeMarks =
     (bytes : List ℕ) (settings : DecodeSettings) (changes ends marks : List ℕ) (r : Answer) (changes′ ends′ marks′ : List ℕ)
     → Decodes bytes settings changes ends marks r changes′ ends′ marks′
     → (n : ℕ) → n < r .rows
-    → (getD marks′ n 0 ≤ 2) × (settings .strict ≡ true → getD marks′ n 0 ≡ 0)
+    → (getD marks′ n 0 ≤ 2) × (settings .strict ≡ true → getD marks′ n 0 ≡ 0) × (settings .exact ≡ true → getD marks′ n 0 ≡ 0)
 
 -- How the rows in the store came, each with its mark: of every one it is told at which bit its line began, under the row before it, and what the page's reader
 -- and the strict reader read from there (`Came`, and `Told` in it). Clean: both read this row and take the same bits. Cut: the strict reader answers 1.
--- Recovered: neither reads a line.
+-- Recovered: neither reads a line. An exact page's reader is strict too.
 abbrev pub MarksTell : Type 0
 MarksTell =
     (bytes : List ℕ) (settings : DecodeSettings) (changes ends marks : List ℕ) (r : Answer) (changes′ ends′ marks′ : List ℕ)
     → Decodes bytes settings changes ends marks r changes′ ends′ marks′
-    → (st : State) × Came (settingsOf settings) (bitsOf bytes) (rowsIn 0 changes′ (take (r .rows) ends′)) (take (r .rows) marks′) st
+    → (st : State) × Came (strictIfExact (settingsOf settings)) (bitsOf bytes) (rowsIn 0 changes′ (take (r .rows) ends′)) (take (r .rows) marks′) st
 
 -- what `write_page` wrote is read back clean, strict or not
 abbrev pub WrittenPageIsClean : Type 0

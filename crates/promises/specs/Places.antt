@@ -8,18 +8,19 @@ use lib.Dec.{eqb}
 use lib.ListN.{length, drop}
 use Rattle.rules.specs.Machine.{more, run}
 use Rattle.rules.specs.Bits.{bitsOf, window, firstBit}
-use Rattle.rules.specs.Codes.{Colour, Code}
+use Rattle.rules.specs.Codes.{Colour, Code, opposite}
 use Rattle.rules.specs.Lookup.{Entry, valid, invalid, lookup}
-use Rattle.rules.specs.Runs.{ok, fault, Sum, For, readRun}
+use Rattle.rules.specs.Runs.{ok, fault, Sum, sum, For, readRun}
 use Rattle.rules.specs.Modes as Rule
 use Rattle.rules.specs.Modes.{pass, horizontal, VR, VL, known, unknown, modeByTable, Moded, moded, readMode}
-use Rattle.rules.specs.Lines.{Rules, Line, newLine, movedTo, went, pushRun, b1, b2, Kind, one, two, codeOf, lineStep}
+use Rattle.rules.specs.Lines.{Rules, Line, newLine, movedTo, went, pushRun, b1, b2, atFirst, Kind, one, two, codeOf, lineStep}
 use Rattle.rules.specs.Rows.{group4, group3-1D, group3-2D, Settings, State, rulesOf}
 use Rattle.rules.specs.Group4.{eolsBefore}
 use Rattle.rules.specs.Group3.{untagged, tagged, line-at, before}
-use Rattle.rules.specs.Pages.{Kept, noneKept, entries, pageStep, rowOf, placesIn}
+use Rattle.rules.specs.Pages.{Kept, noneKept, entries, pageStep, rowOf, strictIfExact, placesIn}
 use Rattle.rules.specs.Write.{Written, codesBits}
 use Rattle.rules.proofs.Eols.{EolAt}
+use Rattle.rules.proofs.Counts.{Vertical}
 use Rattle.error.specs.declared.Answer.{Answer}
 use Rattle.codes.specs.Runs.{runOf, RunRead}
 use Rattle.codes.specs.declared.run.Run.{Run}
@@ -122,8 +123,16 @@ pub data NoMove (b1 b2 position : ℕ) : Rule.Mode → Type 0 where
   above : {m : Rule.Mode} {a1 : ℕ} → MovesTo b1 b2 m a1 → 4294967295 < a1 → NoMove b1 b2 position m
   left-of : {m : Rule.Mode} {a1 : ℕ} → MovesTo b1 b2 m a1 → a1 < position → NoMove b1 b2 position m
 
+-- the two runs of a horizontal code, which begin at a bit, are both zero
+pub record ZeroRuns (colour : Colour) (bs : List Bool) (at : ℕ) : Type 0 where
+  pub between : ℕ
+  pub behind : ℕ
+  pub first : readRun colour bs at ≡ ok (sum between 0)
+  pub second : readRun (opposite colour) bs between ≡ ok (sum behind 0)
+
 -- The code at which a line stands fails. "A vertical move that answers 3, and a strict answer 1 for too many pixels, point at their mode code, or, for a run (in a
--- horizontal code too), at the run's first code."
+-- horizontal code too), at the run's first code." In an exact line (A12) "a vertical move to the very position it starts from, other than the line's first code moving to 0", and
+-- "a horizontal code with two zero runs", too, "point at the mode code".
 pub data Fails (R : Rules) (bs : List Bool) (s : Line) : Kind → ℕ → ℕ → Type 0 where
   run-1D : {n place : ℕ} → PushFails R bs s n place → Fails R bs s one n place
   mode : {reference : List ℕ} {n : ℕ} → ModeFault bs (s .at) n → Fails R bs s (two reference) n (s .at)
@@ -133,6 +142,13 @@ pub data Fails (R : Rules) (bs : List Bool) (s : Line) : Kind → ℕ → ℕ �
   too-many : {reference : List ℕ} {m : Moded} {a1 : ℕ} → readMode bs (s .at) ≡ ok m
       → MovesTo (b1 (R .width) reference (s .position) (s .colour)) (b2 (R .width) reference (s .position) (s .colour)) (m .mode) a1
       → R .strict ≡ true → R .width < a1
+      → Fails R bs s (two reference) 1 (s .at)
+  idle-move : {reference : List ℕ} {m : Moded} → readMode bs (s .at) ≡ ok m → Vertical (m .mode)
+      → MovesTo (b1 (R .width) reference (s .position) (s .colour)) (b2 (R .width) reference (s .position) (s .colour)) (m .mode) (s .position)
+      → R .exact ≡ true → atFirst s ≡ false
+      → Fails R bs s (two reference) 1 (s .at)
+  idle-runs : {reference : List ℕ} {after : ℕ} → readMode bs (s .at) ≡ ok (moded after horizontal)
+      → ZeroRuns (s .colour) bs after → R .exact ≡ true
       → Fails R bs s (two reference) 1 (s .at)
   first-run : {reference : List ℕ} {after n place : ℕ} → readMode bs (s .at) ≡ ok (moded after horizontal)
       → PushFails R bs (movedTo after s) n place
@@ -154,7 +170,7 @@ ReadLineFaults =
     (bytes : List ℕ) (at columns : ℕ) (strict : Bool) (reference changes : List ℕ) (r : Answer) (changes′ : List ℕ)
     → ReadOne bytes at columns strict reference changes r changes′
     → 1 ≤ r .number → r .number ≤ 3 → at ≤ 8 * length bytes
-    → LineFault (record { width = columns; strict = strict; room = length changes }) (two reference) (bitsOf bytes) at (r .number) (r .place)
+    → LineFault (record { width = columns; strict = strict; exact = false; room = length changes }) (two reference) (bitsOf bytes) at (r .number) (r .place)
 
 -- ---- A row of a page
 
@@ -186,10 +202,10 @@ pub record PageFault (S : Settings) (bs : List Bool) (store places rows n place 
   pub reached : run (pageStep (rowOf (S .encoding) S bs) store places) rows noneKept ≡ more kept
   pub fails : RowFault S bs (store - entries (kept .rows)) (kept .state) n place
 
--- ".. and page forms pass the place on"
+-- ".. and page forms pass the place on"; an exact page is read strictly (A12)
 abbrev pub DecodeFaults : Type 0
 DecodeFaults =
     (bytes : List ℕ) (settings : DecodeSettings) (changes ends marks : List ℕ) (r : Answer) (changes′ ends′ marks′ : List ℕ)
     → Decodes bytes settings changes ends marks r changes′ ends′ marks′
     → 1 ≤ r .number → r .number ≤ 3
-    → PageFault (settingsOf settings) (bitsOf bytes) (length changes) (placesIn ends marks) (r .rows) (r .number) (r .place)
+    → PageFault (strictIfExact (settingsOf settings)) (bitsOf bytes) (length changes) (placesIn ends marks) (r .rows) (r .number) (r .place)
