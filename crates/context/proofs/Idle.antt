@@ -1,31 +1,29 @@
--- Idle codes (A12): which vertical moves are idle, and what the two runs of an exact line come to. Assumes nothing.
-use mathlib.Core.Path.{_≡_, refl, sym, ap, subst, _∙_}
-use mathlib.Core.Bool.{Bool, true, false, cond, not, _&&_, and-false}
+-- Idle codes (A12): a vertical move of nothing, and two runs that are both zero. Assumes nothing.
+use mathlib.Core.Path.{_≡_, refl, sym, ap, _∙_}
+use mathlib.Core.Bool.{Bool, true, false, cond, not, _&&_}
 use mathlib.Core.List.{List}
 use Prim.Native.Nat.{ℕ, zero, suc, _+_, _-_, _≤_, _<_}
 use native.Mathlib.Omega.{arith}
 use lib.Dec.{eqb, leb}
 use lib.ListN.{length}
-use borrow.Author.Tests.{eqb-true, eqb-false, eq-eqb, ne-eqb, le-leb}
+use borrow.Author.Tests.{eqb-true, eq-eqb, ne-eqb, le-leb}
 use Rattle.rules.specs.Bits.{bitsOf}
 use Rattle.rules.specs.Codes.{black, differ}
 use Rattle.rules.specs.Modes.{Mode, pass, horizontal, VR, VL}
 use Rattle.rules.specs.Lines as Rule
 use Rattle.rules.specs.Lines.{Rules, Went, went, failed, next, turned, movedTo, withCut, recorded, add, push, pushTurn, atFirst, idle, unlessIdle}
 use Rattle.rules.specs.Pages.{overlaid}
-use Rattle.rules.proofs.Bits.{both-true}
-use Rattle.rules.proofs.Lines.{inexact, not-idle, Each}
+use Rattle.rules.proofs.Lines.{not-idle, Each}
 use Rattle.rules.proofs.Grows.{GrowsTo, twoRuns-grows}
 use Rattle.tables.specs.Tables.{colourOf}
 use Rattle.context.specs.declared.line.Line.{Line}
 use Rattle.context.specs.declared.step.Rules as Code
 use Rattle.context.specs.declared.step.Step.{Step}
 use Rattle.context.specs.declared.step.Step.the-variants.{On, Stop}
-use Rattle.context.specs.State.{lineAt, rulesFor, changesOf, Holds}
+use Rattle.context.specs.State.{lineAt, lineFor, rulesFor, Holds}
 use Rattle.context.specs.Outcome.{Steps, runsFrom}
-use Rattle.context.specs.Coding.{idleMove, TwoRuns}
+use Rattle.context.specs.Coding.{unlessIdleFor, TwoRuns}
 use Rattle.context.proofs.State.{line-for}
-use Rattle.context.proofs.Carried.{step-on, step-stop}
 use Rattle.context.proofs.Moves.{Upright}
 
 -- ---- Pass mode
@@ -73,45 +71,25 @@ module _ (R : Rules) where
         by (VR k) v = refl
         by (VL k) v = refl
 
-    abbrev test : ℕ → Bool
-    test count = R .exact && (eqb count 0 && not (atFirst s))
-
-    -- a move of nothing
-    pub move-idle : (place at count : ℕ) → test count ≡ true → unlessIdle R mode s (pushTurn R place count (movedTo at s)) ≡ failed 1 (s .at) s
+    -- a move of nothing: the line turns, or it is refused
+    pub move-none : (place at : ℕ) → unlessIdle R mode s (pushTurn R place 0 (movedTo at s)) ≡ cond (R .exact && not (atFirst s)) (failed 1 (s .at) s) (went (turned (movedTo at s)))
     unfolding push add
-    move-idle place at count e =
-        let a = both-true (R .exact) (eqb count 0 && not (atFirst s)) e in
-        let b = both-true (eqb count 0) (not (atFirst s)) (a .1) in
-        let nothing : pushTurn R place count (movedTo at s) ≡ went (turned (movedTo at s)) = rw (eqb-true count 0 (b .0), le-leb 0 (R .width - s .position) (omega arith)) in
-        let unmoved : idle mode s (turned (movedTo at s)) ≡ true = upright-idle (turned (movedTo at s)) ∙ rw (eq-eqb (s .position) (s .position) refl, b .1) in
-        let stops : (R .exact && idle mode s (turned (movedTo at s))) ≡ true = rw (a .0) unmoved in
-        ap (unlessIdle R mode s) nothing ∙ ap (λ (x : Bool). cond x (failed 1 (s .at) s) (went (turned (movedTo at s)))) stops
+    move-none place at =
+        let nothing : pushTurn R place 0 (movedTo at s) ≡ went (turned (movedTo at s)) = rw (le-leb 0 (R .width - s .position) (omega arith)) in
+        let stays : idle mode s (turned (movedTo at s)) ≡ not (atFirst s) = upright-idle (turned (movedTo at s)) ∙ rw (eq-eqb (s .position) (s .position) refl) in
+        ap (unlessIdle R mode s) nothing ∙ ap (λ (x : Bool). cond (R .exact && x) (failed 1 (s .at) s) (went (turned (movedTo at s)))) stays
 
-    -- any other
-    pub move-busy : (place at count : ℕ) → s .position < R .width → test count ≡ false → unlessIdle R mode s (pushTurn R place count (movedTo at s)) ≡ pushTurn R place count (movedTo at s)
-    unfolding push add
-    move-busy place at count short e = tests (R .exact) refl (eqb count 0) refl (atFirst s) refl e
+    -- any other takes the line further
+    pub move-some : (place at count : ℕ) → s .position < R .width → (count ≡ 0 → ⊥) → unlessIdle R mode s (pushTurn R place count (movedTo at s)) ≡ pushTurn R place count (movedTo at s)
+    move-some place at count short some = moved (pushTurn R place count (movedTo at s)) (turn-on place count (movedTo at s) short some)
       where
-        w : Went
-        w = pushTurn R place count (movedTo at s)
-
-        first : (v : Went) → atFirst s ≡ true → unlessIdle R mode s v ≡ v
-        first (went t) f = not-idle R mode s t (upright-idle t ∙ rw f (and-false (eqb (t .position) (s .position))))
-        first (failed n p t) f = refl
-
         moved : (v : Went) → Each (λ t. s .position < t .position) Any v → unlessIdle R mode s v ≡ v
         moved (went t) h = not-idle R mode s t (upright-idle t ∙ rw (ne-eqb (t .position) (s .position) (λ q. omega arith)))
         moved (failed n p t) h = refl
 
-        tests : (x : Bool) → R .exact ≡ x → (y : Bool) → eqb count 0 ≡ y → (z : Bool) → atFirst s ≡ z → (x && (y && not z)) ≡ false → unlessIdle R mode s w ≡ w
-        tests false a y b z c q = inexact R a mode s w
-        tests true a false b z c q = moved w (turn-on place count (movedTo at s) short (eqb-false count 0 b))
-        tests true a true b true c q = first w c
-        tests true a true b false c q = absurd (let n : _≡_ {A = ℕ} 0 1 = cc in omega arith)
-
--- the code's test is the rules'
-pub idle-is : (xs : List ℕ) (l : Line) (at count : ℕ) (exact : Bool) → l .colour ≤ 1 → idleMove l count exact ≡ (exact && (eqb count 0 && not (atFirst (lineAt at xs l))))
-idle-is xs l at count exact h = ap (λ (b : Bool). exact && (eqb count 0 && not (eqb (l .position) 0 && b))) (white-is (l .colour) h)
+-- the code's test of the first code is the rules'
+pub first-is : (xs : List ℕ) (l : Line) (at : ℕ) → l .colour ≤ 1 → (eqb (l .position) 0 && eqb (l .colour) 0) ≡ atFirst (lineAt at xs l)
+first-is xs l at h = ap (λ (b : Bool). eqb (l .position) 0 && b) (white-is (l .colour) h)
   where
     white-is : (n : ℕ) → n ≤ 1 → eqb n 0 ≡ differ black (colourOf n)
     white-is zero h = refl
@@ -130,34 +108,16 @@ module _ (bytes xs : List ℕ) (l : Line) (at next′ : ℕ) (rules : Code.Rules
   abbrev W : Went
   W = runsFrom R true (bitsOf bytes) (lineAt next′ xs l)
 
-  module _ (c : Steps (l .width) xs W r ys) where
-    -- a line that is not exact takes them as they are
-    pub runs-inexact : rules .exact ≡ false → TwoRuns bytes xs l at next′ rules r ys
-    runs-inexact e = rw (inexact R e horizontal s W) c
+  -- A line that is not exact takes them as they are, and a fault that was found in them came first. Where both are zero nothing was written.
+  pub runs-tested : Holds xs l → Steps (l .width) xs W r ys → TwoRuns bytes xs l at next′ rules (unlessIdleFor r l at (rules .exact)) ys
+  runs-tested h c = cases W (twoRuns-grows R (bitsOf bytes) (lineAt next′ xs l)) c
+    where
+      idle-or-not : (t : Rule.Line) → (t .position ≡ l .position → t .changes ≡ s .changes) → ys ≡ overlaid (t .changes) xs → (x : Bool) → rules .exact ≡ x → (y : Bool) → eqb (t .position) (l .position) ≡ y
+          → Steps (l .width) xs (cond (x && y) (failed 1 at s) (went t)) (cond (x && y) (Stop 1 l at) (On (lineFor (l .width) t) (t .at))) ys
+      idle-or-not t still e true a true b = record { answer = ap (λ (k : Line). Stop 1 k at) (sym (line-for xs l h at)); store = e ∙ ap (λ (zs : List ℕ). overlaid zs xs) (still (eqb-true (t .position) (l .position) b)) }
+      idle-or-not t still e true a false b = record { answer = refl; store = e }
+      idle-or-not t still e false a y b = record { answer = refl; store = e }
 
-    -- a fault that was found in them came first
-    pub runs-stop : {n p : ℕ} {m : Line} → r ≡ Stop n m p → TwoRuns bytes xs l at next′ rules (Stop n m p) ys
-    runs-stop {n} {p} {m} e =
-        let (t, o, same) = step-stop (l .width) W n p m (sym e ∙ c .answer) in
-        rw o (record { answer = ap (λ (k : Line). Stop n k p) same; store = c .store ∙ ap (λ (w : Went). overlaid (changesOf w) xs) o })
-
-    pub runs-moved : {m : Line} {after : ℕ} → r ≡ On m after → (m .position ≡ l .position → ⊥) → TwoRuns bytes xs l at next′ rules (On m after) ys
-    runs-moved {m} {after} e far =
-        let (t, o, same, there) = step-on (l .width) W m after (sym e ∙ c .answer) in
-        let busy : idle horizontal s t ≡ false = ne-eqb (t .position) (l .position) (λ q. far (ap (λ (k : Line). k .position) same ∙ q)) in
-        rw (o, not-idle R horizontal s t busy) (record { answer = λ i. On (same i) (there i); store = c .store ∙ ap (λ (w : Went). overlaid (changesOf w) xs) o })
-
-    -- both are zero: nothing was written
-    pub runs-idle : Holds xs l → rules .exact ≡ true → {m : Line} {after : ℕ} → r ≡ On m after → m .position ≡ l .position → TwoRuns bytes xs l at next′ rules (Stop 1 l at) ys
-    runs-idle h exact {m} {after} e stays =
-        let (t, o, same, there) = step-on (l .width) W m after (sym e ∙ c .answer) in
-        let here : t .position ≡ l .position = sym (ap (λ (k : Line). k .position) same) ∙ stays in
-        let still : t .changes ≡ s .changes = subst (GrowsTo R (lineAt next′ xs l)) o (twoRuns-grows R (bitsOf bytes) (lineAt next′ xs l)) .still here in
-        subst (λ (w : Went). Steps (l .width) xs w (Stop 1 l at) ys) (sym (ap (unlessIdle R horizontal s) o ∙ unmoved t here))
-        (record {
-          answer = ap (λ (k : Line). Stop 1 k at) (sym (line-for xs l h at));
-          store = c .store ∙ ap (λ (w : Went). overlaid (changesOf w) xs) o ∙ ap (λ (zs : List ℕ). overlaid zs xs) still;
-        })
-      where
-        unmoved : (t : Rule.Line) → t .position ≡ l .position → unlessIdle R horizontal s (went t) ≡ failed 1 at s
-        unmoved t e = rw (exact, eq-eqb (t .position) (l .position) e)
+      cases : (w : Went) → GrowsTo R (lineAt next′ xs l) w → Steps (l .width) xs w r ys → Steps (l .width) xs (unlessIdle R horizontal s w) (unlessIdleFor r l at (rules .exact)) ys
+      cases (went t) g c = rw (c .answer) (idle-or-not t (g .still) (c .store) (rules .exact) refl (eqb (t .position) (l .position)) refl)
+      cases (failed n p t) g c = rw (c .answer) (record { answer = refl; store = c .store })

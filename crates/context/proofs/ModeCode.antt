@@ -1,9 +1,10 @@
 -- One mode code: what each mode makes of a line, as the code's answer says it. Assumes nothing.
 use mathlib.Core.Path.{_≡_, sym, ap, _∙_, subst}
-use mathlib.Core.Bool.{Bool, true, false, cond}
+use mathlib.Core.Bool.{Bool, true, false, cond, not, _&&_}
 use mathlib.Core.List.{List}
 use Prim.Native.Nat.{ℕ, _-_, _*_, _≤_, _<_}
 use native.Mathlib.Omega.{arith}
+use lib.Dec.{eqb}
 use lib.IntN.{ℤ, pos, negsuc}
 use lib.ListN.{length}
 use Rattle.rules.specs.Bits.{bitsOf}
@@ -32,12 +33,12 @@ use Rattle.context.specs.declared.step.Step.the-variants as Step
 use Rattle.context.specs.State.{lineAt, lineFor, turnedFor, rulesFor, Holds, changesOf, Comes, Pushes}
 use Rattle.context.specs.Outcome.{placeFor, Steps}
 use Rattle.context.specs.Offset.{Offset, moveBy}
-use Rattle.context.specs.Coding.{Coloured, afterPush, idleMove, TwoRuns}
+use Rattle.context.specs.Coding.{Coloured, afterPush, unmovedFor, TwoRuns}
 use Rattle.context.proofs.State.{line-for, overlaid-same}
 use Rattle.context.proofs.Carried.{turned-is, colour-small, push-on, push-stop, push-at, push-place, push-same}
 use Rattle.context.proofs.Signed.{held, offset-held}
 use Rattle.context.proofs.Moves.{afterMove, upright, offset-moves}
-use Rattle.context.proofs.Idle.{pass-busy, move-idle, move-busy, idle-is}
+use Rattle.context.proofs.Idle.{pass-busy, move-none, move-some, first-is}
 
 -- ---- What a push answers
 
@@ -135,16 +136,21 @@ module _ (bytes xs : List ℕ) (l : Line) (at : ℕ) (rules : Code.Rules) where
             rw (moved Over k)
             (record { answer = ap (λ (m : Line). Step.Stop 3 m at) (sym (line-for xs l h next′)); store = overlaid-same (l .changes) xs (h .held) })
 
-        module _ (h : Holds xs l) (count : ℕ) (k : By count ≡ moveBy b (offsetMode (held z)) (l .position)) where
-          pub mode-idle : idleMove l count (rules .exact) ≡ true → Steps (l .width) xs (code2D R reference bs s) (Step.Stop 1 l at) xs
-          mode-idle t =
-              rw (moved (By count) k ∙ move-idle R (offsetMode z) (upright z) s at next′ count (sym (idle-is xs l at count (rules .exact) (h .coloured)) ∙ t))
-              (record { answer = ap (λ (m : Line). Step.Stop 1 m at) (sym (line-for xs l h at)); store = overlaid-same (l .changes) xs (h .held) })
+        module _ (count : ℕ) (k : By count ≡ moveBy b (offsetMode (held z)) (l .position)) where
+          pub mode-unmoved : Holds xs l → count ≡ 0 → Steps (l .width) xs (code2D R reference bs s) (unmovedFor l at next′ (rules .exact)) xs
+          mode-unmoved h e =
+              rw (moved (By count) k ∙ ap (λ (n : ℕ). unlessIdle R (offsetMode z) s (afterMove R at (lineAt next′ xs l) (By n))) e ∙ move-none R (offsetMode z) (upright z) s at next′, ← first-is xs l at (h .coloured))
+              (cases (rules .exact && not (eqb (l .position) 0 && eqb (l .colour) 0)))
+            where
+              cases : (b : Bool) → Steps (l .width) xs (cond b (failed 1 at s) (went (turned (lineAt next′ xs l)))) (cond b (Step.Stop 1 l at) (Step.On (turnedFor l) next′)) xs
+              cases true = record { answer = ap (λ (m : Line). Step.Stop 1 m at) (sym (line-for xs l h at)); store = overlaid-same (l .changes) xs (h .held) }
+              cases false = record {
+                answer = ap (λ (m : Line). Step.On m next′) (ap turnedFor (sym (line-for xs l h next′)) ∙ turned-is (l .width) (lineAt next′ xs l));
+                store = overlaid-same (l .changes) xs (h .held);
+              }
 
-          pub mode-vertical : l .position < l .width → idleMove l count (rules .exact) ≡ false → (r : Push) (ys : List ℕ)
+          pub mode-vertical : l .position < l .width → (count ≡ 0 → ⊥) → (r : Push) (ys : List ℕ)
               → Pushes xs l count (rules .strict) r ys → Steps (l .width) xs (code2D R reference bs s) (afterPush r at next′ true) ys
-          mode-vertical short t r ys p =
-              rw (moved (By count) k ∙ move-busy R (offsetMode z) (upright z) s at next′ count short (sym (idle-is xs l at count (rules .exact) (h .coloured)) ∙ t))
+          mode-vertical short some r ys p =
+              rw (moved (By count) k ∙ move-some R (offsetMode z) (upright z) s at next′ count short some)
               (pushed-steps R xs at count (lineAt next′ xs l) true r ys (comes next′ count r ys p))
-
--- ---- b2

@@ -35,17 +35,19 @@ abbrev pub afterPush : Push → ℕ → ℕ → Bool → Step
 afterPush (Push.On l) at next turns = Step.On (cond turns (turnedFor l) l) next
 afterPush (Push.Stop n l) at next turns = Step.Stop n l (placeFor n at)
 
--- a vertical move of nothing is idle in an exact line (A12), unless it is the line's first code
-abbrev pub idleMove : Line → ℕ → Bool → Bool
-idleMove l count exact = exact && (eqb count 0 && not (eqb (l .position) 0 && eqb (l .colour) 0))
+-- a vertical move of nothing, whose code began at `at` and ends at `next`: an exact line refuses it (A12), unless it is the line's first code
+abbrev pub unmovedFor : Line → ℕ → ℕ → Bool → Step
+unmovedFor l at next exact = cond (exact && not (eqb (l .position) 0 && eqb (l .colour) 0)) (Step.Stop 1 l at) (Step.On (turnedFor l) next)
+
+-- what two runs came to, of a code that began at `at`: where both are zero an exact line refuses it
+abbrev pub unlessIdleFor : Step → Line → ℕ → Bool → Step
+unlessIdleFor (Step.On m after) l at exact = cond (exact && eqb (m .position) (l .position)) (Step.Stop 1 l at) (Step.On m after)
+unlessIdleFor (Step.Stop n m place) l at exact = Step.Stop n m place
 
 -- the two runs, from the bit `next` on, of a horizontal code at a bit
 abbrev pub TwoRuns : List ℕ → List ℕ → Line → ℕ → ℕ → Rules → Step → List ℕ → Type 0
 TwoRuns bytes xs l at next rules r ys =
     Steps (l .width) xs (unlessIdle (rulesFor (l .width) rules xs) horizontal (lineAt at xs l) (runsFrom (rulesFor (l .width) rules xs) true (bitsOf bytes) (lineAt next xs l))) r ys
-
-abbrev pub ExactRuns : List ℕ → List ℕ → Line → ℕ → ℕ → Rules → Step → List ℕ → Type 0
-ExactRuns bytes xs l at next rules r ys = rules .exact ≡ true → TwoRuns bytes xs l at next rules r ys
 
 -- what a code asks besides: the line is short of its width, and b2 does not lie left of it
 pub record Coding (w b bytes xs : List ℕ) (l : Line) (at b2 : ℕ) : Type 0 where

@@ -13,10 +13,11 @@ use crate::step::Step;
 use codes::mode;
 use codes::mode::Mode;
 ghost use mathlib.Core.Path.{_≡_};
+ghost use Prim.Native.Nat.{_≤_};
 ghost use Rattle.tables.specs.Tables.{colourOf};
 ghost use Rattle.context.specs.Outcome.{Reads};
 ghost use Rattle.context.specs.Reference.{Finds};
-ghost use Rattle.context.specs.Coding.{Coloured, afterPush, idleMove, ExactRuns, TwoRuns, Coding, Coded, referenceIn, Seeks, Lines, Lined};
+ghost use Rattle.context.specs.Coding.{Coloured, afterPush, unmovedFor, unlessIdleFor, TwoRuns, Coding, Coded, referenceIn, Seeks, Lines, Lined};
 
 // What a push makes of the code that began at `at` and ends at `next`; vertical mode turns the colour, pass mode keeps it.
 fn after_push(push: Push, at: usize, next: usize, turns: bool) -> Step
@@ -34,41 +35,34 @@ fn after_push(push: Push, at: usize, next: usize, turns: bool) -> Step
     }
 }
 
-// A vertical move of nothing is idle. The line's first code is none: it is read at position 0 in white.
-fn is_idle(line: Line, count: u32, exact: bool) -> bool
-    ensures { λ r. ⌜ r ≡ idleMove line count exact ⌝ }
+// A vertical move of nothing turns the colour. An exact line refuses it as idle, other than its first code, which is read at position 0 in white.
+fn unmoved(line: Line, at: usize, next: usize, exact: bool) -> Step
+    requires { ⌜ line .colour ≤ 1 ⌝ }
+    ensures { λ r. ⌜ r ≡ unmovedFor line at next exact ⌝ }
 {
-    if count != 0 {
-        return false;
-    }
     if !exact {
-        return false;
+        return Step::On(line::turned(line), next);
     }
     if line.position != 0 {
-        return true;
+        return Step::Stop(1, line, at);
     }
-    line.colour != 0
+    if line.colour != 0 {
+        return Step::Stop(1, line, at);
+    }
+    Step::On(line::turned(line), next)
 }
 
-// The two runs of an exact line. Where both are zero the code is idle, and the line is as it was before it.
-fn exact_runs<'a>(
-    white: &'a [u16; 8192],
-    black: &'a [u16; 8192],
-    src: &[u8],
-    changes: &mut [u32],
-    line: Line,
-    at: usize,
-    next: usize,
-    rules: Rules,
-) -> Step
-    requires { ⌜ Reads (now white) (now black) (now src) (now changes) line next ⌝ }
-    ensures { λ r. ⌜ ExactRuns (now (src .entry)) (now (changes .entry)) line at next rules r (now (changes .exit)) ⌝ }
+// What two runs make of the code that began at `at`: an exact line refuses it as idle where both are zero, and is as it was before it.
+fn unless_idle(step: Step, line: Line, at: usize, exact: bool) -> Step
+    ensures { λ r. ⌜ r ≡ unlessIdleFor step line at exact ⌝ }
 {
-    match runs::runs(white, black, src, changes, true, line, next, rules) {
+    match step {
         Step::Stop(number, stopped, place) => Step::Stop(number, stopped, place),
         Step::On(after, end) => {
-            if after.position == line.position {
-                return Step::Stop(1, line, at);
+            if exact {
+                if after.position == line.position {
+                    return Step::Stop(1, line, at);
+                }
             }
             Step::On(after, end)
         }
@@ -89,10 +83,8 @@ fn horizontal<'a>(
     requires { ⌜ Reads (now white) (now black) (now src) (now changes) line next ⌝ }
     ensures { λ r. ⌜ TwoRuns (now (src .entry)) (now (changes .entry)) line at next rules r (now (changes .exit)) ⌝ }
 {
-    if rules.exact {
-        return exact_runs(white, black, src, changes, line, at, next, rules);
-    }
-    runs::runs(white, black, src, changes, true, line, next, rules)
+    let step = runs::runs(white, black, src, changes, true, line, next, rules);
+    unless_idle(step, line, at, rules.exact)
 }
 
 fn code_2d<'a>(
@@ -119,8 +111,8 @@ fn code_2d<'a>(
         Mode::Vertical(offset, next) => match offset::moved(b1, offset, line.position) {
             Move::Over => Step::Stop(3, line, at),
             Move::By(count) => {
-                if is_idle(line, count, rules.exact) {
-                    return Step::Stop(1, line, at);
+                if count == 0 {
+                    return unmoved(line, at, next, rules.exact);
                 }
                 let pushed = line::push_pixels(changes, line, count, rules.strict);
                 after_push(pushed, at, next, true)

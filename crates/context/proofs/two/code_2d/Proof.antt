@@ -2,7 +2,7 @@
 use mathlib.Core.Path.{sym, _∙_}
 use denote.Ref.{now}
 use borrow.Author.Needs.{needs}
-use Rattle.context.proofs.ModeCode.{comes-coloured, mode-inside, mode-offset, mode-bad, mode-horizontal, mode-pass, mode-over, mode-idle, mode-vertical}
+use Rattle.context.proofs.ModeCode.{comes-coloured, mode-inside, mode-offset, mode-bad, mode-horizontal, mode-pass, mode-over, mode-unmoved, mode-vertical}
 use Rattle.context.proofs.two.code_2d.Statement.{statement}
 use Rattle.context.proofs.two.code_2d.Tie as tie
 
@@ -54,13 +54,13 @@ enum-told c = search needs
 enum-known-count : tie.Need-enum-known-count
 enum-known-count c = search needs
 
-is-idle-requires : tie.Need-is-idle-requires
-is-idle-requires c κs = search needs
+unmoved-requires : tie.Need-unmoved-requires
+unmoved-requires c κs = search needs
 
 returns : tie.Need-returns
 returns c = λ reference e1 e2.
     let a = c .before .before .before .before .before .before .before .before .before .before .before .before .args in
-    mode-idle (now (a .src)) (now (a .changes)) (a .line) (a .at) (a .rules) _ (c .before .before .before .before .before .before .before .before .before .read-mode .ensures) reference _ _ _ (c .before .before .before .before .before .before .before .offset .given .1) e1 (c .before .before .before .before .before .before .before .before .before .before .before .before .pre .reads .holds) _ (sym (c .before .before .before .count .given .1) ∙ c .before .before .before .before .before .moved .ensures) (sym (c .before .is-idle .ensures) ∙ c .if1 .taken)
+    rw (c .unmoved .ensures) (mode-unmoved (now (a .src)) (now (a .changes)) (a .line) (a .at) (a .rules) _ (c .before .before .before .before .before .before .before .before .before .read-mode .ensures) reference _ _ _ (c .before .before .before .before .before .before .before .offset .given .1) e1 _ (sym (c .before .before .before .count .given .1) ∙ c .before .before .before .before .before .moved .ensures) (c .before .before .before .before .before .before .before .before .before .before .before .before .pre .reads .holds) (c .before .if1 .taken))
 
 push-pixels-requires-2 : tie.Need-push-pixels-requires-2
 push-pixels-requires-2 c κs = search needs
@@ -99,8 +99,8 @@ same-length-3 c = search needs
 
 returns-6 : tie.Need-returns-6
 returns-6 c = λ reference e1 e2.
-    let a = c .before .before .before .before .before .before .before .before .before .before .before .before .before .before .before .before .before .args in
-    rw (c .after-push2 .ensures) (mode-vertical (now (a .src)) (now (a .changes)) (a .line) (a .at) (a .rules) _ (c .before .before .before .before .before .before .before .before .before .before .before .before .before .before .read-mode .ensures) reference _ _ _ (c .before .before .before .before .before .before .before .before .before .before .before .before .offset .given .1) e1 (c .before .before .before .before .before .before .before .before .before .before .before .before .before .before .before .before .before .pre .reads .holds) _ (sym (c .before .before .before .before .before .before .before .before .count .given .1) ∙ c .before .before .before .before .before .before .before .before .before .before .moved .ensures) (c .before .before .before .before .before .before .before .before .before .before .before .before .before .before .before .before .before .pre .short) (sym (c .before .before .before .before .before .before .is-idle .ensures) ∙ c .before .before .before .before .before .if1 .left) _ _ (c .before .before .before .push-pixels2 .ensures))
+    let a = c .before .before .before .before .before .before .before .before .before .before .before .before .before .before .before .before .args in
+    rw (c .after-push2 .ensures) (mode-vertical (now (a .src)) (now (a .changes)) (a .line) (a .at) (a .rules) _ (c .before .before .before .before .before .before .before .before .before .before .before .before .before .read-mode .ensures) reference _ _ _ (c .before .before .before .before .before .before .before .before .before .before .before .offset .given .1) e1 _ (sym (c .before .before .before .before .before .before .before .count .given .1) ∙ c .before .before .before .before .before .before .before .before .before .moved .ensures) (c .before .before .before .before .before .before .before .before .before .before .before .before .before .before .before .before .pre .short) (c .before .before .before .before .before .if1 .left) _ _ (c .before .before .before .push-pixels2 .ensures))
 
 pub code-2d-spec : {M : Type 1} → statement M
 code-2d-spec =
@@ -119,7 +119,7 @@ code-2d-spec =
     moved-requires
     enum-told
     enum-known-count
-    is-idle-requires
+    unmoved-requires
     returns
     push-pixels-requires-2
     after-push-requires-2
