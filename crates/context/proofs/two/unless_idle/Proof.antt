@@ -12,13 +12,13 @@ enum-known-step-2 : tie.Need-enum-known-step-2
 enum-known-step-2 c = search needs
 
 returns : tie.Need-returns
-returns c = rw (c .before .before .before .before .before .step2 .given .1, c .before .before .before .if1 .taken, eq-eqb _ _ (c .if2 .taken))
+returns c = rw (c .before .before .before .before .before .step2 .given .1, c .before .before .before .if1 .taken, eq-eqb (c .before .before .before .before .before .step2 .given .0 .0 .position) (c .before .before .before .before .before .before .before .args .line .position) (c .if2 .taken))
 
 returns-2 : tie.Need-returns-2
 returns-2 c = rw (c .before .step .given .1)
 
 returns-3 : tie.Need-returns-3
-returns-3 c = rw (c .before .before .before .before .before .step2 .given .1, ne-eqb _ _ (c .if2 .left), and-false (c .before .before .before .before .before .before .before .args .exact))
+returns-3 c = rw (c .before .before .before .before .before .step2 .given .1, ne-eqb (c .before .before .before .before .before .step2 .given .0 .0 .position) (c .before .before .before .before .before .before .before .args .line .position) (c .if2 .left), and-false (c .before .before .before .before .before .before .before .args .exact))
 
 returns-4 : tie.Need-returns-4
 returns-4 c = rw (c .before .before .step2 .given .1, c .if1 .left)
