@@ -157,13 +157,15 @@ pub fn pattern_byte(fill: u32, index: usize) -> u8 {
     (pattern(fill, index) >> 24) as u8
 }
 
-pub fn fill_words(words: &mut [u32], fill: u32) {
+#[cfg(any(feature = "linked", test))]
+fn fill_words(words: &mut [u32], fill: u32) {
     for (index, word) in words.iter_mut().enumerate() {
         *word = pattern(fill, index);
     }
 }
 
-pub fn fill_bytes(bytes: &mut [u8], fill: u32) {
+#[cfg(any(feature = "linked", test))]
+fn fill_bytes(bytes: &mut [u8], fill: u32) {
     for (index, byte) in bytes.iter_mut().enumerate() {
         *byte = pattern_byte(fill, index);
     }

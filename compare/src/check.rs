@@ -1,6 +1,6 @@
 //! Runs one check: makes its inputs, asks the library, and compares everything that comes back.
 
-use crate::call::{Answer, Ask, BYTE_MARGIN, Call, Form, Replies, Reply, Room, fill_bytes, fill_words};
+use crate::call::{Answer, Ask, BYTE_MARGIN, Call, Form, Replies, Reply, Room, pattern, pattern_byte};
 use crate::ours::Ours;
 use crate::random::Random;
 use crate::truth::Wanted;
@@ -160,39 +160,29 @@ fn difference_of(plan: &Plan, reply: &Reply) -> Option<String> {
     if reply.answer != plan.wanted.answer {
         return Some(format!("it answers {}", show(&reply.answer)));
     }
-    let words = wanted_words(plan);
-    if let Some(at) = first_difference(&words, reply.words) {
-        return Some(format!("{} is {}, not {}", name_word(plan.room, at), reply.words[at], words[at]));
+    assert_eq!((reply.words.len(), reply.bytes.len()), (plan.room.words(), plan.room.bytes()), "as much comes back as was lent");
+    if let Some(at) = (0..reply.words.len()).find(|&at| reply.words[at] != wanted_word(plan, at)) {
+        return Some(format!("{} is {}, not {}", name_word(plan.room, at), reply.words[at], wanted_word(plan, at)));
     }
-    let bytes = wanted_bytes(plan);
-    let at = first_difference(&bytes, reply.bytes)?;
+    let at = (0..reply.bytes.len()).find(|&at| reply.bytes[at] != wanted_byte(plan, at))?;
     let name = if matches!(plan.room, Room::Rows { .. }) { "mark" } else { "output byte" };
-    Some(format!("{name} {} is {:02x}, not {:02x}", at as i64 - BYTE_MARGIN as i64, reply.bytes[at], bytes[at]))
+    Some(format!("{name} {} is {:02x}, not {:02x}", at as i64 - BYTE_MARGIN as i64, reply.bytes[at], wanted_byte(plan, at)))
 }
 
-fn wanted_words(plan: &Plan) -> Vec<u32> {
-    let mut words = vec![0; plan.room.words()];
-    fill_words(&mut words, plan.fill);
+fn wanted_word(plan: &Plan, at: usize) -> u32 {
     let (changes, ends) = plan.room.places();
-    words[changes][..plan.wanted.changes.len()].copy_from_slice(&plan.wanted.changes);
-    words[ends][..plan.wanted.ends.len()].copy_from_slice(&plan.wanted.ends);
-    words
+    let written = written(&plan.wanted.changes, changes.start, at).or_else(|| written(&plan.wanted.ends, ends.start, at));
+    written.unwrap_or_else(|| pattern(plan.fill, at))
 }
 
-fn wanted_bytes(plan: &Plan) -> Vec<u8> {
-    let mut bytes = vec![0; plan.room.bytes()];
-    fill_bytes(&mut bytes, plan.fill);
-    let written = plan.wanted.out.as_ref().unwrap_or(&plan.wanted.marks);
-    bytes[BYTE_MARGIN..BYTE_MARGIN + written.len()].copy_from_slice(written);
-    bytes
+fn wanted_byte(plan: &Plan, at: usize) -> u8 {
+    let all = plan.wanted.out.as_ref().unwrap_or(&plan.wanted.marks);
+    written(all, BYTE_MARGIN, at).unwrap_or_else(|| pattern_byte(plan.fill, at))
 }
 
-fn first_difference<T: PartialEq>(wanted: &[T], got: &[T]) -> Option<usize> {
-    if wanted == got {
-        return None;
-    }
-    assert_eq!(wanted.len(), got.len(), "as much comes back as was lent");
-    wanted.iter().zip(got).position(|(a, b)| a != b)
+/// What is written at a place, if a list that starts at `start` reaches it.
+fn written<T: Copy>(list: &[T], start: usize, at: usize) -> Option<T> {
+    list.get(at.checked_sub(start)?).copied()
 }
 
 fn name_word(room: Room, at: usize) -> String {

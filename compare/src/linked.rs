@@ -52,22 +52,25 @@ impl Ours for Linked {
 
 fn answer_all(calls: &[Call]) -> Replies {
     let mut replies = Replies::default();
+    let mut wide = Vec::new();
     for call in calls {
-        replies.lend(call, |words, bytes| one(call, words, bytes));
+        replies.lend(call, |words, bytes| one(call, words, bytes, &mut wide));
     }
     replies
 }
 
-fn one(call: &Call, words: &mut [u32], bytes: &mut [u8]) -> Answer {
+/// `wide` is lent for the row ends, from call to call.
+fn one(call: &Call, words: &mut [u32], bytes: &mut [u8], wide: &mut Vec<u64>) -> Answer {
     match call.room {
         Room::Rows { .. } => {
             let (changes, ends) = call.room.places();
             let (front, back) = words.split_at_mut(ends.start - MARGIN);
-            let mut wide: Vec<u64> = back.iter().copied().map(widened).collect();
+            wide.clear();
+            wide.extend(back.iter().copied().map(widened));
             let marks = BYTE_MARGIN..bytes.len() - BYTE_MARGIN;
             let answer = read(call, &mut front[changes], &mut wide[MARGIN..MARGIN + ends.len()], &mut bytes[marks]);
             for (word, end) in back.iter_mut().zip(wide) {
-                *word = narrowed(*word, end);
+                *word = narrowed(*word, *end);
             }
             answer
         }

@@ -47,11 +47,11 @@ pub fn exact_plans(rooms: Vec<Room>, random: &mut Random, outcome: &Outcome) -> 
 
 /// A page with fewer rooms, for checks that have very many pages: room to spare or just enough, and for
 /// one page in eight one entry, one row end or one mark short. Each strict page is read exactly too, and
-/// one lenient page in eight: an exact reading does not look at strictness.
+/// one lenient page in 32: an exact reading does not look at strictness.
 pub fn quick_page_case(ask: Ask, random: &mut Random) -> Case {
     let outcome = Outcome::of_page(&ask.settings, &ask.src, ask.tail);
     let mut plans = planned(quick_rooms(&outcome, random), random, |room| outcome.page_within(room));
-    if ask.settings.strict || random.below(8) == 0 {
+    if ask.settings.strict || random.below(32) == 0 {
         let outcome = exactly(&ask, outcome);
         plans.extend(exact_plans(quick_rooms(&outcome, random), random, &outcome));
     }
