@@ -18,7 +18,7 @@ fn encoding(form: u32) -> EncodingMode {
     }
 }
 
-fn settings(n: &[u32; 13]) -> DecodeSettings {
+fn settings(n: &[u32; 14]) -> DecodeSettings {
     DecodeSettings {
         columns: n[1],
         rows: n[2],
@@ -27,12 +27,13 @@ fn settings(n: &[u32; 13]) -> DecodeSettings {
         rows_are_byte_aligned: n[5] == 1,
         encoding: encoding(n[0]),
         strict: n[6] == 1,
+        exact: n[7] == 1,
     }
 }
 
 // A question's numbers are the form (an encoding, or 3 for one line), the settings, the two halves of a line's first bit, and four lengths.
 fn ask(
-    n: &[u32; 13],
+    n: &[u32; 14],
     src: &[u8],
     reference: &[u32],
     changes: &mut [u32],
@@ -42,7 +43,7 @@ fn ask(
     if n[0] == 3 {
         return context::read::read_line(
             src,
-            joined(n[7], n[8]),
+            joined(n[8], n[9]),
             n[1],
             n[6] == 1,
             reference,
@@ -62,18 +63,18 @@ fn within(n: u32, most: usize) -> usize
 
 // Asks with as much of each array as the question says, in the last four of its numbers: there are as many marks as row ends.
 fn ask_within(
-    n: &[u32; 13],
+    n: &[u32; 14],
     src: &[u8],
     reference: &[u32],
     changes: &mut [u32],
     ends: &mut [u64],
     marks: &mut [u8],
 ) -> Answer {
-    let c = within(n[9], changes.len());
-    let e = within(n[10], ends.len());
-    let m = within(n[10], marks.len());
-    let r = within(n[11], reference.len());
-    let d = within(n[12], src.len());
+    let c = within(n[10], changes.len());
+    let e = within(n[11], ends.len());
+    let m = within(n[11], marks.len());
+    let r = within(n[12], reference.len());
+    let d = within(n[13], src.len());
     ask(
         n,
         &src[..d],
@@ -169,26 +170,26 @@ fn narrow(words: &[u32], out: &mut [u8]) {
     }
 }
 
-// Asks the question that begins at a place, and prints the answer. Answers the place behind the question: its thirteen numbers, the
+// Asks the question that begins at a place, and prints the answer. Answers the place behind the question: its fourteen numbers, the
 // reference, the data.
 pub(crate) fn replay(input: &[u8], from: usize) -> usize {
-    let mut n = [0u32; 13];
+    let mut n = [0u32; 14];
     let mut reference = [0u32; 32];
     let mut words = [0u32; 128];
     let mut src = [0u8; 128];
     let mut changes = [4294967295u32; 256];
     let mut ends = [4294967295u64; 64];
     let mut marks = [255u8; 64];
-    let head = asked::numbers(input, from, 13, &mut n);
-    let data = asked::numbers(input, head, n[11], &mut reference);
-    let next = asked::numbers(input, data, n[12], &mut words);
+    let head = asked::numbers(input, from, 14, &mut n);
+    let data = asked::numbers(input, head, n[12], &mut reference);
+    let next = asked::numbers(input, data, n[13], &mut words);
     narrow(&words, &mut src);
     tell(ask_within(&n, &src, &reference, &mut changes, &mut ends, &mut marks));
-    entries(&changes, n[9]);
+    entries(&changes, n[10]);
     io::write_all(STDOUT_FILENO, b" ");
-    row_ends(&ends, n[10]);
+    row_ends(&ends, n[11]);
     io::write_all(STDOUT_FILENO, b" ");
-    row_marks(&marks, n[10]);
+    row_marks(&marks, n[11]);
     io::write_all(STDOUT_FILENO, b"\n");
     next
 }

@@ -1,7 +1,8 @@
 // The sheets on the wall that are run (the others are proved), the inputs where the crate, and so this work, parts from the standard
-// (docs/DIFFERENCES.md), and one input for each clause of A7 (places.rt): what reading each of them answers. A line has the sheet's name;
+// (docs/DIFFERENCES.md), and one input for each clause of A7 (places.rt) and of A12 (exact.rt): what reading each of them answers. A line has the sheet's name;
 // number, rows, entries, loose entries, bytes and place; the mark of the first row, or 3 where none was stored; and the changes, those of
 // kept rows first.
+mod exact;
 mod places;
 
 use error::Answer;
@@ -61,7 +62,7 @@ fn no_mark(name: &[u8], src: &[u8], settings: DecodeSettings) {
     show(name, answer, 3, &changes);
 }
 
-fn group4(strict: bool) -> DecodeSettings {
+pub(crate) fn group4(strict: bool) -> DecodeSettings {
     DecodeSettings {
         columns: 8,
         rows: 1,
@@ -70,6 +71,7 @@ fn group4(strict: bool) -> DecodeSettings {
         rows_are_byte_aligned: false,
         encoding: EncodingMode::Group4,
         strict: strict,
+        exact: false,
     }
 }
 
@@ -82,6 +84,7 @@ pub(crate) fn group3(rows: u32, end_of_line: bool, strict: bool) -> DecodeSettin
         rows_are_byte_aligned: false,
         encoding: EncodingMode::Group3_1D,
         strict: strict,
+        exact: false,
     }
 }
 
@@ -180,6 +183,7 @@ pub(crate) fn strictly(
         rows_are_byte_aligned: aligned,
         encoding: encoding,
         strict: true,
+        exact: false,
     }
 }
 
@@ -326,4 +330,7 @@ fn main() {
     places::in_group4();
     places::in_group3();
     places::of_a_line();
+    exact::idle_codes();
+    exact::short_pages();
+    exact::strict_implied();
 }
