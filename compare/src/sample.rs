@@ -14,7 +14,7 @@ use std::fmt::Write as _;
 use std::io;
 use std::path::Path;
 
-/// So many cases of each kind: of each source, form, strictness, exactness and answer.
+/// So many cases of each kind: of each source, form, strictness (lenient, strict or exact) and answer.
 const EACH: usize = 4;
 /// Inputs tried for each source.
 const TRIED: u64 = 40_000;
@@ -57,13 +57,14 @@ fn sources() -> Vec<Box<dyn Source>> {
 /// The first cases of each kind that a random source gives, and all of the others. Data above limit 7 is
 /// left out with all that is too long.
 fn chosen(source: &dyn Source, seed: u64) -> Vec<(Ask, Plan)> {
-    let mut taken: BTreeMap<(u32, bool, bool, u32), usize> = BTreeMap::new();
+    let mut taken: BTreeMap<(u32, u32, u32), usize> = BTreeMap::new();
     let mut list = Vec::new();
     let each = if source.count() < TRIED { usize::MAX } else { EACH };
     for index in 0..source.count() {
         let Case { ask, plans, .. } = source.case(index, &mut Random::of(seed, &source.name(), index));
         for plan in plans.into_iter().filter(|plan| is_small(&ask, plan)) {
-            let kind = (form_number(ask.form), ask.settings.strict, plan.exact, plan.wanted.answer.number);
+            let strictness = if plan.exact { 2 } else { u32::from(ask.settings.strict) };
+            let kind = (form_number(ask.form), strictness, plan.wanted.answer.number);
             let count = taken.entry(kind).or_default();
             if *count < each {
                 *count += 1;

@@ -119,13 +119,17 @@ const fn wide(columns: u32) -> Settings {
 
 /// In the order of docs/DIFFERENCES.md.
 #[rustfmt::skip]
-const PARTINGS: [Sheet; 25] = [
+const PARTINGS: [Sheet; 27] = [
     white(wide(128), &[0xDE, 0xCD, 0x40], answer(0, 1, 0, 0, 3), &[0]),
     white(wide(2624), &[0xD8, 0x0F, 0x9A, 0x80], answer(0, 1, 0, 0, 4), &[0]),
     white(one_d(1, true), &[0x00, 0xF0], fault(1, 0, 0), &[]),
     white(group4(8, 1, true), &[0x03, 0xC0], fault(1, 0, 0), &[]),
     white(one_d(1, true), &[0x80, 0xDF, 0x00], answer(0, 1, 0, 0, 3), &[0]),
     white(group4(8, 1, true), &[0x26, 0xA1, 0xBC], answer(0, 1, 0, 0, 3), &[0]),
+    Sheet {
+        settings: group4(8, 1, true), exact: false, src: &[0x36, 0x81, 0x40], room: PLENTY,
+        answer: answer(0, 1, 1, 0, 3), changes: &[4], ends: &[1], marks: &[0],
+    },
     white(group4(8, 1, true), &[0x10], answer(0, 1, 0, 0, 1), &[0]),
     white(group4(8, 1, true), &[0x33, 0x0D, 0xC0], answer(0, 1, 0, 0, 3), &[0]),
     Sheet {
@@ -134,6 +138,7 @@ const PARTINGS: [Sheet; 25] = [
     },
     white(group4(8, 1, true), &[0x00, 0x18], answer(0, 1, 0, 0, 2), &[0]),
     white(with_end(group4(8, 0, true)), &[0xFF], answer(0, 8, 0, 0, 1), &[0; 8]),
+    white(with_end(group4(8, 2, true)), &[0x80, 0x08, 0x00, 0x80], answer(0, 1, 0, 0, 4), &[0]),
     white(group4(8, 0, true), &[0x80, 0x08, 0x00, 0x80], fault(1, 1, 25), &[0]),
     white(aligned(group4(8, 2, true)), &[0x80, 0x80], answer(0, 2, 0, 0, 2), &[0; 2]),
     white(with_end(group4(8, 0, true)), &[0x80, 0x08, 0x00, 0x80, 0xFF], answer(0, 1, 0, 0, 4), &[0]),
