@@ -98,17 +98,17 @@ eight-zeros black bs = refl
 
 -- ---- No code of a colour begins another
 
-alone : List Bool → List Code → Bool
+unfoldable pub alone : List Bool → List Code → Bool
 unfolding begins codeBits
 alone xs [] = true
 alone xs (d ∷ ds) = not (begins xs (codeBits d)) && (not (begins (codeBits d) xs) && alone xs ds)
 
-apart : List Code → Bool
+unfoldable pub apart : List Code → Bool
 unfolding alone
 apart [] = true
 apart (c ∷ cs) = alone (codeBits c) cs && apart cs
 
-apart-of : (colour : Colour) → T (apart (codesOf colour))
+pub apart-of : (colour : Colour) → T (apart (codesOf colour))
 unfolding apart codesOf codeBits begins bitsFor bit
 apart-of white = tt
 apart-of black = tt

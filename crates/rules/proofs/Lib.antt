@@ -4,6 +4,7 @@ pub mod Codes
 pub mod Lookup
 pub mod Agree
 pub mod Runs
+pub mod Plain
 pub mod Modes
 pub mod Ascending
 pub mod Ahead

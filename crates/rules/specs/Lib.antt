@@ -3,6 +3,7 @@ pub mod Bits
 pub mod Codes
 pub mod Lookup
 pub mod Runs
+pub mod Plain
 pub mod Modes
 pub mod Pixels
 pub mod Lines
