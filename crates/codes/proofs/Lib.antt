@@ -1,4 +1,6 @@
 -- The laws that the functions' proofs cite.
 pub mod Runs
+pub mod Verdicts
+pub mod Comparing
 pub mod Modes
 pub mod Eols

@@ -63,11 +63,32 @@ step-by colour bs s e = entry (lookup colour (window 13 (drop (s .at) bs))) refl
 abbrev outcome : Colour → List ℕ → Sum → Out Sum (Res Sum)
 outcome colour bytes s = ends (runStep colour (bitsOf bytes)) (bitsAfter (bitsOf bytes)) s
 
--- a sum, and the data from its bit on, that lead to the same answer as the start does
+-- a sum that leads to the same answer as the start does
+pub record Summing (colour : Colour) (bytes : List ℕ) (start : ℕ) (s : Sum) : Type 0 where
+  pub small : s .total ≤ 4294967295
+  pub same : outcome colour bytes s ≡ outcome colour bytes (sum start 0)
+
+-- at the start nothing is summed
+pub no-sum : {colour : Colour} {bytes : List ℕ} {start : ℕ} → Summing colour bytes start (sum start 0)
+no-sum = record { small = omega arith; same = refl }
+
+module _ {colour : Colour} {bytes : List ℕ} {start : ℕ} {s : Sum} (g : Summing colour bytes start s) where
+  -- where a step ends, the end is the answer
+  pub sum-stops : (r : Res Sum) → runStep colour (bitsOf bytes) s ≡ done r → r ≡ readRun colour (bitsOf bytes) start
+  unfolding readRun
+  sum-stops r e = ap answer (sym (ends-done (runStep colour (bitsOf bytes)) (bitsAfter (bitsOf bytes)) (run-falls colour (bitsOf bytes)) s r e) ∙ g .same)
+
+  -- where it goes on, so does the sum
+  pub sum-goes : (t : Sum) → runStep colour (bitsOf bytes) s ≡ more t → t .total ≤ 4294967295 → Summing colour bytes start t
+  sum-goes t e h = record {
+    small = h;
+    same = sym (ends-more (runStep colour (bitsOf bytes)) (bitsAfter (bitsOf bytes)) (run-falls colour (bitsOf bytes)) s t e) ∙ g .same;
+  }
+
+-- the same with the data from its bit on
 pub record Going (colour : Colour) (bytes : List ℕ) (start : ℕ) (b : Buffer) (total : ℕ) : Type 0 where
   pub loaded : Loaded bytes b
-  pub small : total ≤ 4294967295
-  pub same : outcome colour bytes (sum (b .at) total) ≡ outcome colour bytes (sum start 0)
+  pub summing : Summing colour bytes start (sum (b .at) total)
 
 -- the same with the run and the length of the entry for the next 13 bits
 pub record Turn (colour : Colour) (bytes : List ℕ) (start : ℕ) (b : Buffer) (total run size : ℕ) : Type 0 where
@@ -77,9 +98,8 @@ pub record Turn (colour : Colour) (bytes : List ℕ) (start : ℕ) (b : Buffer) 
   pub run-is : run ≡ entry % 4096
   pub size-is : size ≡ entry / 4096
 
--- at the start nothing is summed
 pub begin : {colour : Colour} {bytes : List ℕ} {b : Buffer} → Loaded bytes b → Going colour bytes (b .at) b 0
-begin l = record { loaded = l; small = omega arith; same = refl }
+begin l = record { loaded = l; summing = no-sum }
 
 -- a turn begins with a look into the colour's table
 pub look : {colour : Colour} {bytes table : List ℕ} {start top total run size : ℕ} {b : Buffer} → Going colour bytes start b total
@@ -103,13 +123,8 @@ module _ {colour : Colour} {bytes : List ℕ} {start total run size : ℕ} {b : 
       ∙ ap (λ (n : ℕ). stepBy n (sum (b .at) total) (t .entry % 4096) (t .entry / 4096)) (length-bitsOf bytes)
       ∙ (λ i. stepBy (8 * length bytes) (sum (b .at) total) (sym (t .run-is) i) (sym (t .size-is) i))
 
-  -- where it ends, the end is the answer
   stops : (r : Res Sum) → runStep colour (bitsOf bytes) (sum (b .at) total) ≡ done r → r ≡ readRun colour (bitsOf bytes) start
-  unfolding readRun
-  stops r e =
-      ap answer
-      (sym (ends-done (runStep colour (bitsOf bytes)) (bitsAfter (bitsOf bytes)) (run-falls colour (bitsOf bytes)) (sum (b .at) total) r e)
-      ∙ t .going .same)
+  stops r e = sum-stops (t .going .summing) r e
 
   -- too few bits
   pub short : 8 * length bytes < b .at + size → fault 2 (b .at) ≡ readRun colour (bitsOf bytes) start
@@ -153,12 +168,7 @@ module _ {colour : Colour} {bytes : List ℕ} {start total run size : ℕ} {b : 
         pub on : 64 ≤ run → Going colour bytes start c (total + run)
         on k = record {
           loaded = m .loaded;
-          small = small;
-          same =
-              ap (λ (a : ℕ). outcome colour bytes (sum a (total + run))) (m .place)
-              ∙ sym
-              (ends-more (runStep colour (bitsOf bytes)) (bitsAfter (bitsOf bytes)) (run-falls colour (bitsOf bytes)) (sum (b .at) total) _ (goes k))
-              ∙ t .going .same;
+          summing = sum-goes (t .going .summing) (sum (c .at) (total + run)) (goes k ∙ ap (λ (a : ℕ). more (sum a (total + run))) (sym (m .place))) small;
         }
 
         pub falls : 64 ≤ run → 8 * length bytes - c .at < 8 * length bytes - b .at

@@ -1,3 +1,4 @@
 pub mod Runs
+pub mod Plain
 pub mod Modes
 pub mod Eols
