@@ -9,6 +9,7 @@ encodingOf Group4 = group4
 encodingOf «Group3_1D» = group3-1D
 encodingOf «Group3_2D» = group3-2D
 
+-- the engine is no matter of the rules: both read the same (A14)
 abbrev pub settingsOf : DecodeSettings → Settings
 settingsOf s = record {
   columns = s .columns;

@@ -23,6 +23,8 @@ pub struct DecodeSettings {
     pub strict: bool,
     // No idle codes, and no page short of `rows`; strict, whatever `strict` says.
     pub exact: bool,
+    // Runs are read by the plain engine (A14), not by the lookup. No answer depends on it.
+    pub plain: bool,
 }
 
 // The next bit, and the rows kept. The reference lies in the store from `start` to `base`, and the next row is written from `base` on.
