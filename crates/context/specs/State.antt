@@ -56,7 +56,7 @@ movedFor l count changes = record { width = l .width; position = l .position + c
 abbrev pub cutFor : Line → Line
 cutFor l = record { width = l .width; position = l .position; changes = l .changes; colour = l .colour; cut = 1 }
 
--- the rules of a reading into a slice
+-- the rules of a reading into a slice, whichever engine reads it
 abbrev pub rulesFor : ℕ → Rules → List ℕ → Rule.Rules
 rulesFor width rules xs = record { width = width; strict = rules .strict; exact = rules .exact; room = length xs }
 

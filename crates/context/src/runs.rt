@@ -1,5 +1,5 @@
 // Runs of alternating colour: the two of a horizontal code, or as many as fill a line. One loop reads both, and holds the only call of
-// `read_run`, which is so compiled in place.
+// `next_run`, which is so compiled in place, and the lookup's `read_run` in it.
 use crate::line;
 use crate::line::Line;
 use crate::line::Push;
@@ -7,11 +7,15 @@ use crate::step;
 use crate::step::Rules;
 use crate::step::Step;
 use bit_reader::buffer;
+use bit_reader::buffer::Buffer;
+use codes::plain;
 use codes::run;
 use codes::run::Run;
 ghost use mathlib.Core.Path.{_≡_};
 ghost use Rattle.rules.specs.Bits.{bitsOf};
 ghost use Rattle.rules.specs.Lines.{one, readLine};
+ghost use Rattle.tables.specs.Tables.{colourOf};
+ghost use Rattle.codes.specs.Runs.{Reading, RunRead};
 ghost use Rattle.context.specs.State.{rulesFor};
 ghost use Rattle.context.specs.Outcome.{Steps, Reads, Starts, goesOn, Runs};
 
@@ -22,6 +26,24 @@ fn goes_on(two: bool, count: usize, line: Line) -> bool
         return count < 2;
     }
     line.position != line.width
+}
+
+// The run of a colour by either engine. The compiler takes the test out of the loop over runs: each engine has one of its own there.
+fn next_run<'a>(
+    white: &'a [u16; 8192],
+    black: &'a [u16; 8192],
+    colour: usize,
+    src: &[u8],
+    buffer: Buffer,
+    plain: bool,
+) -> Run
+    requires { ⌜ Reading (now white) (now black) (now src) buffer ⌝ }
+    ensures { λ r. ⌜ RunRead (colourOf colour) (now (src .entry)) (buffer .at) r ⌝ }
+{
+    if plain {
+        return plain::read_run(colour, src, buffer.at);
+    }
+    run::read_run(white, black, colour, src, buffer)
 }
 
 pub fn runs<'a>(
@@ -42,7 +64,7 @@ pub fn runs<'a>(
     let mut count: usize = 0;
     while goes_on(two, count, line) {
         let from = buffer.at;
-        match run::read_run(white, black, line.colour as usize, src, buffer) {
+        match next_run(white, black, line.colour as usize, src, buffer, rules.plain) {
             Run::Bad(e, place) => {
                 return Step::Stop(error::number(e), line, place);
             }

@@ -3,10 +3,11 @@ use crate::line::Line;
 ghost use mathlib.Core.Path.{_≡_};
 ghost use Rattle.context.specs.Outcome.{placeFor};
 
-// `exact` comes with `strict` alone (A12).
+// `exact` comes with `strict` alone (A12). `plain` says which engine reads the runs (A14).
 pub struct Rules {
     pub strict: bool,
     pub exact: bool,
+    pub plain: bool,
 }
 
 // The line and the bit after; or the number of the fault, the line so far, whose `changes` says how many it has recorded, and the fault's

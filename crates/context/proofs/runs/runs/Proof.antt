@@ -24,12 +24,12 @@ loop-holds c =
 goes-on-requires : tie.Need-goes-on-requires Inv-loop μ-loop
 goes-on-requires c κs = search needs
 
-cast-read-run : tie.Need-cast-read-run Inv-loop μ-loop
-cast-read-run c =
+cast-next-run : tie.Need-cast-next-run Inv-loop μ-loop
+cast-next-run c =
     omega (arith, going-holds (c .before .before .before .loop .inv) .coloured)
 
-read-run-requires : tie.Need-read-run-requires Inv-loop μ-loop
-read-run-requires c κs = record { lookups = c .before .before .before .before .before .before .before .pre .lookups; size = c .before .before .before .before .before .before .before .pre .loading .size; loaded = c .before .before .before .loop .inv .loaded }
+next-run-requires : tie.Need-next-run-requires Inv-loop μ-loop
+next-run-requires c κs = record { lookups = c .before .before .before .before .before .before .before .pre .lookups; size = c .before .before .before .before .before .before .before .pre .loading .size; loaded = c .before .before .before .loop .inv .loaded }
 
 enum-known-e : tie.Need-enum-known-e Inv-loop μ-loop
 enum-known-e c = search needs
@@ -44,7 +44,7 @@ same-length c =
 returns : tie.Need-returns Inv-loop μ-loop
 returns c =
     rw (c .number .ensures)
-    (going-bad (c .before .before .before .before .before .before .before .before .loop .inv) (sym (c .before .before .before .before .before .before .before .goes-on .ensures) ∙ c .before .before .before .before .before .before .if1 .taken) (rw (c .before .before .e .given .1) at (c .before .before .before .before .read-run .ensures)))
+    (going-bad (c .before .before .before .before .before .before .before .before .loop .inv) (sym (c .before .before .before .before .before .before .before .goes-on .ensures) ∙ c .before .before .before .before .before .before .if1 .taken) (rw (c .before .before .e .given .1) at (c .before .before .before .before .next-run .ensures)))
 
 enum-known-pixels : tie.Need-enum-known-pixels Inv-loop μ-loop
 enum-known-pixels c = search needs
@@ -66,27 +66,27 @@ same-length-2 c =
 returns-2 : tie.Need-returns-2 Inv-loop μ-loop
 returns-2 c =
     rw (c .place-of .ensures)
-    (going-stop (c .before .before .before .before .before .before .before .before .before .before .before .before .before .before .before .loop .inv) (sym (c .before .before .before .before .before .before .before .before .before .before .before .before .before .before .goes-on .ensures) ∙ c .before .before .before .before .before .before .before .before .before .before .before .before .before .if1 .taken) (rw (c .before .before .before .before .before .before .before .before .before .pixels .given .1) at (c .before .before .before .before .before .before .before .before .before .before .before .read-run .ensures)) _ _ (c .before .before .before .before .before .before .push-pixels .ensures) (c .before .before .number2 .given .1))
+    (going-stop (c .before .before .before .before .before .before .before .before .before .before .before .before .before .before .before .loop .inv) (sym (c .before .before .before .before .before .before .before .before .before .before .before .before .before .before .goes-on .ensures) ∙ c .before .before .before .before .before .before .before .before .before .before .before .before .before .if1 .taken) (rw (c .before .before .before .before .before .before .before .before .before .pixels .given .1) at (c .before .before .before .before .before .before .before .before .before .before .before .next-run .ensures)) _ _ (c .before .before .before .before .before .before .push-pixels .ensures) (c .before .before .number2 .given .1))
 
 enum-known-pushed : tie.Need-enum-known-pushed Inv-loop μ-loop
 enum-known-pushed c = search needs
 
 turned-requires : tie.Need-turned-requires Inv-loop μ-loop
 turned-requires c κs =
-    going-coloured (c .before .before .before .before .before .before .before .before .before .before .before .before .before .before .loop .inv) (sym (c .before .before .before .before .before .before .before .before .before .before .before .before .before .goes-on .ensures) ∙ c .before .before .before .before .before .before .before .before .before .before .before .before .if1 .taken) (rw (c .before .before .before .before .before .before .before .before .pixels .given .1) at (c .before .before .before .before .before .before .before .before .before .before .read-run .ensures)) _ _ (c .before .before .before .before .before .push-pixels .ensures) (c .before .pushed .given .1)
+    going-coloured (c .before .before .before .before .before .before .before .before .before .before .before .before .before .before .loop .inv) (sym (c .before .before .before .before .before .before .before .before .before .before .before .before .before .goes-on .ensures) ∙ c .before .before .before .before .before .before .before .before .before .before .before .before .if1 .taken) (rw (c .before .before .before .before .before .before .before .before .pixels .given .1) at (c .before .before .before .before .before .before .before .before .before .before .next-run .ensures)) _ _ (c .before .before .before .before .before .push-pixels .ensures) (c .before .pushed .given .1)
 
 add-count : tie.Need-add-count Inv-loop μ-loop
 add-count c =
-    omega (arith, c .before .before .before .before .before .before .before .before .before .before .before .before .before .before .before .before .before .before .before .pre .loading .size, c .before .before .before .before .before .before .before .before .before .before .before .before .before .before .before .loop .inv .few, going-less (c .before .before .before .before .before .before .before .before .before .before .before .before .before .before .before .loop .inv) (sym (c .before .before .before .before .before .before .before .before .before .before .before .before .before .before .goes-on .ensures) ∙ c .before .before .before .before .before .before .before .before .before .before .before .before .before .if1 .taken) (rw (c .before .before .before .before .before .before .before .before .before .pixels .given .1) at (c .before .before .before .before .before .before .before .before .before .before .before .read-run .ensures)))
+    omega (arith, c .before .before .before .before .before .before .before .before .before .before .before .before .before .before .before .before .before .before .before .pre .loading .size, c .before .before .before .before .before .before .before .before .before .before .before .before .before .before .before .loop .inv .few, going-less (c .before .before .before .before .before .before .before .before .before .before .before .before .before .before .before .loop .inv) (sym (c .before .before .before .before .before .before .before .before .before .before .before .before .before .before .goes-on .ensures) ∙ c .before .before .before .before .before .before .before .before .before .before .before .before .before .if1 .taken) (rw (c .before .before .before .before .before .before .before .before .before .pixels .given .1) at (c .before .before .before .before .before .before .before .before .before .before .before .next-run .ensures)))
 
 loop-less : tie.Need-loop-less Inv-loop μ-loop
 loop-less c =
-    omega (arith, going-less (c .before .before .before .before .before .before .before .before .before .before .before .before .before .before .before .loop .inv) (sym (c .before .before .before .before .before .before .before .before .before .before .before .before .before .before .goes-on .ensures) ∙ c .before .before .before .before .before .before .before .before .before .before .before .before .before .if1 .taken) (rw (c .before .before .before .before .before .before .before .before .before .pixels .given .1) at (c .before .before .before .before .before .before .before .before .before .before .before .read-run .ensures)))
+    omega (arith, going-less (c .before .before .before .before .before .before .before .before .before .before .before .before .before .before .before .loop .inv) (sym (c .before .before .before .before .before .before .before .before .before .before .before .before .before .before .goes-on .ensures) ∙ c .before .before .before .before .before .before .before .before .before .before .before .before .before .if1 .taken) (rw (c .before .before .before .before .before .before .before .before .before .pixels .given .1) at (c .before .before .before .before .before .before .before .before .before .before .before .next-run .ensures)))
 
 loop-again : tie.Need-loop-again Inv-loop μ-loop
 loop-again c =
     rw (c .turned .ensures)
-    (going-on (c .before .before .before .before .before .before .before .before .before .before .before .before .before .before .before .loop .inv) (sym (c .before .before .before .before .before .before .before .before .before .before .before .before .before .before .goes-on .ensures) ∙ c .before .before .before .before .before .before .before .before .before .before .before .before .before .if1 .taken) (rw (c .before .before .before .before .before .before .before .before .before .pixels .given .1) at (c .before .before .before .before .before .before .before .before .before .before .before .read-run .ensures)) _ _ (c .before .before .before .before .before .before .push-pixels .ensures) (c .before .before .pushed .given .1))
+    (going-on (c .before .before .before .before .before .before .before .before .before .before .before .before .before .before .before .loop .inv) (sym (c .before .before .before .before .before .before .before .before .before .before .before .before .before .before .goes-on .ensures) ∙ c .before .before .before .before .before .before .before .before .before .before .before .before .before .if1 .taken) (rw (c .before .before .before .before .before .before .before .before .before .pixels .given .1) at (c .before .before .before .before .before .before .before .before .before .before .before .next-run .ensures)) _ _ (c .before .before .before .before .before .before .push-pixels .ensures) (c .before .before .pushed .given .1))
 
 same-length-3 : tie.Need-same-length-3 Inv-loop μ-loop
 same-length-3 c =
@@ -105,8 +105,8 @@ runs-spec =
     load-requires
     loop-holds
     goes-on-requires
-    cast-read-run
-    read-run-requires
+    cast-next-run
+    next-run-requires
     enum-known-e
     number-requires
     same-length
