@@ -26,6 +26,7 @@ use Rattle.rows.specs.declared.Row.the-variants.{Kept, Stop}
 use Rattle.rows.specs.Settings.{settingsOf}
 use Rattle.rows.specs.Between.{stateOf, rowFor, changesIn, RowGives}
 use Rattle.group3.specs.Tags.{taggingOf}
+use Rattle.group3.specs.Lined.{linesBy}
 use Rattle.group3.specs.Recovery.{whiteFor, afterLineIn, Damages, Lies, Recovers}
 
 -- ---- Whether it is mended
@@ -93,9 +94,9 @@ module _ (settings : DecodeSettings) (st : State) (at : ℕ) (expected : Bool) (
       unfolding pushed
       comes =
           let n : l .width - l .position ≡ settings .columns - u .position = ap (λ (m : Line). m .width - m .position) (v .line-is) in
-          let c = carries-push carries (record { strict = settings .strict; exact = settings .exact }) (l .width - l .position) r ys (rw (row-lent zs base) at p) (u .at) 0 in
+          let c = carries-push carries (linesBy settings) (l .width - l .position) r ys (rw (row-lent zs base) at p) (u .at) 0 in
           subst (λ (k : ℕ). Comes (settings .columns) (drop base xs) (push (rulesOf S k) 0 (settings .columns - u .position) white) r ys) (length-drop base xs)
-          (subst (λ (k : ℕ). Comes (settings .columns) (drop base xs) (push (rulesFor (settings .columns) (record { strict = settings .strict; exact = settings .exact }) (drop base xs)) 0 k white) r ys) n c)
+          (subst (λ (k : ℕ). Comes (settings .columns) (drop base xs) (push (rulesFor (settings .columns) (linesBy settings) (drop base xs)) 0 k white) r ys) n c)
 
       ended : (o : Went) → pushed ≡ o → (a : Row) → a ≡ rowFor (kept S (taggingOf (settings .encoding)) (bitsOf bytes) (stateOf xs st) expected at recoveredMark o)
           → changesIn (kept S (taggingOf (settings .encoding)) (bitsOf bytes) (stateOf xs st) expected at recoveredMark o) ≡ changesOf o

@@ -32,7 +32,7 @@ use Rattle.rows.proofs.Ended.{unchanged}
 use Rattle.group3.specs.declared.line.Kind.{Kind}
 use Rattle.group3.specs.declared.line.Kind.the-variants.{One, Two, NoTag}
 use Rattle.group3.specs.Tags.{taggingOf, isTagged}
-use Rattle.group3.specs.Lined.{kindLine, KindStarts, KindAt, LineFrom, lineIn}
+use Rattle.group3.specs.Lined.{linesBy, kindLine, KindStarts, KindAt, LineFrom, lineIn}
 
 -- ---- The kind of the line at a bit
 
@@ -109,7 +109,7 @@ module _ {w b bytes xs : List ℕ} {settings : DecodeSettings} {st : State} {at 
 
     -- into the slice behind the base, which comes back
     pub line-one : k ≡ One start → (r : Step) (ys : List ℕ)
-        → Steps (settings .columns) (midOf base (length xs - base) xs) (readLine (rulesFor (settings .columns) (record { strict = settings .strict; exact = settings .exact }) (midOf base (length xs - base) xs)) one (bitsOf bytes) start) r ys
+        → Steps (settings .columns) (midOf base (length xs - base) xs) (readLine (rulesFor (settings .columns) (linesBy settings) (midOf base (length xs - base) xs)) one (bitsOf bytes) start) r ys
         → StepsAt base (settings .columns) xs (lineIn settings bytes xs st at) r (putMid base (length xs - base) xs ys)
     line-one e r ys s =
         let v = rw (row-lent xs base) at s in
@@ -118,6 +118,6 @@ module _ {w b bytes xs : List ℕ} {settings : DecodeSettings} {st : State} {at 
     pub two-asks : k ≡ Two start → Lines w b bytes [] xs base (Kept (st .start)) (settings .columns) start
     two-asks e = record { starts = starts start (subst (KindStarts bytes) e (a .starts)); placed = (h .row .ordered, h .row .held); rising = h .row .rising }
 
-    pub line-two : k ≡ Two start → (r : Step) (ys : List ℕ) → Lined bytes [] xs base (Kept (st .start)) (settings .columns) start (record { strict = settings .strict; exact = settings .exact }) r ys
+    pub line-two : k ≡ Two start → (r : Step) (ys : List ℕ) → Lined bytes [] xs base (Kept (st .start)) (settings .columns) start (linesBy settings) r ys
         → StepsAt base (settings .columns) xs (lineIn settings bytes xs st at) r ys
     line-two e r ys s = gives r ys (rw e s)

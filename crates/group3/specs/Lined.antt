@@ -9,6 +9,7 @@ use Rattle.rules.specs.Lines.{Rules, newLine, Went, failed, one, two, readLine}
 use Rattle.rules.specs.Rows.{Settings, rulesOf}
 use Rattle.rules.specs.Group3.{Tagging, line3}
 use Rattle.bit_reader.specs.Loaded.{Loading}
+use Rattle.context.specs.declared.step.Rules as Line
 use Rattle.rows.specs.declared.DecodeSettings.{DecodeSettings}
 use Rattle.rows.specs.declared.State.{State}
 use Rattle.rows.specs.Settings.{settingsOf}
@@ -16,6 +17,10 @@ use Rattle.rows.specs.Between.{stateOf, RowFrom}
 use Rattle.group3.specs.declared.line.Kind.{Kind}
 use Rattle.group3.specs.declared.line.Kind.the-variants.{One, Two, NoTag}
 use Rattle.group3.specs.Tags.{taggingOf}
+
+-- how the lines of a page are read
+abbrev pub linesBy : DecodeSettings → Line.Rules
+linesBy s = record { strict = s .strict; exact = s .exact; plain = s .plain }
 
 -- the line of a kind, of which the tag bit or the first code begins at a bit
 abbrev pub kindLine : Rules → List ℕ → List Bool → ℕ → Kind → Went

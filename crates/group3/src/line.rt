@@ -53,6 +53,7 @@ pub(crate) fn decode<'a>(
     let rules = Rules {
         strict: settings.strict,
         exact: settings.exact,
+        plain: settings.plain,
     };
     match kind_at(src, settings, at) {
         Kind::NoTag => {

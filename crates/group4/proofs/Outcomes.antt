@@ -94,7 +94,7 @@ module _ {w b bytes xs : List ℕ} {settings : DecodeSettings} {st : State} (h :
 
       -- the page goes on, and the line was read
       module _ (p : false ≡ over S bs (stateOf [] st) (eolsOf e)) (r : Step) (ys : List ℕ)
-          (l : Lined bytes lent xs (st .base) (Reference.Kept (st .start)) (settings .columns) (e .at) (record { strict = settings .strict; exact = settings .exact }) r ys) where
+          (l : Lined bytes lent xs (st .base) (Reference.Kept (st .start)) (settings .columns) (e .at) (record { strict = settings .strict; exact = settings .exact; plain = settings .plain }) r ys) where
         abbrev lined : ℕ → Went
         lined n = readLine (rulesOf S n) (two (stateOf xs st .reference)) bs (e .at)
 

@@ -94,6 +94,7 @@ pub fn row<'a>(
         Rules {
             strict: settings.strict,
             exact: settings.exact,
+            plain: settings.plain,
         },
     ) {
         Step::On(line, at) => {
