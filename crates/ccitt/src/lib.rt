@@ -134,6 +134,7 @@ fn strict_if_exact(settings: DecodeSettings) -> DecodeSettings
             settings.strict
         },
         exact: settings.exact,
+        plain: settings.plain,
     }
 }
 

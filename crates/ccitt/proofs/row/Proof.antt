@@ -27,19 +27,19 @@ same-length : tie.Need-same-length
 same-length c = search needs
 
 returns : tie.Need-returns
-returns c = rowed-4 _ _ _ _ (c .before .before .before .before .enum-told .given .1) (c .before .before .row .ensures)
+returns c = rowed-4 _ _ (c .before .before .before .before .before .before .before .before .args .settings) _ (c .before .before .before .before .enum-told .given .1) (c .before .before .row .ensures)
 
 same-length-2 : tie.Need-same-length-2
 same-length-2 c = search needs
 
 returns-2 : tie.Need-returns-2
-returns-2 c = rowed-1D _ _ _ _ (c .before .before .before .before .enum-told2 .given .1) (c .before .before .row2 .ensures)
+returns-2 c = rowed-1D _ _ (c .before .before .before .before .before .before .before .before .args .settings) _ (c .before .before .before .before .enum-told2 .given .1) (c .before .before .row2 .ensures)
 
 same-length-3 : tie.Need-same-length-3
 same-length-3 c = search needs
 
 returns-3 : tie.Need-returns-3
-returns-3 c = rowed-2D _ _ _ _ (c .before .before .before .before .enum-told3 .given .1) (c .before .before .row3 .ensures)
+returns-3 c = rowed-2D _ _ (c .before .before .before .before .before .before .before .before .args .settings) _ (c .before .before .before .before .enum-told3 .given .1) (c .before .before .row3 .ensures)
 
 pub row-spec : {M : Type 1} → statement M
 row-spec =
