@@ -44,9 +44,9 @@ parted-once m n (i ∷ ms) (j ∷ ns) xs ys e =
 unfoldable pub AllHeld : List ℕ → Type 0
 AllHeld ns = (i : ℕ) → Held (getD ns i 0)
 
--- behind k numbers, the others of a line of seven or eight do not stand in the bytes from a place on
+-- behind k numbers, the others of a line of seven, eight or nine do not stand in the bytes from a place on
 abbrev pub Nowhere : List ℕ → ℕ → ℕ → Type 0
-Nowhere bytes at k = (n : ℕ) (ns rest : List ℕ) → 7 ≤ k + suc (length ns) → k + suc (length ns) ≤ 8 → AllHeld (n ∷ ns) → drop at bytes ≡ parted (n ∷ ns) ++ rest → ⊥
+Nowhere bytes at k = (n : ℕ) (ns rest : List ℕ) → 7 ≤ k + suc (length ns) → k + suc (length ns) ≤ 9 → AllHeld (n ∷ ns) → drop at bytes ≡ parted (n ∷ ns) ++ rest → ⊥
 
 -- k numbers are read, and another one follows: whatever is found from here on, or not found, holds of the whole
 pub record Reading (bytes : List ℕ) (at k : ℕ) (read : List ℕ) : Type 0 where
@@ -57,33 +57,33 @@ pub record Reading (bytes : List ℕ) (at k : ℕ) (read : List ℕ) : Type 0 wh
   pub right : (n : ℕ) (ns rest : List ℕ) → drop at bytes ≡ parted (n ∷ ns) ++ rest → bytes ≡ parted (numbers ++ n ∷ ns) ++ rest
   pub wrong : Nowhere bytes at k → Nowhere bytes 0 0
 
-pub none-read : (bytes : List ℕ) → Reading bytes 0 0 (replicate 8 0)
+pub none-read : (bytes : List ℕ) → Reading bytes 0 0 (replicate 9 0)
 none-read bytes = record { numbers = []; count = refl; array = refl; inside = omega arith; right = λ n ns rest e. e; wrong = λ f. f }
 
 -- a whole line is read
 pub record Whole (bytes : List ℕ) (at : ℕ) (read : List ℕ) : Type 0 where
   pub numbers : List ℕ
   pub seven : 7 ≤ length numbers
-  pub eight : length numbers ≤ 8
+  pub nine : length numbers ≤ 9
   pub array : read ≡ filled numbers
   pub inside : at ≤ length bytes
   pub text : bytes ≡ parted numbers ++ drop at bytes
 
-pub whole-long : {bytes : List ℕ} {at : ℕ} {read : List ℕ} → Whole bytes at read → length read ≡ 8
+pub whole-long : {bytes : List ℕ} {at : ℕ} {read : List ℕ} → Whole bytes at read → length read ≡ 9
 whole-long w =
     let ns = w .numbers in
-    omega (arith, ap length (w .array), w .eight, length-append ns (replicate (8 - length ns) 0), length-replicate {A = ℕ} (8 - length ns) 0)
+    omega (arith, ap length (w .array), w .nine, length-append ns (replicate (9 - length ns) 0), length-replicate {A = ℕ} (9 - length ns) 0)
 
 -- the next number goes into the array behind those that are read
-fill-next : (ns : List ℕ) (k n : ℕ) → length ns ≡ k → k < 8 → set (filled ns) k n ≡ filled (ns ++ n ∷ [])
+fill-next : (ns : List ℕ) (k n : ℕ) → length ns ≡ k → k < 9 → set (filled ns) k n ≡ filled (ns ++ n ∷ [])
 fill-next ns k n e h =
-    let j : 8 - length ns ≡ suc (8 - length (ns ++ n ∷ [])) = omega (arith, length-append ns (n ∷ [])) in
-    ap (λ (i : ℕ). set (ns ++ replicate i 0) k n) j ∙ set-at ns 0 (replicate (8 - length (ns ++ n ∷ [])) 0) n k e ∙ sym (append-assoc ns (n ∷ []) (replicate (8 - length (ns ++ n ∷ [])) 0))
+    let j : 9 - length ns ≡ suc (9 - length (ns ++ n ∷ [])) = omega (arith, length-append ns (n ∷ [])) in
+    ap (λ (i : ℕ). set (ns ++ replicate i 0) k n) j ∙ set-at ns 0 (replicate (9 - length (ns ++ n ∷ [])) 0) n k e ∙ sym (append-assoc ns (n ∷ []) (replicate (9 - length (ns ++ n ∷ [])) 0))
 
 module _ (bytes : List ℕ) (at k : ℕ) (read : List ℕ) (r : Reading bytes at k read) where
-  -- no line has nine
-  pub ninth : 8 ≤ k → Nowhere bytes 0 0
-  ninth h = r .wrong (λ n ns rest few many held e. omega arith)
+  -- no line has ten
+  pub tenth : 9 ≤ k → Nowhere bytes 0 0
+  tenth h = r .wrong (λ n ns rest few many held e. omega arith)
 
   pub number-missing : NumberAt bytes at Missing → Nowhere bytes 0 0
   unfolding AllHeld
@@ -107,7 +107,7 @@ module _ (bytes : List ℕ) (at k : ℕ) (read : List ℕ) (r : Reading bytes at
         cases (m ∷ ns) q = g q
 
     -- the array with this number
-    array : k < 8 → set read k n ≡ filled (r .numbers ++ n ∷ [])
+    array : k < 9 → set read k n ≡ filled (r .numbers ++ n ∷ [])
     array h = ap (λ (l : List ℕ). set l k n) (r .array) ∙ fill-next (r .numbers) k n (r .count) h
 
     count : length (r .numbers ++ n ∷ []) ≡ k + 1
@@ -132,19 +132,19 @@ module _ (bytes : List ℕ) (at k : ℕ) (read : List ℕ) (r : Reading bytes at
         cases (j ∷ ns) few q = omega (arith, sym m ∙ q)
 
     -- or whole;
-    pub line-whole : getD bytes next 0 ≡ newline → 7 ≤ k + 1 → k < 8 → Whole bytes (next + 1) (set read k n)
+    pub line-whole : getD bytes next 0 ≡ newline → 7 ≤ k + 1 → k < 9 → Whole bytes (next + 1) (set read k n)
     unfolding parted
     line-whole m h l = record {
       numbers = r .numbers ++ n ∷ [];
       seven = omega (arith, count);
-      eight = omega (arith, count);
+      nine = omega (arith, count);
       array = array l;
       inside = omega (arith, mark-inside newline (λ z. omega arith) m);
       text = r .right n [] (drop (next + 1) bytes) (text newline (λ z. omega arith) m ∙ sym (parted-cons n [] (drop (next + 1) bytes)));
     }
 
     -- and behind a tab the next number comes.
-    pub one-more : getD bytes next 0 ≡ tab → k < 8 → Reading bytes (next + 1) (k + 1) (set read k n)
+    pub one-more : getD bytes next 0 ≡ tab → k < 9 → Reading bytes (next + 1) (k + 1) (set read k n)
     unfolding AllHeld
     one-more m h = record {
       numbers = r .numbers ++ n ∷ [];

@@ -1,4 +1,4 @@
--- The line of settings, and when bytes begin with one (01 "Sheets on the wall"; 02, A12).
+-- The line of settings, and when bytes begin with one (01 "Sheets on the wall"; 02, A12, A14).
 use mathlib.Core.Path.{_≡_}
 use mathlib.Core.Bool.{Bool, true, false}
 use mathlib.Core.List.{List, [], _∷_, _++_}
@@ -29,9 +29,9 @@ encodingNumber group4 = 0
 encodingNumber group3-1D = 1
 encodingNumber group3-2D = 2
 
--- "in `DecodeSettings` order"; exact "is the listing program's eighth" (A12)
-unfoldable pub settingsNumbers : Settings → List ℕ
-settingsNumbers S =
+-- "in `DecodeSettings` order"; exact "is the listing program's eighth" (A12); the engine, which no rule knows, "a ninth setting, 0 lookup or 1 plain" (A14)
+unfoldable pub settingsNumbers : Settings → Bool → List ℕ
+settingsNumbers S plain =
     S .columns
     ∷ S .rows
     ∷ flag (S .endOfBlock)
@@ -40,30 +40,31 @@ settingsNumbers S =
     ∷ encodingNumber (S .encoding)
     ∷ flag (S .strict)
     ∷ flag (S .exact)
+    ∷ flag plain
     ∷ []
 
--- a line's numbers, and for each that it lacks of eight a 0: "0 if missing"
+-- a line's numbers, and for each that it lacks of nine a 0: "0 if missing", "0 lookup (also if missing)"
 abbrev pub filled : List ℕ → List ℕ
-filled ns = ns ++ replicate (8 - length ns) 0
+filled ns = ns ++ replicate (9 - length ns) 0
 
--- the numbers of a line that says these settings: only those behind the seventh may be missing
-pub record NumbersOf (S : Settings) (ns : List ℕ) : Type 0 where
+-- the numbers of a line that says these settings and this engine: only those behind the seventh may be missing, the last first
+pub record NumbersOf (S : Settings) (plain : Bool) (ns : List ℕ) : Type 0 where
   pub seven : 7 ≤ length ns
-  pub all : filled ns ≡ settingsNumbers S
+  pub all : filled ns ≡ settingsNumbers S plain
 
 -- a number that `DecodeSettings` can hold
 abbrev pub Held : ℕ → Type 0
 Held n = n ≤ 4294967295
 
 -- bytes that begin with a line of settings whose numbers can be held
-pub record Begins (bytes : List ℕ) (S : Settings) (rest : List ℕ) : Type 0 where
+pub record Begins (bytes : List ℕ) (S : Settings) (plain : Bool) (rest : List ℕ) : Type 0 where
   pub columns : Held (S .columns)
   pub rows : Held (S .rows)
   pub numbers : List ℕ
-  pub said : NumbersOf S numbers
+  pub said : NumbersOf S plain numbers
   pub text : bytes ≡ parted numbers ++ rest
 
--- the settings that bytes begin with, and where the rest starts; or there are none
+-- the settings that bytes begin with, the engine among them, and where the rest starts; or there are none
 abbrev pub Says : List ℕ → Parsed → Type 0
-Says bytes (found s at) = Begins bytes (settingsOf s) (drop at bytes) × (at ≤ length bytes)
-Says bytes Bad = (S : Settings) (rest : List ℕ) → Begins bytes S rest → ⊥
+Says bytes (found s at) = Begins bytes (settingsOf s) (s .plain) (drop at bytes) × (at ≤ length bytes)
+Says bytes Bad = (S : Settings) (plain : Bool) (rest : List ℕ) → Begins bytes S plain rest → ⊥

@@ -1,6 +1,6 @@
 -- What the steps of reading the line of settings find.
 use mathlib.Core.Path.{_≡_}
-use mathlib.Core.Bool.{cond, _&&_}
+use mathlib.Core.Bool.{Bool, cond, _&&_}
 use mathlib.Core.List.{List, _++_}
 use Prim.Native.Nat.{ℕ, _-_, _≤_, _<_}
 use lib.Dec.{leb}
@@ -34,5 +34,5 @@ NumberAt bytes at Missing = (n : ℕ) (rest : List ℕ) → Held n → Stops res
 
 -- the settings that numbers, none missing, stand for; or there are none
 abbrev pub Stands : List ℕ → ℕ → Parsed → Type 0
-Stands ns at (found s next) = (settingsNumbers (settingsOf s) ≡ ns) × (next ≡ at) × Held (s .columns) × Held (s .rows)
-Stands ns at Bad = (S : Settings) → settingsNumbers S ≡ ns → ⊥
+Stands ns at (found s next) = (settingsNumbers (settingsOf s) (s .plain) ≡ ns) × (next ≡ at) × Held (s .columns) × Held (s .rows)
+Stands ns at Bad = (S : Settings) (plain : Bool) → settingsNumbers S plain ≡ ns → ⊥

@@ -89,9 +89,10 @@ fn stand(
     encoding: u32,
     strict: u32,
     exact: u32,
+    plain: u32,
     next: usize,
 ) -> Parsed
-    ensures { λ r. ⌜ Stands (columns ∷ rows ∷ block ∷ line ∷ aligned ∷ encoding ∷ strict ∷ exact ∷ []) next r ⌝ }
+    ensures { λ r. ⌜ Stands (columns ∷ rows ∷ block ∷ line ∷ aligned ∷ encoding ∷ strict ∷ exact ∷ plain ∷ []) next r ⌝ }
 {
     if block > 1 {
         return Parsed::Bad;
@@ -111,6 +112,9 @@ fn stand(
     if exact > 1 {
         return Parsed::Bad;
     }
+    if plain > 1 {
+        return Parsed::Bad;
+    }
     Parsed::Settings(
         DecodeSettings {
             columns: columns,
@@ -121,19 +125,20 @@ fn stand(
             encoding: mode(encoding),
             strict: strict == 1,
             exact: exact == 1,
+            plain: plain == 1,
         },
         next,
     )
 }
 
-// The settings that the bytes begin with: seven numbers, or eight; one that is missing is 0.
+// The settings that the bytes begin with: seven numbers, eight or nine; one that is missing is 0.
 pub fn parse(bytes: &[u8]) -> Parsed
     ensures { λ r. ⌜ Says (now (bytes .entry)) r ⌝ }
 {
-    let mut n = [0u32; 8];
+    let mut n = [0u32; 9];
     let mut at = 0;
     let mut k = 0;
-    while k < 8 {
+    while k < 9 {
         let Number::Is(value, next) = read_number(bytes, at) else {
             return Parsed::Bad;
         };
@@ -145,7 +150,7 @@ pub fn parse(bytes: &[u8]) -> Parsed
             if k < 7 {
                 return Parsed::Bad;
             }
-            return stand(n[0], n[1], n[2], n[3], n[4], n[5], n[6], n[7], at);
+            return stand(n[0], n[1], n[2], n[3], n[4], n[5], n[6], n[7], n[8], at);
         }
         if behind != b'\t' {
             return Parsed::Bad;

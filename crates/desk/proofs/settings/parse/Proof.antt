@@ -6,7 +6,7 @@ use native.Mathlib.Omega.{arith}
 use lib.ListN.{set}
 use denote.Ref.{now}
 use Rattle.desk.proofs.Standing.{says-bad, says-stands, spread}
-use Rattle.desk.proofs.Parting.{Reading, Whole, none-read, number-missing, mark-missing, line-short, line-whole, one-more, ninth, whole-long}
+use Rattle.desk.proofs.Parting.{Reading, Whole, none-read, number-missing, mark-missing, line-short, line-whole, one-more, tenth, whole-long}
 use Rattle.desk.specs.Reading.{NumberAt, Stands}
 use Rattle.desk.specs.declared.settings.Number.the-variants.{Is}
 use borrow.Author.Needs.{needs}
@@ -17,7 +17,7 @@ abbrev Inv-loop : tie.InvT-loop
 Inv-loop bytes n₀ at₀ k₀ n at k = Reading bytes at k n
 
 abbrev μ-loop : tie.MeasureT-loop
-μ-loop bytes n₀ at₀ k₀ n at k = 8 - k
+μ-loop bytes n₀ at₀ k₀ n at k = 9 - k
 
 -- the number that was read at the loop's head
 read-here : (c : tie.After-value Inv-loop μ-loop)
@@ -26,7 +26,7 @@ read-here c =
     let l = c .before .before .before .before in
     subst (NumberAt (now (l .before .before .args .bytes)) (l .loop .at)) (c .value .given .1) (c .before .before .read-number .ensures)
 
--- and the line, where a line feed ends it behind seven numbers or eight
+-- and the line, where a line feed ends it behind seven numbers, eight or nine
 whole : (c : tie.Else2 Inv-loop μ-loop)
     → let v = c .before .before .before .before in
     let l = v .before .before .before .before in
@@ -97,6 +97,9 @@ array-read-stand-7 c = omega arith
 array-read-stand-8 : tie.Need-array-read-stand-8 Inv-loop μ-loop
 array-read-stand-8 c = omega arith
 
+array-read-stand-9 : tie.Need-array-read-stand-9 Inv-loop μ-loop
+array-read-stand-9 c = omega arith
+
 stand-requires : tie.Need-stand-requires Inv-loop μ-loop
 stand-requires c κs = search needs
 
@@ -106,7 +109,7 @@ returns-3 c =
     let v = c .before .before .before .before .before in
     let l = v .before .before .before .before in
     says-stands _ _ _ (c .stand .result) w
-    (subst (λ (ns : List ℕ). Stands ns (v .value .given .0 .1 .0 + 1) (c .stand .result)) (sym (spread 8 0 (set (l .loop .n) (l .loop .k) (v .value .given .0 .0)) (sym (whole-long w)))) (c .stand .ensures))
+    (subst (λ (ns : List ℕ). Stands ns (v .value .given .0 .1 .0 + 1) (c .stand .result)) (sym (spread 9 0 (set (l .loop .n) (l .loop .k) (v .value .given .0 .0)) (sym (whole-long w)))) (c .stand .ensures))
 
 returns-4 : tie.Need-returns-4 Inv-loop μ-loop
 returns-4 c =
@@ -122,7 +125,7 @@ loop-again c =
     one-more _ _ _ _ (v .before .before .before .before .loop .inv) _ (v .value .given .0 .1 .0) (read-here v) (sym (c .before .before .byte .ensures) ∙ c .if3 .left) (v .before .before .before .loop-test .taken)
 
 returns-5 : tie.Need-returns-5 Inv-loop μ-loop
-returns-5 c = says-bad _ (ninth _ _ _ _ (c .before .loop .inv) (c .loop-test .left))
+returns-5 c = says-bad _ (tenth _ _ _ _ (c .before .loop .inv) (c .loop-test .left))
 
 pub parse-spec : {M : Type 1} → statement M
 parse-spec =
@@ -149,6 +152,7 @@ parse-spec =
     array-read-stand-6
     array-read-stand-7
     array-read-stand-8
+    array-read-stand-9
     stand-requires
     returns-3
     returns-4
