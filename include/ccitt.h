@@ -33,18 +33,22 @@ typedef struct {
    the width (a lenient count was shortened in it), 2 recovered (a damaged line, white from the fault on).
    exact: stricter than strict, which it implies. A vertical move to the position that it starts from, other than the line's first code moving to 0,
    and a horizontal code with two zero runs answer 1, at their mode code; a page that ends with fewer rows than `rows`, if that is not 0, answers 14
-   and keeps its rows. */
+   and keeps its rows.
+   plain: runs are read by the plain engine, which compares one bit after another with the code tables and has no lookup. It is slower, and every
+   answer and every entry is the same. */
 ccitt_answer ccitt_decode_group4(const uint8_t *src, size_t src_len, uint32_t columns, uint32_t rows, bool end_of_block,
-                                 bool rows_are_byte_aligned, bool strict, bool exact, uint32_t *changes, size_t changes_len,
-                                 uint64_t *ends, size_t ends_len, uint8_t *marks, size_t marks_len);
+                                 bool rows_are_byte_aligned, bool strict, bool exact, bool plain, uint32_t *changes,
+                                 size_t changes_len, uint64_t *ends, size_t ends_len, uint8_t *marks, size_t marks_len);
 
 ccitt_answer ccitt_decode_group3_1d(const uint8_t *src, size_t src_len, uint32_t columns, uint32_t rows, bool end_of_block,
-                                    bool end_of_line, bool rows_are_byte_aligned, bool strict, bool exact, uint32_t *changes,
-                                    size_t changes_len, uint64_t *ends, size_t ends_len, uint8_t *marks, size_t marks_len);
+                                    bool end_of_line, bool rows_are_byte_aligned, bool strict, bool exact, bool plain,
+                                    uint32_t *changes, size_t changes_len, uint64_t *ends, size_t ends_len, uint8_t *marks,
+                                    size_t marks_len);
 
 ccitt_answer ccitt_decode_group3_2d(const uint8_t *src, size_t src_len, uint32_t columns, uint32_t rows, bool end_of_block,
-                                    bool end_of_line, bool rows_are_byte_aligned, bool strict, bool exact, uint32_t *changes,
-                                    size_t changes_len, uint64_t *ends, size_t ends_len, uint8_t *marks, size_t marks_len);
+                                    bool end_of_line, bool rows_are_byte_aligned, bool strict, bool exact, bool plain,
+                                    uint32_t *changes, size_t changes_len, uint64_t *ends, size_t ends_len, uint8_t *marks,
+                                    size_t marks_len);
 
 /* One 2D line that begins at bit `at`, under a reference. */
 ccitt_answer ccitt_read_line(const uint8_t *src, size_t src_len, uint64_t at, uint32_t columns, bool strict,

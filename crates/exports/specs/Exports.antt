@@ -4,8 +4,8 @@ use Prim.Native.Nat.{ℕ}
 use Rattle.rows.specs.declared.DecodeSettings.{DecodeSettings}
 use Rattle.rows.specs.declared.EncodingMode.{EncodingMode}
 
-abbrev pub settingsFor : ℕ → ℕ → Bool → Bool → Bool → EncodingMode → Bool → Bool → DecodeSettings
-settingsFor columns rows eob eol aligned encoding strict exact = record {
+abbrev pub settingsFor : ℕ → ℕ → Bool → Bool → Bool → EncodingMode → Bool → Bool → Bool → DecodeSettings
+settingsFor columns rows eob eol aligned encoding strict exact plain = record {
   columns = columns;
   rows = rows;
   «end_of_block» = eob;
@@ -14,4 +14,5 @@ settingsFor columns rows eob eol aligned encoding strict exact = record {
   encoding = encoding;
   strict = strict;
   exact = exact;
+  plain = plain;
 }
