@@ -62,19 +62,19 @@ lent-rest input at = take-all (length input - at) (drop at input) (omega (arith,
 
 module _ {input text : List ℕ} where
   pub bad-line : Says input Bad → text ≡ badInput → Answers input text
-  bad-line f e = record { page = λ S src a. absurd (f S src (a .begins)); bad = λ n. e }
+  bad-line f e = record { page = λ S src a. absurd (f S (a .plain) src (a .begins)); bad = λ n. e }
 
   module _ (s : DecodeSettings) (at : ℕ) (h : Says input (found s at)) where
     pub too-long : mostData < length (drop at input) → text ≡ badInput → Answers input text
     too-long l e = record {
-      page = λ S src a. absurd (omega (arith, a .few, ap length (begins-once input S (settingsOf s) src (drop at input) (a .begins) (h .0) .1)));
+      page = λ S src a. absurd (omega (arith, a .few, ap length (begins-once input S (settingsOf s) (a .plain) (s .plain) src (drop at input) (a .begins) (h .0) .2)));
       bad = λ n. e;
     }
 
     pub a-page : length (drop at input) ≤ mostData → text ≡ pageText (settingsOf s) (drop at input) → Answers input text
     a-page l e = record {
-      page = λ S src a. let o = begins-once input S (settingsOf s) src (drop at input) (a .begins) (h .0) in e ∙ sym (ap₂ pageText (o .0) (o .1));
-      bad = λ n. absurd (n (settingsOf s) (drop at input) (record { begins = h .0; few = l }));
+      page = λ S src a. let o = begins-once input S (settingsOf s) (a .plain) (s .plain) src (drop at input) (a .begins) (h .0) in e ∙ sym (ap₂ pageText (o .0) (o .2));
+      bad = λ n. absurd (n (settingsOf s) (drop at input) (record { plain = s .plain; begins = h .0; few = l }));
     }
 
 -- ---- The program reads no more of its input than it needs

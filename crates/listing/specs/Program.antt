@@ -1,5 +1,6 @@
--- What the program prints for its input (01 "Sheets on the wall").
+-- What the program prints for its input (01 "Sheets on the wall"; 02, A14).
 use mathlib.Core.Path.{_≡_}
+use mathlib.Core.Bool.{Bool}
 use mathlib.Core.List.{List}
 use Prim.Native.Nat.{ℕ, _+_, _*_, _≤_}
 use lib.ListN.{length, take}
@@ -13,9 +14,9 @@ use Rattle.desk.specs.Sheet.{listingText, badInput}
 abbrev pub mostData : ℕ
 mostData = 16384
 
--- "Longer data" shows by one byte more than the longest line of settings, which has 34, and the data may have: so many bytes of an input decide
+-- "Longer data" shows by one byte more than the longest line of settings, which has 36, and the data may have: so many bytes of an input decide
 abbrev pub mostInput : ℕ
-mostInput = 34 + mostData + 1
+mostInput = 36 + mostData + 1
 
 abbrev pub listed : Settings → Page.Answer → List ℕ
 listed S a = listingText (S .columns) (a .number) (a .rows) (a .marks) (a .bytes)
@@ -27,9 +28,10 @@ pageText S src = listed S (decode S src 8192 2048)
 abbrev pub room : ℕ
 room = 77 + 50 * 2048 + 11 * 8192
 
--- an input with a line of settings, and then no more data than that
+-- an input with a line of settings, and then no more data than that. It may ask for either engine: the answer is the same.
 pub record Asks (input : List ℕ) (S : Settings) (src : List ℕ) : Type 0 where
-  pub begins : Begins input S src
+  pub plain : Bool
+  pub begins : Begins input S plain src
   pub few : length src ≤ mostData
 
 -- "Longer data or another settings line prints `bad input` alone."

@@ -45,7 +45,7 @@ fn answer(input: &[u8], got: usize, out: &mut [u8]) -> usize
 }
 
 fn main() {
-    let mut input = [0u8; 16419];
+    let mut input = [0u8; 16421];
     let got = io::read_full(libc::STDIN_FILENO, &mut input);
     let mut out = [0u8; 196608];
     let n = answer(&input, got, &mut out);
