@@ -1,6 +1,5 @@
 -- Both engines promise the same of the run; a buffer's bit lies in the data.
 use native.Mathlib.Omega.{arith}
-use borrow.Author.Needs.{needs}
 use Rattle.context.proofs.runs.next_run.Statement.{statement}
 use Rattle.context.proofs.runs.next_run.Tie as tie
 
