@@ -14,3 +14,4 @@ pub mod PageFaults
 pub mod Places
 pub mod Marks
 pub mod Exact
+pub mod EnginesAgree

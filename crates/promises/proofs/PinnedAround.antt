@@ -8,10 +8,10 @@ use Rattle.promises.proofs.OneAnswer.{settled-with}
 use Rattle.promises.proofs.Pinned.{decode-pinned, push-pinned}
 
 pub for-c-group3-pinned : ForCGroup3Pinned
-for-c-group3-pinned encoding src columns rows block line aligned strict exact = decode-pinned src (settingsFor columns rows block line aligned encoding strict exact)
+for-c-group3-pinned encoding src columns rows block line aligned strict exact plain = decode-pinned src (settingsFor columns rows block line aligned encoding strict exact plain)
 
 pub for-c-group4-pinned : ForCGroup4Pinned
-for-c-group4-pinned src columns rows block aligned strict exact = for-c-group3-pinned Group4 src columns rows block false aligned strict exact
+for-c-group4-pinned src columns rows block aligned strict exact plain = for-c-group3-pinned Group4 src columns rows block false aligned strict exact plain
 
 pub push-line-pinned : PushLinePinned
 push-line-pinned xs l count strict r s ys zs g h =

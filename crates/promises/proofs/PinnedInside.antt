@@ -8,6 +8,7 @@ use lib.IntN.{pos, negsuc}
 use lib.ListN.{length, drop}
 use Rattle.rules.specs.Bits.{bitsOf, peek}
 use Rattle.rules.specs.Runs.{Res, ok, fault, Sum, sum, readRun}
+use Rattle.rules.specs.Plain as Plain
 use Rattle.rules.specs.Modes as Rule
 use Rattle.rules.specs.Modes.{pass, horizontal, VR, VL, Moded}
 use Rattle.error.specs.Error.{numberOf}
@@ -18,12 +19,15 @@ use Rattle.bit_reader.specs.declared.buffer.Buffer.{Buffer}
 use Rattle.bit_reader.specs.declared.buffer.Fed.the-variants.{On, End}
 use Rattle.codes.specs.Eols.{eolsOf, skipOf}
 use Rattle.codes.specs.Modes.{modeOf}
+use Rattle.codes.specs.Plain.{foundOf}
 use Rattle.codes.specs.Runs.{runOf, LoadedAfter}
 use Rattle.codes.specs.declared.eol.Skip.{Skip}
 use Rattle.codes.specs.declared.eol.Skip.the-variants.{To, Nowhere}
 use Rattle.codes.specs.declared.mode.Mode.{Mode}
 use Rattle.codes.specs.declared.mode.Mode.the-variants as Code
 use Rattle.codes.specs.declared.mode.Mode.the-variants.{Pass, Horizontal, Vertical}
+use Rattle.codes.specs.declared.plain.Found.{Found}
+use Rattle.codes.specs.declared.plain.Found.the-variants as Found
 use Rattle.codes.specs.declared.run.Run.{Run}
 use Rattle.codes.specs.declared.run.Run.the-variants.{Length, Bad}
 use Rattle.promises.specs.PinnedInside as Pinned
@@ -84,6 +88,20 @@ runs-alike bytes (Bad f place) (Bad g other) l k e =
 
 pub read-run-pinned : Pinned.ReadRunPinned
 read-run-pinned colour bytes b c r s e g h = runs-alike bytes r s (g .loaded) (h .loaded) (g .same ∙ ap (readRun colour (bitsOf bytes)) e ∙ sym (h .same))
+
+pub read-run-plain-pinned : Pinned.ReadRunPlainPinned
+read-run-plain-pinned colour bytes at r s g h = runs-alike bytes r s (g .loaded) (h .loaded) (g .same ∙ sym (h .same))
+
+abbrev foundFrom : Plain.Found → Found
+foundFrom (Plain.found run taken) = Found.Code run taken
+foundFrom (Plain.lost n taken) = Found.Lost (errorFrom n) taken
+
+found-back : (r : Found) → foundFrom (foundOf r) ≡ r
+found-back (Found.Code run taken) = refl
+found-back (Found.Lost e taken) = ap (λ (e : DecodeError). Found.Lost e taken) (error-back e)
+
+pub read-code-pinned : Pinned.ReadCodePinned
+read-code-pinned colour bytes at = settled-by foundOf foundFrom found-back _
 
 -- the answer that has a mode as its meaning; none has 0 to the left
 abbrev modeAt : ℕ → Rule.Mode → Mode

@@ -51,6 +51,7 @@ onlyStrict s = record {
   encoding = s .encoding;
   strict = true;
   exact = false;
+  plain = s .plain;
 }
 
 -- two calls on the same bytes with the same arrays: one is exact, the other strict

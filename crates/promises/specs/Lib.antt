@@ -12,3 +12,4 @@ pub mod Beyond
 pub mod Places
 pub mod Marks
 pub mod Exact
+pub mod EnginesAgree

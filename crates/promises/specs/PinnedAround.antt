@@ -18,14 +18,14 @@ use Rattle.promises.specs.OneAnswer.{OneAnswer, OneWith, OneWithThree}
 -- ccitt_decode_group4
 abbrev pub ForCGroup4Pinned : Type 0
 ForCGroup4Pinned =
-    (src : List ℕ) (columns rows : ℕ) (block aligned strict exact : Bool) (changes ends marks : List ℕ)
-    → OneWithThree (Decodes src (settingsFor columns rows block false aligned Group4 strict exact) changes ends marks)
+    (src : List ℕ) (columns rows : ℕ) (block aligned strict exact plain : Bool) (changes ends marks : List ℕ)
+    → OneWithThree (Decodes src (settingsFor columns rows block false aligned Group4 strict exact plain) changes ends marks)
 
 -- ccitt_decode_group3_1d and ccitt_decode_group3_2d
 abbrev pub ForCGroup3Pinned : Type 0
 ForCGroup3Pinned =
-    (encoding : EncodingMode) (src : List ℕ) (columns rows : ℕ) (block line aligned strict exact : Bool) (changes ends marks : List ℕ)
-    → OneWithThree (Decodes src (settingsFor columns rows block line aligned encoding strict exact) changes ends marks)
+    (encoding : EncodingMode) (src : List ℕ) (columns rows : ℕ) (block line aligned strict exact plain : Bool) (changes ends marks : List ℕ)
+    → OneWithThree (Decodes src (settingsFor columns rows block line aligned encoding strict exact plain) changes ends marks)
 
 -- ---- lent
 

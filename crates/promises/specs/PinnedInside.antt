@@ -4,11 +4,13 @@ use mathlib.Core.Path.{_≡_}
 use mathlib.Core.Bool.{Bool}
 use mathlib.Core.List.{List}
 use Prim.Native.Nat.{ℕ, _+_}
+use lib.ListN.{drop}
 use Rattle.rules.specs.Bits.{bitsOf}
 use Rattle.rules.specs.Codes as Rule
 use Rattle.rules.specs.Codes.{Colour}
 use Rattle.rules.specs.Eols.{readEols, skipToEol}
 use Rattle.rules.specs.Modes.{readMode}
+use Rattle.rules.specs.Plain.{plain}
 use Rattle.rules.specs.Lines.{Went}
 use Rattle.rules.specs.Rows.{RowOut}
 use Rattle.tables.specs.Tables.{SameBits}
@@ -20,10 +22,12 @@ use Rattle.bit_reader.specs.declared.buffer.Fed.{Fed}
 use Rattle.bit_reader.specs.declared.buffer.Fed.the-variants.{On, End}
 use Rattle.codes.specs.Eols.{eolsOf, skipOf}
 use Rattle.codes.specs.Modes.{modeOf}
+use Rattle.codes.specs.Plain.{foundOf}
 use Rattle.codes.specs.Runs.{RunRead}
 use Rattle.codes.specs.declared.eol.Eols.{Eols}
 use Rattle.codes.specs.declared.eol.Skip.{Skip}
 use Rattle.codes.specs.declared.mode.Mode.{Mode}
+use Rattle.codes.specs.declared.plain.Found as Plain
 use Rattle.codes.specs.declared.run.Run.{Run}
 use Rattle.codes.specs.declared.run.Run.the-variants.{Length, Bad}
 use Rattle.context.specs.State.{Pushes}
@@ -88,6 +92,18 @@ ReadRunPinned =
     (colour : Colour) (bytes : List ℕ) (b c : Buffer) (r s : Run) → b .at ≡ c .at
     → RunRead colour bytes (b .at) r
     → RunRead colour bytes (c .at) s
+    → AlikeRuns r s
+
+-- plain::read_code: the run, or the error, and how many bits were taken
+abbrev pub ReadCodePinned : Type 0
+ReadCodePinned = (colour : Colour) (bytes : List ℕ) (at : ℕ) → OneAnswer (λ (r : Plain.Found). foundOf r ≡ plain colour (drop at (bitsOf bytes)))
+
+-- plain::read_run, from a bit
+abbrev pub ReadRunPlainPinned : Type 0
+ReadRunPlainPinned =
+    (colour : Colour) (bytes : List ℕ) (at : ℕ) (r s : Run)
+    → RunRead colour bytes at r
+    → RunRead colour bytes at s
     → AlikeRuns r s
 
 abbrev pub ReadModePinned : Type 0
