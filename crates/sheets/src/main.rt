@@ -1,7 +1,8 @@
 // The sheets on the wall that are run (the others are proved), the inputs where the crate, and so this work, parts from the standard
-// (docs/DIFFERENCES.md), and one input for each clause of A7 (places.rt) and of A12 (exact.rt): what reading each of them answers. A line has the sheet's name;
+// (docs/DIFFERENCES.md), and one input for each clause of A7 (places.rt) and of A12 (exact.rt), and pages by both engines (engines.rt): what reading each of them answers. A line has the sheet's name;
 // number, rows, entries, loose entries, bytes and place; the mark of the first row, or 3 where none was stored; and the changes, those of
 // kept rows first.
+mod engines;
 mod exact;
 mod places;
 
@@ -72,6 +73,7 @@ pub(crate) fn group4(strict: bool) -> DecodeSettings {
         encoding: EncodingMode::Group4,
         strict: strict,
         exact: false,
+        plain: false,
     }
 }
 
@@ -85,6 +87,7 @@ pub(crate) fn group3(rows: u32, end_of_line: bool, strict: bool) -> DecodeSettin
         encoding: EncodingMode::Group3_1D,
         strict: strict,
         exact: false,
+        plain: false,
     }
 }
 
@@ -184,6 +187,7 @@ pub(crate) fn strictly(
         encoding: encoding,
         strict: true,
         exact: false,
+        plain: false,
     }
 }
 
@@ -333,4 +337,5 @@ fn main() {
     exact::idle_codes();
     exact::short_pages();
     exact::strict_implied();
+    engines::pages();
 }
