@@ -18,7 +18,7 @@ fn encoding(form: u32) -> EncodingMode {
     }
 }
 
-fn settings(n: &[u32; 14]) -> DecodeSettings {
+fn settings(n: &[u32; 15]) -> DecodeSettings {
     DecodeSettings {
         columns: n[1],
         rows: n[2],
@@ -28,12 +28,13 @@ fn settings(n: &[u32; 14]) -> DecodeSettings {
         encoding: encoding(n[0]),
         strict: n[6] == 1,
         exact: n[7] == 1,
+        plain: n[8] == 1,
     }
 }
 
 // A question's numbers are the form (an encoding, or 3 for one line), the settings, the two halves of a line's first bit, and four lengths.
 fn ask(
-    n: &[u32; 14],
+    n: &[u32; 15],
     src: &[u8],
     reference: &[u32],
     changes: &mut [u32],
@@ -43,7 +44,7 @@ fn ask(
     if n[0] == 3 {
         return context::read::read_line(
             src,
-            joined(n[8], n[9]),
+            joined(n[9], n[10]),
             n[1],
             n[6] == 1,
             reference,
@@ -63,18 +64,18 @@ fn within(n: u32, most: usize) -> usize
 
 // Asks with as much of each array as the question says, in the last four of its numbers: there are as many marks as row ends.
 fn ask_within(
-    n: &[u32; 14],
+    n: &[u32; 15],
     src: &[u8],
     reference: &[u32],
     changes: &mut [u32],
     ends: &mut [u64],
     marks: &mut [u8],
 ) -> Answer {
-    let c = within(n[10], changes.len());
-    let e = within(n[11], ends.len());
-    let m = within(n[11], marks.len());
-    let r = within(n[12], reference.len());
-    let d = within(n[13], src.len());
+    let c = within(n[11], changes.len());
+    let e = within(n[12], ends.len());
+    let m = within(n[12], marks.len());
+    let r = within(n[13], reference.len());
+    let d = within(n[14], src.len());
     ask(
         n,
         &src[..d],
@@ -170,26 +171,26 @@ fn narrow(words: &[u32], out: &mut [u8]) {
     }
 }
 
-// Asks the question that begins at a place, and prints the answer. Answers the place behind the question: its fourteen numbers, the
+// Asks the question that begins at a place, and prints the answer. Answers the place behind the question: its fifteen numbers, the
 // reference, the data.
 pub(crate) fn replay(input: &[u8], from: usize) -> usize {
-    let mut n = [0u32; 14];
+    let mut n = [0u32; 15];
     let mut reference = [0u32; 32];
     let mut words = [0u32; 128];
     let mut src = [0u8; 128];
     let mut changes = [4294967295u32; 256];
     let mut ends = [4294967295u64; 64];
     let mut marks = [255u8; 64];
-    let head = asked::numbers(input, from, 14, &mut n);
-    let data = asked::numbers(input, head, n[12], &mut reference);
-    let next = asked::numbers(input, data, n[13], &mut words);
+    let head = asked::numbers(input, from, 15, &mut n);
+    let data = asked::numbers(input, head, n[13], &mut reference);
+    let next = asked::numbers(input, data, n[14], &mut words);
     narrow(&words, &mut src);
     tell(ask_within(&n, &src, &reference, &mut changes, &mut ends, &mut marks));
-    entries(&changes, n[10]);
+    entries(&changes, n[11]);
     io::write_all(STDOUT_FILENO, b" ");
-    row_ends(&ends, n[11]);
+    row_ends(&ends, n[12]);
     io::write_all(STDOUT_FILENO, b" ");
-    row_marks(&marks, n[11]);
+    row_marks(&marks, n[12]);
     io::write_all(STDOUT_FILENO, b"\n");
     next
 }
