@@ -18,11 +18,11 @@ struct Answer {
     u64 rows, entries, loose, bytes, place;
 };
 
-struct Answer ccitt_decode_group4(const u8 *src, u64 src_len, u32 columns, u32 rows, _Bool end_of_block, _Bool rows_are_byte_aligned, _Bool strict, _Bool exact,
+struct Answer ccitt_decode_group4(const u8 *src, u64 src_len, u32 columns, u32 rows, _Bool end_of_block, _Bool rows_are_byte_aligned, _Bool strict, _Bool exact, _Bool plain,
     u32 *changes, u64 changes_len, u64 *ends, u64 ends_len, u8 *marks, u64 marks_len);
-struct Answer ccitt_decode_group3_1d(const u8 *src, u64 src_len, u32 columns, u32 rows, _Bool end_of_block, _Bool end_of_line, _Bool rows_are_byte_aligned, _Bool strict, _Bool exact,
+struct Answer ccitt_decode_group3_1d(const u8 *src, u64 src_len, u32 columns, u32 rows, _Bool end_of_block, _Bool end_of_line, _Bool rows_are_byte_aligned, _Bool strict, _Bool exact, _Bool plain,
     u32 *changes, u64 changes_len, u64 *ends, u64 ends_len, u8 *marks, u64 marks_len);
-struct Answer ccitt_decode_group3_2d(const u8 *src, u64 src_len, u32 columns, u32 rows, _Bool end_of_block, _Bool end_of_line, _Bool rows_are_byte_aligned, _Bool strict, _Bool exact,
+struct Answer ccitt_decode_group3_2d(const u8 *src, u64 src_len, u32 columns, u32 rows, _Bool end_of_block, _Bool end_of_line, _Bool rows_are_byte_aligned, _Bool strict, _Bool exact, _Bool plain,
     u32 *changes, u64 changes_len, u64 *ends, u64 ends_len, u8 *marks, u64 marks_len);
 struct Answer ccitt_read_line(const u8 *src, u64 src_len, u64 at, u32 columns, _Bool strict,
     const u32 *reference, u64 reference_len, u32 *changes, u64 changes_len);
@@ -87,11 +87,11 @@ static void *zeroed(u64 size) {
 static u32 pattern(u32 fill, u64 index) { return ((u32)index + 1) * 0x9E3779B1u ^ fill; }
 
 static struct Answer read_from(const struct Call *c, const u8 *src, u64 src_len, const u32 *first, u32 *changes, u64 *ends, u8 *marks) {
-    _Bool eob = c->flags & 1, eol = c->flags >> 1 & 1, aligned = c->flags >> 2 & 1, strict = c->flags >> 3 & 1, exact = c->flags >> 4 & 1;
+    _Bool eob = c->flags & 1, eol = c->flags >> 1 & 1, aligned = c->flags >> 2 & 1, strict = c->flags >> 3 & 1, exact = c->flags >> 4 & 1, plain = c->flags >> 5 & 1;
     switch (c->form) {
-    case 0: return ccitt_decode_group4(src, src_len, c->columns, c->rows, eob, aligned, strict, exact, changes, c->changes, ends, c->ends, marks, c->out);
-    case 1: return ccitt_decode_group3_1d(src, src_len, c->columns, c->rows, eob, eol, aligned, strict, exact, changes, c->changes, ends, c->ends, marks, c->out);
-    case 2: return ccitt_decode_group3_2d(src, src_len, c->columns, c->rows, eob, eol, aligned, strict, exact, changes, c->changes, ends, c->ends, marks, c->out);
+    case 0: return ccitt_decode_group4(src, src_len, c->columns, c->rows, eob, aligned, strict, exact, plain, changes, c->changes, ends, c->ends, marks, c->out);
+    case 1: return ccitt_decode_group3_1d(src, src_len, c->columns, c->rows, eob, eol, aligned, strict, exact, plain, changes, c->changes, ends, c->ends, marks, c->out);
+    case 2: return ccitt_decode_group3_2d(src, src_len, c->columns, c->rows, eob, eol, aligned, strict, exact, plain, changes, c->changes, ends, c->ends, marks, c->out);
     default: return ccitt_read_line(src, src_len, c->at, c->columns, strict, first, c->first_len, changes, c->changes);
     }
 }

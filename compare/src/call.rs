@@ -171,11 +171,12 @@ fn fill_bytes(bytes: &mut [u8], fill: u32) {
     }
 }
 
-/// One call: what is asked, and whether exactly, how much is lent, and what the lent arrays are filled with.
+/// One call: what is asked, whether exactly, and by which engine; how much is lent, and what the lent arrays are filled with.
 #[derive(Clone, Copy)]
 pub struct Call<'a> {
     pub ask: &'a Ask,
     pub exact: bool,
+    pub plain: bool,
     pub room: Room,
     pub fill: u32,
 }

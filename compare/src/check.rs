@@ -17,6 +17,13 @@ pub struct Case {
 }
 
 impl Case {
+    /// Asks the page by the plain engine too, in one of the ways in which the lookup is asked.
+    pub fn plainly(mut self, random: &mut Random) -> Self {
+        let plan = self.plans[random.index(self.plans.len())].clone();
+        self.plans.push(Plan { plain: true, ..plan });
+        self
+    }
+
     /// Complains unless something holds.
     pub fn require(mut self, holds: bool, complaint: impl FnOnce() -> String) -> Self {
         if !holds && self.complaint.is_none() {
@@ -26,9 +33,12 @@ impl Case {
     }
 }
 
+#[derive(Clone)]
 pub struct Plan {
     /// Whether the page is to be read exactly (A12), whatever its settings say of strictness.
     pub exact: bool,
+    /// Whether runs are to be read by the plain engine (A14). What must come back is the same.
+    pub plain: bool,
     pub room: Room,
     pub fill: u32,
     pub wanted: Wanted,
@@ -115,10 +125,7 @@ fn work(source: &dyn Source, seed: u64, ours: &mut dyn Ours, next: &AtomicU64) -
 /// Asks the library about a batch and compares. A batch without an answer is asked again input by input,
 /// so that the one that has none is found.
 fn compare(ours: &mut dyn Ours, start: u64, cases: &[Case], tally: &mut Tally) {
-    let calls: Vec<Call> = cases
-        .iter()
-        .flat_map(|case| case.plans.iter().map(|plan| Call { ask: &case.ask, exact: plan.exact, room: plan.room, fill: plan.fill }))
-        .collect();
+    let calls: Vec<Call> = cases.iter().flat_map(|case| case.plans.iter().map(|plan| call_of(&case.ask, plan))).collect();
     match ours.answer(&calls) {
         Ok(replies) => {
             assert_eq!(replies.len(), calls.len(), "every call is answered");
@@ -136,6 +143,10 @@ fn compare(ours: &mut dyn Ours, start: u64, cases: &[Case], tally: &mut Tally) {
     }
     tally.inputs += cases.len() as u64;
     tally.calls += calls.len() as u64;
+}
+
+fn call_of<'a>(ask: &'a Ask, plan: &Plan) -> Call<'a> {
+    Call { ask, exact: plan.exact, plain: plan.plain, room: plan.room, fill: plan.fill }
 }
 
 fn compare_replies(start: u64, cases: &[Case], replies: &Replies, tally: &mut Tally) {
@@ -202,7 +213,8 @@ fn size_of_ask(ask: &Ask) -> usize {
 
 fn describe(index: u64, ask: &Ask, plan: &Plan, text: &str) -> String {
     let exact = if plan.exact { ", exact" } else { "" };
-    let mut out = format!("  input {index}: {:?}, {}{exact}\n", ask.form, ask.settings);
+    let plain = if plan.plain { ", by the plain engine" } else { "" };
+    let mut out = format!("  input {index}: {:?}, {}{exact}{plain}\n", ask.form, ask.settings);
     let _ =
         writeln!(out, "  data ({} zero bytes, {} bytes, {} zero bytes behind them): {}", ask.lead, ask.src.len(), ask.tail, hex(&ask.src));
     if !matches!(ask.form, Form::Page(_)) {

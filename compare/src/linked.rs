@@ -15,11 +15,11 @@ pub mod repeated;
 // that was compiled for another processor is called alike.
 #[rustfmt::skip]
 unsafe extern "C" {
-    fn ccitt_decode_group4(answer: *mut Answer, src: *const u8, src_len: usize, columns: u32, rows: u32, end_of_block: bool, rows_are_byte_aligned: bool, strict: bool, exact: bool,
+    fn ccitt_decode_group4(answer: *mut Answer, src: *const u8, src_len: usize, columns: u32, rows: u32, end_of_block: bool, rows_are_byte_aligned: bool, strict: bool, exact: bool, plain: bool,
         changes: *mut u32, changes_len: usize, ends: *mut u64, ends_len: usize, marks: *mut u8, marks_len: usize) -> *mut Answer;
-    fn ccitt_decode_group3_1d(answer: *mut Answer, src: *const u8, src_len: usize, columns: u32, rows: u32, end_of_block: bool, end_of_line: bool, rows_are_byte_aligned: bool, strict: bool, exact: bool,
+    fn ccitt_decode_group3_1d(answer: *mut Answer, src: *const u8, src_len: usize, columns: u32, rows: u32, end_of_block: bool, end_of_line: bool, rows_are_byte_aligned: bool, strict: bool, exact: bool, plain: bool,
         changes: *mut u32, changes_len: usize, ends: *mut u64, ends_len: usize, marks: *mut u8, marks_len: usize) -> *mut Answer;
-    fn ccitt_decode_group3_2d(answer: *mut Answer, src: *const u8, src_len: usize, columns: u32, rows: u32, end_of_block: bool, end_of_line: bool, rows_are_byte_aligned: bool, strict: bool, exact: bool,
+    fn ccitt_decode_group3_2d(answer: *mut Answer, src: *const u8, src_len: usize, columns: u32, rows: u32, end_of_block: bool, end_of_line: bool, rows_are_byte_aligned: bool, strict: bool, exact: bool, plain: bool,
         changes: *mut u32, changes_len: usize, ends: *mut u64, ends_len: usize, marks: *mut u8, marks_len: usize) -> *mut Answer;
     fn ccitt_read_line(answer: *mut Answer, src: *const u8, src_len: usize, at: u64, columns: u32, strict: bool,
         reference: *const u32, reference_len: usize, changes: *mut u32, changes_len: usize) -> *mut Answer;
@@ -101,35 +101,35 @@ fn read(call: &Call, changes: &mut [u32], ends: &mut [u64], marks: &mut [u8]) ->
 fn read_from(call: &Call, src: &[u8], changes: &mut [u32], ends: &mut [u64], marks: &mut [u8]) -> Answer {
     match call.ask.form {
         Form::ReadLine => read_line(call, src, changes),
-        _ => page(&call.ask.settings, call.exact, src, changes, ends, marks),
+        _ => page(&call.ask.settings, call.exact, call.plain, src, changes, ends, marks),
     }
 }
 
 /// The page form.
-pub fn page(s: &Settings, exact: bool, src: &[u8], changes: &mut [u32], ends: &mut [u64], marks: &mut [u8]) -> Answer {
+pub fn page(s: &Settings, exact: bool, plain: bool, src: &[u8], changes: &mut [u32], ends: &mut [u64], marks: &mut [u8]) -> Answer {
     // SAFETY: the arrays are lent whole.
-    unsafe { page_into(s, exact, src, changes, ends, marks) }
+    unsafe { page_into(s, exact, plain, src, changes, ends, marks) }
 }
 
 /// The page form with arrays that repeat: only the last entries that were written can be looked at, which is all that it looks at itself.
 pub fn page_repeated(s: &Settings, src: &[u8], changes: &Repeated, ends: &Repeated, marks: &Repeated) -> Answer {
     // SAFETY: the arrays are there to be written, and apart. An entry of them is another's too, and so is not kept; the page form
     // writes ends and marks and reads none, and of the changes it reads the row before, which is shorter than the block that repeats.
-    unsafe { page_into(s, false, src, changes.entries(), ends.entries(), marks.entries()) }
+    unsafe { page_into(s, false, false, src, changes.entries(), ends.entries(), marks.entries()) }
 }
 
 /// The page form into three arrays, which must be there to be written, and apart.
 #[rustfmt::skip]
-unsafe fn page_into(s: &Settings, exact: bool, src: &[u8], changes: *mut [u32], ends: *mut [u64], marks: *mut [u8]) -> Answer {
+unsafe fn page_into(s: &Settings, exact: bool, plain: bool, src: &[u8], changes: *mut [u32], ends: *mut [u64], marks: *mut [u8]) -> Answer {
     let mut answer = Answer::default();
     // SAFETY: each pointer stands with the length of its slice, and the three lent arrays and the answer are apart.
     unsafe {
         match s.encoding {
-            Encoding::Group4 => ccitt_decode_group4(&mut answer, src.as_ptr(), src.len(), s.columns, s.rows, s.end_of_block, s.aligned, s.strict, exact,
+            Encoding::Group4 => ccitt_decode_group4(&mut answer, src.as_ptr(), src.len(), s.columns, s.rows, s.end_of_block, s.aligned, s.strict, exact, plain,
                 changes.cast(), changes.len(), ends.cast(), ends.len(), marks.cast(), marks.len()),
-            Encoding::Group3OneD => ccitt_decode_group3_1d(&mut answer, src.as_ptr(), src.len(), s.columns, s.rows, s.end_of_block, s.end_of_line, s.aligned, s.strict, exact,
+            Encoding::Group3OneD => ccitt_decode_group3_1d(&mut answer, src.as_ptr(), src.len(), s.columns, s.rows, s.end_of_block, s.end_of_line, s.aligned, s.strict, exact, plain,
                 changes.cast(), changes.len(), ends.cast(), ends.len(), marks.cast(), marks.len()),
-            Encoding::Group3TwoD => ccitt_decode_group3_2d(&mut answer, src.as_ptr(), src.len(), s.columns, s.rows, s.end_of_block, s.end_of_line, s.aligned, s.strict, exact,
+            Encoding::Group3TwoD => ccitt_decode_group3_2d(&mut answer, src.as_ptr(), src.len(), s.columns, s.rows, s.end_of_block, s.end_of_line, s.aligned, s.strict, exact, plain,
                 changes.cast(), changes.len(), ends.cast(), ends.len(), marks.cast(), marks.len()),
         }
     };

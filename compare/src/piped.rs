@@ -143,7 +143,7 @@ fn form_number(form: Form) -> u32 {
 
 fn flags(call: &Call) -> u32 {
     let s = &call.ask.settings;
-    let flags = [s.end_of_block, s.end_of_line, s.aligned, s.strict, call.exact];
+    let flags = [s.end_of_block, s.end_of_line, s.aligned, s.strict, call.exact, call.plain];
     flags.iter().rev().fold(0, |flags, &flag| flags << 1 | u32::from(flag))
 }
 

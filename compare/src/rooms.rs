@@ -1,12 +1,13 @@
 //! Which rooms are lent for a reader's input: more than enough, just enough, one entry short, one row
-//! end short, one mark short, or anything less. Pages are read exactly (A12) besides.
+//! end short, one mark short, or anything less. Pages are read exactly (A12) and by the plain engine (A14) besides.
 
 use crate::call::{Ask, Room};
 use crate::check::{Case, Plan};
 use crate::random::Random;
 use crate::truth::{Outcome, Wanted};
 
-/// A page, with room to spare and with each of the rooms that decide; and exactly, with room to spare and with one of them.
+/// A page, with room to spare and with each of the rooms that decide; exactly, with room to spare and with one of them; and in one of
+/// these ways by the plain engine.
 pub fn page_case(ask: Ask, random: &mut Random) -> Case {
     let outcome = Outcome::of_page(&ask.settings, &ask.src, ask.tail);
     let mut plans = planned(rooms(&outcome, random), random, |room| outcome.page_within(room));
@@ -16,7 +17,7 @@ pub fn page_case(ask: Ask, random: &mut Random) -> Case {
     rooms.truncate(1);
     rooms.push(another);
     plans.extend(exact_plans(rooms, random, &outcome));
-    Case { ask, plans, complaint: None }
+    Case { ask, plans, complaint: None }.plainly(random)
 }
 
 /// Room to spare, and each of the rooms that decide.
@@ -47,8 +48,13 @@ pub fn exact_plans(rooms: Vec<Room>, random: &mut Random, outcome: &Outcome) -> 
 
 /// A page with fewer rooms, for checks that have very many pages: room to spare or just enough, and for
 /// one page in eight one entry, one row end or one mark short. Each strict page is read exactly too, and
-/// one lenient page in 32: an exact reading does not look at strictness.
+/// one lenient page in 32: an exact reading does not look at strictness. In one of these ways it is read by the plain engine.
 pub fn quick_page_case(ask: Ask, random: &mut Random) -> Case {
+    lookup_page_case(ask, random).plainly(random)
+}
+
+/// The same, by the lookup alone.
+pub fn lookup_page_case(ask: Ask, random: &mut Random) -> Case {
     let outcome = Outcome::of_page(&ask.settings, &ask.src, ask.tail);
     let mut plans = planned(quick_rooms(&outcome, random), random, |room| outcome.page_within(room));
     if ask.settings.strict || random.below(32) == 0 {
@@ -95,5 +101,5 @@ pub fn line_room(changes: usize) -> Room {
 }
 
 fn planned(rooms: Vec<Room>, random: &mut Random, wanted: impl Fn(Room) -> Wanted) -> Vec<Plan> {
-    rooms.into_iter().map(|room| Plan { exact: false, room, fill: random.next() as u32, wanted: wanted(room) }).collect()
+    rooms.into_iter().map(|room| Plan { exact: false, plain: false, room, fill: random.next() as u32, wanted: wanted(room) }).collect()
 }

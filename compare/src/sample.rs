@@ -16,6 +16,8 @@ use std::path::Path;
 
 /// So many cases of each kind: of each source, form, strictness (lenient, strict or exact) and answer.
 const EACH: usize = 4;
+/// So many by the plain engine.
+const EACH_PLAIN: usize = 1;
 /// Inputs tried for each source.
 const TRIED: u64 = 40_000;
 /// What the arrays of the program that replays have room for; what needs more is left out.
@@ -54,19 +56,19 @@ fn sources() -> Vec<Box<dyn Source>> {
     ]
 }
 
-/// The first cases of each kind that a random source gives, and all of the others. Data above limit 7 is
+/// The first cases of each kind that a random source gives, and all of the others; by the plain engine the first ones alone. Data above limit 7 is
 /// left out with all that is too long.
 fn chosen(source: &dyn Source, seed: u64) -> Vec<(Ask, Plan)> {
-    let mut taken: BTreeMap<(u32, u32, u32), usize> = BTreeMap::new();
+    let mut taken: BTreeMap<(bool, u32, u32, u32), usize> = BTreeMap::new();
     let mut list = Vec::new();
     let each = if source.count() < TRIED { usize::MAX } else { EACH };
     for index in 0..source.count() {
         let Case { ask, plans, .. } = source.case(index, &mut Random::of(seed, &source.name(), index));
         for plan in plans.into_iter().filter(|plan| is_small(&ask, plan)) {
             let strictness = if plan.exact { 2 } else { u32::from(ask.settings.strict) };
-            let kind = (form_number(ask.form), strictness, plan.wanted.answer.number);
+            let kind = (plan.plain, form_number(ask.form), strictness, plan.wanted.answer.number);
             let count = taken.entry(kind).or_default();
-            if *count < each {
+            if *count < if plan.plain { EACH_PLAIN } else { each } {
                 *count += 1;
                 list.push((ask.clone(), plan));
             }
@@ -94,14 +96,14 @@ fn has_marks(plan: &Plan) -> bool {
     matches!(plan.room, Room::Rows { ends, marks, .. } if ends == marks)
 }
 
-/// One line of decimal numbers: fourteen, the reference, the data. The fourteen are the form (0 Group 4,
-/// 1 Group 3 1D, 2 Group 3 2D, 3 one line), columns, rows, end_of_block, end_of_line, aligned, strict, exact,
+/// One line of decimal numbers: fifteen, the reference, the data. The fifteen are the form (0 Group 4,
+/// 1 Group 3 1D, 2 Group 3 2D, 3 one line), columns, rows, end_of_block, end_of_line, aligned, strict, exact, plain,
 /// the upper and the lower half of a line's first bit, the rooms for changes and for row ends, and the lengths
 /// of the reference and of the data.
 fn put_question(out: &mut String, ask: &Ask, plan: &Plan) {
     let s = &ask.settings;
     let (changes, ends) = rooms(plan);
-    let flags = [s.end_of_block, s.end_of_line, s.aligned, s.strict, plan.exact].map(u64::from);
+    let flags = [s.end_of_block, s.end_of_line, s.aligned, s.strict, plan.exact, plan.plain].map(u64::from);
     let mut numbers = vec![u64::from(form_number(ask.form)), s.columns.into(), s.rows.into()];
     numbers.extend(flags);
     numbers.extend([ask.at >> 32, ask.at % (1 << 32)]);

@@ -11,6 +11,7 @@ use crate::settings::{Encoding, Settings};
 use crate::truth::{Idle, LIMIT, Outcome, Wanted, ascends_below};
 use hayro_ccitt_slipped as slipped;
 use std::io;
+use std::ops::Range;
 
 /// What goes wrong.
 #[derive(Clone, Copy, Debug, PartialEq, Eq)]
@@ -56,9 +57,12 @@ pub enum Fault {
     WholeIsShort,
     ZeroColumnsShort,
     BytesOfAShortPage,
+    PlainChange,
+    PlainPlace,
+    PlainNumber,
 }
 
-pub const FAULTS: [Fault; 40] = [
+pub const FAULTS: [Fault; 43] = [
     Fault::Number,
     Fault::Rows,
     Fault::Entries,
@@ -99,6 +103,9 @@ pub const FAULTS: [Fault; 40] = [
     Fault::WholeIsShort,
     Fault::ZeroColumnsShort,
     Fault::BytesOfAShortPage,
+    Fault::PlainChange,
+    Fault::PlainPlace,
+    Fault::PlainNumber,
 ];
 
 pub struct Standin(pub Fault);
@@ -134,9 +141,9 @@ impl Standin {
         // with the fault of a room that it takes for larger, it has more marks than it was lent places for
         let lent = wanted.marks.len().min(marks.len());
         marks[..lent].copy_from_slice(&wanted.marks[..lent]);
-        self.spoil_words(&wanted, words, changes, ends);
+        self.spoil_words(call, &wanted, words, changes, ends);
         self.spoil_marks(&wanted, marks);
-        self.spoil_answer(call.ask, wanted.answer)
+        self.spoil_answer(call, wanted.answer)
     }
 
     /// The room that it takes itself to have.
@@ -197,10 +204,11 @@ impl Standin {
         if truth.number > 5 || ask.at > 8 * ask.src.len() as u64 { truth } else { slipped_line(ask) }
     }
 
-    fn spoil_words(&self, wanted: &Wanted, words: &mut [u32], changes: std::ops::Range<usize>, ends: std::ops::Range<usize>) {
+    fn spoil_words(&self, call: &Call, wanted: &Wanted, words: &mut [u32], changes: Range<usize>, ends: Range<usize>) {
         let (entries, loose, rows) = (wanted.answer.entries as usize, wanted.answer.loose as usize, wanted.answer.rows as usize);
         match self.0 {
             Fault::Change if entries > 3 => words[changes.start + 2] ^= 1,
+            Fault::PlainChange if call.plain && entries > 3 => words[changes.start + 2] ^= 1,
             Fault::LooseChange if loose > 1 => words[changes.start + entries + 1] ^= 1,
             Fault::RowEnd if rows > 1 && !ends.is_empty() => words[ends.start + rows - 1] ^= 1,
             Fault::BehindChanges if wanted.changes.len() < changes.len() => words[changes.end - 1] = 0,
@@ -220,7 +228,8 @@ impl Standin {
         }
     }
 
-    fn spoil_answer(&self, ask: &Ask, mut answer: Answer) -> Answer {
+    fn spoil_answer(&self, call: &Call, mut answer: Answer) -> Answer {
+        let ask = call.ask;
         match self.0 {
             Fault::Number if answer.number == 3 => answer.number = 1,
             Fault::Rows if answer.rows > 5 => answer.rows -= 1,
@@ -229,6 +238,8 @@ impl Standin {
             Fault::Bytes if answer.bytes > 9 => answer.bytes -= 1,
             Fault::BytesOfAFailure if answer.number == 4 => answer.bytes = 1,
             Fault::BytesOfAShortPage if answer.number == 14 => answer.bytes = ask.src.len() as u64,
+            Fault::PlainPlace if call.plain && answer.number == 1 => answer.place += 1,
+            Fault::PlainNumber if call.plain && answer.number == 2 => answer.number = 1,
             Fault::PlaceOfFour if answer.number == 4 => answer.place = 1,
             Fault::PlaceBehind if answer.number == 2 => answer.place += 1,
             Fault::MarkOfALine if ask.form == Form::ReadLine => answer.mark = 0,

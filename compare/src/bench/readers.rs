@@ -1,4 +1,4 @@
-//! The page form against the crate's.
+//! The page form against the crate's, and its plain engine against its lookup.
 
 use super::fill;
 use super::timing::{RUNS, report};
@@ -64,12 +64,19 @@ pub fn run(texts: &[Text]) {
     let mut store = Store { changes: vec![0; CHANGES], ends: vec![0; ENDS], marks: vec![0; ENDS] };
     println!("median of {RUNS} runs, release builds, arrays cleared before each; the crate's sink copies rows into one array");
     let pages: Vec<Page> = texts.iter().map(|text| Page::of(text.settings, text.src.clone())).collect();
+    let mut sets: Vec<(String, Vec<&Page>)> = Vec::new();
     for encoding in [Encoding::Group4, Encoding::Group3OneD] {
         let some: Vec<&Page> = pages.iter().filter(|page| page.settings.encoding == encoding).collect();
-        compare(&format!("{} pages, {encoding:?}", some.len()), &some, &mut store);
+        sets.push((format!("{} pages, {encoding:?}", some.len()), some));
     }
-    let all: Vec<&Page> = pages.iter().collect();
-    compare(&format!("all {} pages", all.len()), &all, &mut store);
+    sets.push((format!("all {} pages", pages.len()), pages.iter().collect()));
+    for (name, some) in &sets {
+        compare(name, some, &mut store);
+    }
+    println!("the plain engine against the lookup, likewise");
+    for (name, some) in &sets {
+        compare_engines(&format!("{name}, by the plain engine"), some, &mut store);
+    }
     println!("fill, likewise, in Group 3 1D pages with EOLs");
     for (name, page) in fill::pages() {
         compare(&name, &[&page], &mut store);
@@ -77,15 +84,22 @@ pub fn run(texts: &[Text]) {
 }
 
 fn compare(name: &str, pages: &[&Page], store: &mut Store) {
-    let ours = |store: &mut Store| pages.iter().map(|page| time_ours(page, store)).sum();
+    let ours = |store: &mut Store| pages.iter().map(|page| time_ours(page, false, store)).sum();
     let theirs = |store: &mut Store| pages.iter().map(|page| time_crate(page, store)).sum();
     report(name, store, ours, "the crate", theirs);
 }
 
-fn time_ours(page: &Page, store: &mut Store) -> Duration {
+/// The plain engine against the lookup.
+fn compare_engines(name: &str, pages: &[&Page], store: &mut Store) {
+    let plain = |store: &mut Store| pages.iter().map(|page| time_ours(page, true, store)).sum();
+    let lookup = |store: &mut Store| pages.iter().map(|page| time_ours(page, false, store)).sum();
+    report(name, store, plain, "the lookup", lookup);
+}
+
+fn time_ours(page: &Page, plain: bool, store: &mut Store) -> Duration {
     let store = store.cleared();
     let began = Instant::now();
-    let answer = linked::page(&page.settings, false, &page.src, &mut store.changes, &mut store.ends, &mut store.marks);
+    let answer = linked::page(&page.settings, false, plain, &page.src, &mut store.changes, &mut store.ends, &mut store.marks);
     let took = began.elapsed();
     assert!(answer.number == page.number && answer.rows as usize == page.rows, "ours answers as the crate does");
     took

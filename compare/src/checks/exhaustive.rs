@@ -3,7 +3,7 @@
 use crate::call::Ask;
 use crate::check::{Case, Source};
 use crate::random::Random;
-use crate::rooms::quick_page_case;
+use crate::rooms::lookup_page_case;
 use crate::settings::{Encoding, Settings};
 
 const COLUMNS: [u32; 4] = [1, 2, 3, 8];
@@ -44,12 +44,19 @@ impl Source for Exhaustive {
             strict: flags & 4 != 0,
             end_of_line: flags & 8 != 0,
         };
-        quick_page_case(Ask::page(settings, input(data)), random)
+        let case = lookup_page_case(Ask::page(settings, input(data)), random);
+        if is_plain(&settings) || random.below(16) == 0 { case.plainly(random) } else { case }
     }
 
     fn batch(&self) -> u64 {
         2048
     }
+}
+
+/// The plain engine takes as long as all else here. It reads every page under every flag at the width and for the rows that let it go
+/// furthest, and of the others one in sixteen.
+fn is_plain(settings: &Settings) -> bool {
+    settings.columns == 8 && settings.rows == 0
 }
 
 fn input(number: u64) -> Vec<u8> {
