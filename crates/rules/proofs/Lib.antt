@@ -37,4 +37,9 @@ pub mod ExactPages
 pub mod Store
 pub mod Within
 pub mod LessRoom
+pub mod Thrift
+pub mod Entries
 pub mod Rooms
+pub mod ByRow
+pub mod FormsAgree
+pub mod ByRowSheets

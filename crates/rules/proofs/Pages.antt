@@ -9,13 +9,13 @@ use native.Mathlib.Omega.{arith}
 use lib.Dec.{eqb, leb, ltb}
 use lib.ListN.{length, length-append}
 use borrow.Author.Tests.{leb-false, ltb-true, ltb-false, lt-ltb, le-ltb, eqb-true, eqb-false, ne-eqb}
-use Rattle.rules.specs.Machine.{Out, more, done, ends}
+use Rattle.rules.specs.Machine.{Out, more, done, run, ends}
 use Rattle.rules.specs.Lines.{Rules, Line, Went, went, failed, push, two, readLine}
 use Rattle.rules.specs.Rows.{Encoding, group4, group3-1D, group3-2D, Settings, State, recoveredMark, RowOut, row, stop, rulesOf, bytesTo, alignedIf}
 use Rattle.rules.specs.Group4.{eolsBefore, over, afterLine4, row4}
 use Rattle.rules.specs.Group3.{Tagging, untagged, tagged, Before, line-at, end-at, before, line3, kept, whitened, afterLine3, row3}
 use Rattle.rules.specs.Pages.{Answer, Kept, noneKept, withRow, endWith, entries, keepRow, pageStep, rowsLeft, pageOf, rowOf, readPage}
-use Rattle.rules.proofs.Machine.{Falls, ends-ind, ends-stops}
+use Rattle.rules.proofs.Machine.{Falls, run-ind, ends-ind, ends-stops}
 use Rattle.rules.proofs.Ascending as Asc
 use Rattle.rules.proofs.Ascending.{Rising}
 use Rattle.rules.proofs.PageBack.{Rows, no-rows, row-then, entries-snoc}
@@ -324,8 +324,8 @@ module _ (enc : Encoding) (S : Settings) (wide : 0 < S .columns) (bs : List Bool
   abbrev pub Behind : Kept → Answer → Type 0
   Behind k a = (rest : List (List ℕ)) × (a .rows ≡ k .rows ++ rest) × (later : List ℕ) × (a .marks ≡ k .marks ++ later)
 
-  pub ends-behind : (k : Kept) (a : Answer) → ends step (rowsLeft bs) k ≡ done a → Behind k a
-  ends-behind k a e = ends-ind step Behind base onward (rowsLeft bs) k a e
+  pub run-behind : (n : ℕ) (k : Kept) (a : Answer) → run step n k ≡ done a → Behind k a
+  run-behind n k a e = run-ind step Behind base onward n k a e
     where
       here : (k : Kept) (n p b : ℕ) (loose : List ℕ) → Behind k (endWith k n p b loose)
       here k n p b loose = ([], sym (append-nil (k .rows)), [], sym (append-nil (k .marks)))
@@ -346,6 +346,10 @@ module _ (enc : Encoding) (S : Settings) (wide : 0 < S .columns) (bs : List Bool
           (λ r mark next e l q h. longer k r mark next a (subst (λ (i : Kept). Behind i a) (let g : j ≡ withRow k r mark next = cc in g) h))
           (λ r mark next e l q h. absurd (let z : _≡_ {A = ℕ} 0 1 = cc in omega arith))
           (λ n p b loose e q h. absurd (let z : _≡_ {A = ℕ} 0 1 = cc in omega arith))
+
+  pub ends-behind : (k : Kept) (a : Answer) → ends step (rowsLeft bs) k ≡ done a → Behind k a
+  unfolding ends
+  ends-behind k a e = run-behind (suc (rowsLeft bs k)) k a e
 
   -- What holds between rows.
   pub record Held (k : Kept) : Type 0 where

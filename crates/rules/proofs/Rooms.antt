@@ -2,31 +2,28 @@
 -- no row end, is left, and more of them would be filled; so with room for all that the bits can hold neither is ever given. Assumes nothing.
 use mathlib.Core.Path.{_≡_, refl, sym, ap, _∙_, subst}
 use mathlib.Core.Logic.{⊎-elim}
-use mathlib.Core.Bool.{Bool, true, false, cond}
+use mathlib.Core.Bool.{Bool, true, false}
 use mathlib.Core.List.{List, [], _∷_, _++_, append-assoc, append-nil}
 use Prim.Native.Nat.{ℕ, suc, min, _+_, _-_, _*_, _≤_, _<_}
 use native.Mathlib.Omega.{arith}
 use lib.Dec.{eqb, leb, ltb}
-use lib.ListN.{length, take, length-append, drop-of-length-le}
+use lib.ListN.{length, take, length-append}
 use lib.Seq.{take-at}
 use borrow.Author.Tests.{ltb-true, ltb-false, leb-true, eqb-false}
 use Rattle.rules.specs.Machine.{Out, more, done, ends}
 use Rattle.rules.specs.Bits.{bitsOf}
 use Rattle.rules.specs.Lines.{Rules, Went, went, failed, two, readLine}
-use Rattle.rules.specs.Rows.{Encoding, group4, group3-1D, group3-2D, Settings, State, readMark, recoveredMark, RowOut, row, stop, rulesOf, finished}
-use Rattle.rules.specs.Group4.{eolsBefore, afterLine4, row4}
-use Rattle.rules.specs.Group3.{Tagging, untagged, tagged, line3, kept, afterLine3, row3}
+use Rattle.rules.specs.Rows.{Settings, State, RowOut, row, stop}
 use Rattle.rules.specs.Pages.{Answer, Kept, noneKept, withRow, endWith, entries, rowsLeft, pageOf, rowOf, readPage, strictIfExact, unlessShort, mostBytes, tooWide, ascends, decode, oneLine, readOneLine}
 use Rattle.rules.proofs.Bits.{length-bitsOf}
 use Rattle.rules.proofs.Machine.{Falls, ends-more, ends-done, ends-ind, ends-stops}
 use Rattle.rules.proofs.PageBack.{entries-snoc}
 use Rattle.rules.proofs.Ascending.{rises-length}
 use Rattle.rules.proofs.Lines.{read-whole, read-broken, data-bound}
-use Rattle.rules.proofs.Eols.{eols-ahead, reaches}
-use Rattle.rules.proofs.Budget.{Budgeted, Budget, Due, Bytes, whole-bytes, Starts, Sets, before-sets}
-use Rattle.rules.proofs.Rows.{row4-cases, row3-cases, mended-cases, line3-damaged}
-use Rattle.rules.proofs.Pages.{Does, Fitting, row-does, Held, held-start, held-next, read-answered, step, page-cases, page-kept, page-full, page-stopped, page-falls}
+use Rattle.rules.proofs.Budget.{Bytes, whole-bytes}
+use Rattle.rules.proofs.Pages.{Does, row-does, Held, held-start, held-next, read-answered, step, page-cases, page-kept, page-full, page-stopped, page-falls}
 use Rattle.rules.proofs.Marks.{decode-came, came-as-many}
+use Rattle.rules.proofs.Entries.{Spared, spared-start, spared-next, spared-row, spared-loose}
 use Rattle.rules.proofs.LessRoom.{Cut, same, short, line-cut, Fills, line-fills, changesIn, RowFills, row-fills, RowCut, row-cut, row-cut-cases}
 use Rattle.rules.proofs.Answers.{short-cases, Refuses, too-wide, too-long, no-columns, decode-cases}
 use Rattle.rules.proofs.Within.{cutBehind, four, withinFrom, within, within-all, within-loose, within-four, within-five, within-kept, Cuts, cuts, Front, cuts-front, cuts-four, cuts-five, short-within}
@@ -142,81 +139,14 @@ module _ (S : Settings) (wide : 0 < S .columns) (bs : List Bool) (bytes : Bytes 
       ∙ ap (withinFrom store places (p .0) []) (sym (c .1))
       ∙ ap (λ (o : Out Kept Answer). within store places (pageOf o)) (sym (p .1))
 
--- ---- The entries of a page
-
--- no budget allows more entries than twice the bits
-budget-few : (bs : List Bool) (at n : ℕ) (b : Bool) → at ≤ length bs → Budgeted bs at n b → n ≤ 2 * length bs
-budget-few bs at n true h w = omega (arith, w .0, reaches bs at .inside)
-budget-few bs at n false h w = omega (arith, h, w)
-
-module _ (S : Settings) (wide : 0 < S .columns) (bs : List Bool) (bytes : Bytes bs) (room : ℕ) (st : State) (inside : st .at ≤ length bs) where
-  abbrev Does′ : RowOut → Type 0
-  Does′ = Does S bs room st
-
-  -- nor do a row's, or the loose ones', behind the entries before it
-  abbrev Few : RowOut → Type 0
-  Few o = (m : ℕ) → (st .count ≡ 0 → m ≡ 0) → Budget bs st m → m + length (changesIn o) ≤ 2 * length bs
-
-  row-few : (r : List ℕ) (mark : ℕ) (next : State) → Does′ (row r mark next) → Few (row r mark next)
-  row-few r mark next d m z b = budget-few bs (next .at) (m + length r) (next .eols) (d .inside) (d .budget m z b)
-
-  none-few : (o : RowOut) → changesIn o ≡ [] → Few o
-  none-few o e m z w = omega (arith, ap length e, budget-few bs (st .at) m (st .eols) inside w)
-
-  row4-few : st .eols ≡ false → Does′ (row4 S bs room st) → Few (row4 S bs room st)
-  row4-few plain = row4-cases S bs room st (λ o. Does′ o → Few o) (λ e d. none-few (finished at4) refl) (λ e. cases)
-    where
-      at4 : ℕ
-      at4 = eolsBefore S bs st .at
-
-      cases : (w : Went) → readLine (rulesOf S room) (two (st .reference)) bs at4 ≡ w → Does′ (afterLine4 S bs st w) → Few (afterLine4 S bs st w)
-      cases (went l) e d = row-few (l .changes) (readMark l) _ d
-      cases (failed n p l) e d = λ m z b.
-          let a = eols-ahead (cond (S .endOfBlock) 2 (length bs)) bs (st .at) in
-          let f = read-broken (rulesOf S room) wide (two (st .reference)) bs at4 (length bs) (data-bound bs) (a .inside inside) n p l e in
-          let v : m ≤ st .at + (length bs - 1) = subst (Budgeted bs (st .at) m) plain b in
-          omega (arith, a .forward, f .line .few, f .line .inside)
-
-  row3-few : (t : Tagging) → Does′ (row3 S t bs room st) → Few (row3 S t bs room st)
-  row3-few t =
-      row3-cases S t bs room st (λ o. Does′ o → Few o) (λ at e d. none-few (finished at) refl) (λ at e d. none-few (stop 1 at 0 []) refl)
-      (λ at expected e. cases at expected (subst (Sets S t bs bytes st) e (before-sets S t bs bytes st)))
-    where
-      R : Rules
-      R = rulesOf S room
-
-      -- behind a line at which EOLs are expected the entries before it are no more than the bits
-      mended-few : (at : ℕ) (expected : Bool) → Starts bs st at expected → expected ≡ true → (w : Went) → Does′ (kept S t bs st expected at recoveredMark w) → Few (kept S t bs st expected at recoveredMark w)
-      mended-few at expected f q (went u) d = row-few (u .changes) recoveredMark _ d
-      mended-few at expected f q (failed n p u) d = λ m z b. let v : m ≤ at = subst (Due bs at m) q (f .due m z b) in omega (arith, d .short, f .inside inside)
-
-      due-few : (at m : ℕ) (b : Bool) → Due bs at m b → m ≤ at + length bs
-      due-few at m true d = omega (arith, d)
-      due-few at m false d = omega (arith, d)
-
-      cases : (at : ℕ) (expected : Bool) → Starts bs st at expected → (w : Went) → line3 S t bs R (st .reference) at t ≡ w
-          → Does′ (afterLine3 S t bs R st at expected w) → Few (afterLine3 S t bs R st at expected w)
-      cases at expected f (went l) e = λ d. row-few (l .changes) (readMark l) _ d
-      cases at expected f (failed n p l) e =
-          let g = line3-damaged S t bs R wide (st .reference) at (f .inside inside) n p l e in
-          let i = reaches bs at .inside in
-          mended-cases S t bs R st at expected n p l (λ o. Does′ o → Few o) (λ q s h w c. mended-few at expected f q w)
-          (λ d m z b. omega (arith, due-few at m expected (f .due m z b), g .line .few, g .line .inside))
-
-  any-few : (enc : Encoding) → Fitting enc (st .eols) → Does′ (rowOf enc S bs room st) → Few (rowOf enc S bs room st)
-  unfolding rowOf
-  any-few group4 f = row4-few f
-  any-few group3-1D f = row3-few untagged
-  any-few group3-2D f = row3-few tagged
-
 -- ---- When 4 and 5 are given
 
 module _ (S : Settings) (wide : 0 < S .columns) (bs : List Bool) (bytes : Bytes bs) (store places : ℕ) where
-  -- 4 only where no entry is left, 5 only where no row end is; and never more entries than twice the bits
+  -- 4 only where no entry is left, 5 only where no row end is; and never more entries than the bits and one
   pub record Used (a : Answer) : Type 0 where
     pub four : a .number ≡ 4 → entries (a .rows) + length (a .loose) ≡ store
     pub five : a .number ≡ 5 → length (a .rows) ≡ places
-    pub few : entries (a .rows) + length (a .loose) ≤ 2 * length bs
+    pub few : entries (a .rows) + length (a .loose) ≤ length bs + 1
 
   abbrev Held′ : Kept → Type 0
   Held′ = Held (S .encoding) S wide bs bytes store places
@@ -224,28 +154,39 @@ module _ (S : Settings) (wide : 0 < S .columns) (bs : List Bool) (bytes : Bytes 
   abbrev rowFor : Kept → RowOut
   rowFor k = rowOf (S .encoding) S bs (store - entries (k .rows)) (k .state)
 
-  used-last : (k : Kept) (a : Answer) → step (S .encoding) S wide bs bytes store places k ≡ done a → Held′ k → Used a
-  unfolding entries
+  -- what holds between rows, with what was spared
+  abbrev Between : Kept → Type 0
+  Between k = Held′ k × Spared (S .encoding) S wide bs bytes k
+
+  used-last : (k : Kept) (a : Answer) → step (S .encoding) S wide bs bytes store places k ≡ done a → Between k → Used a
   used-last k a =
-      page-cases (S .encoding) S wide bs bytes store places k (λ o. o ≡ done a → Held′ k → Used a)
+      page-cases (S .encoding) S wide bs bytes store places k (λ o. o ≡ done a → Between k → Used a)
       (λ r mark next e l q h. absurd (let z : _≡_ {A = ℕ} 0 1 = cc in omega arith))
-      (λ r mark next e l q h. subst Used (let g : endWith k 5 0 0 r ≡ a = cc in g)
-      (record { four = λ z. absurd (omega arith); five = λ z. omega (arith, h .placed); few = few-of h (row r mark next) e }))
+      (λ r mark next e l q (h, p). subst Used (let g : endWith k 5 0 0 r ≡ a = cc in g)
+      (record { four = λ z. absurd (omega arith); five = λ z. omega (arith, h .placed); few = spared-row (S .encoding) S wide bs bytes store places (room k) k h p r mark next e }))
       (λ n p b loose e q h. subst Used (let g : endWith k n p b loose ≡ a = cc in g) (stopped h n p b loose e))
     where
-      does : Held′ k → Does S bs (store - entries (k .rows)) (k .state) (rowFor k)
-      does h = row-does S wide bs bytes (store - entries (k .rows)) (k .state) (S .encoding) (h .fitting) (h .inside)
+      room : Kept → ℕ
+      room k = store - entries (k .rows)
 
-      few-of : Held′ k → (o : RowOut) → rowFor k ≡ o → entries (k .rows) + length (changesIn o) ≤ 2 * length bs
-      few-of h o e =
-          subst (λ (u : RowOut). entries (k .rows) + length (changesIn u) ≤ 2 * length bs) e
-          (any-few S wide bs bytes (store - entries (k .rows)) (k .state) (h .inside) (S .encoding) (h .fitting) (does h) (entries (k .rows)) (λ z. ap entries (drop-of-length-le (k .rows) {i = 0} (omega (arith, h .counted)))) (h .budget))
+      stopped : Between k → (n p b : ℕ) (loose : List ℕ) → rowFor k ≡ stop n p b loose → Used (endWith k n p b loose)
+      stopped (h, s) n p b loose e =
+          let m = subst (Does S bs (room k) (k .state)) e (row-does S wide bs bytes (room k) (k .state) (S .encoding) (h .fitting) (h .inside)) in
+          let f = subst (RowFills (room k)) e (row-fills S bs (room k) (S .encoding) (k .state)) in
+          record {
+            four = λ z. omega (arith, f z, m .roomy, h .roomy);
+            five = λ z. absurd (omega (arith, m .numbered));
+            few = spared-loose (S .encoding) S wide bs bytes store places (room k) k h s n p b loose e;
+          }
 
-      stopped : Held′ k → (n p b : ℕ) (loose : List ℕ) → rowFor k ≡ stop n p b loose → Used (endWith k n p b loose)
-      stopped h n p b loose e =
-          let m = subst (Does S bs (store - entries (k .rows)) (k .state)) e (does h) in
-          let f = subst (RowFills (store - entries (k .rows))) e (row-fills S bs (store - entries (k .rows)) (S .encoding) (k .state)) in
-          record { four = λ z. omega (arith, f z, m .roomy, h .roomy); five = λ z. absurd (omega (arith, m .numbered)); few = few-of h (stop n p b loose) e }
+  used-next : (k j : Kept) → step (S .encoding) S wide bs bytes store places k ≡ more j → Between k → Between j
+  used-next k j e (h, s) = (
+    held-next (S .encoding) S wide bs bytes store places k j h e,
+    page-cases (S .encoding) S wide bs bytes store places k (λ o. o ≡ more j → Spared (S .encoding) S wide bs bytes j)
+        (λ r mark next f l q. subst (Spared (S .encoding) S wide bs bytes) (let g : withRow k r mark next ≡ j = cc in g) (spared-next (S .encoding) S wide bs bytes store places (store - entries (k .rows)) k h s r mark next f))
+        (λ r mark next f l q. absurd (let z : _≡_ {A = ℕ} 0 1 = cc in omega arith))
+        (λ n p b loose f q. absurd (let z : _≡_ {A = ℕ} 0 1 = cc in omega arith)) e,
+  )
 
   pub page-used : Used (readPage S bs store places)
   unfolding readPage
@@ -254,7 +195,8 @@ module _ (S : Settings) (wide : 0 < S .columns) (bs : List Bool) (bytes : Bytes 
       let s = step (S .encoding) S wide bs bytes store places in
       let p = ends-stops s (rowsLeft bs) (page-falls (S .encoding) S wide bs bytes store places) k in
       subst (λ (o : Out Kept Answer). Used (pageOf o)) (sym (p .1))
-      (ends-ind s (λ k a. Held′ k → Used a) used-last (λ k j a e f h. f (held-next (S .encoding) S wide bs bytes store places k j h e)) (rowsLeft bs) k (p .0) (p .1) (held-start (S .encoding) S wide bs bytes store places))
+      (ends-ind s (λ k a. Between k → Used a) used-last (λ k j a e f h. f (used-next k j e h)) (rowsLeft bs) k (p .0) (p .1)
+      (held-start (S .encoding) S wide bs bytes store places, spared-start (S .encoding) S wide bs bytes))
 
 -- ---- The answers to bytes
 
@@ -276,6 +218,7 @@ pub record Spent (bytes : List ℕ) (store places : ℕ) (a : Answer) : Type 0 w
   pub four : a .number ≡ 4 → entries (a .rows) + length (a .loose) ≡ store
   pub five : a .number ≡ 5 → length (a .rows) ≡ places
   pub few-entries : entries (a .rows) + length (a .loose) ≤ 16 * length bytes
+  pub bits-and-one : entries (a .rows) + length (a .loose) ≤ 8 * length bytes + 1
   pub few-rows : length (a .rows) ≤ 8 * length bytes + 1
 
 module _ (S : Settings) (bytes : List ℕ) where
@@ -290,15 +233,16 @@ module _ (S : Settings) (bytes : List ℕ) where
   unfolding entries
   decode-spent store places =
       decode-cases S bytes (λ f. Spent bytes store places (f store places))
-      (λ n r. record { four = λ e. absurd (refuses-other r .0 e); five = λ e. absurd (refuses-other r .1 e); few-entries = omega arith; few-rows = omega arith })
+      (λ n r. record { four = λ e. absurd (refuses-other r .0 e); five = λ e. absurd (refuses-other r .1 e); few-entries = omega arith; bits-and-one = omega arith; few-rows = omega arith })
       (λ ok.
       let u = page-used (strictIfExact S) (ok .wide) (bitsOf bytes) (whole-bytes bytes) store places in
       let a = read-answered (S .encoding) (strictIfExact S) (ok .wide) (bitsOf bytes) (whole-bytes bytes) store places refl in
-      let e : entries (readPage (strictIfExact S) (bitsOf bytes) store places .rows) + length (readPage (strictIfExact S) (bitsOf bytes) store places .loose) ≤ 16 * length bytes = omega (arith, u .few, length-bitsOf bytes) in
+      let e : entries (readPage (strictIfExact S) (bitsOf bytes) store places .rows) + length (readPage (strictIfExact S) (bitsOf bytes) store places .loose) ≤ 16 * length bytes = omega (arith, u .few, a .few-entries, a .few-loose, length-bitsOf bytes) in
+      let o : entries (readPage (strictIfExact S) (bitsOf bytes) store places .rows) + length (readPage (strictIfExact S) (bitsOf bytes) store places .loose) ≤ 8 * length bytes + 1 = omega (arith, u .few, length-bitsOf bytes) in
       let r : length (readPage (strictIfExact S) (bitsOf bytes) store places .rows) ≤ 8 * length bytes + 1 = omega (arith, a .few-rows, length-bitsOf bytes) in
       short-cases S (readPage (strictIfExact S) (bitsOf bytes) store places) (Spent bytes store places)
-      (λ l. record { four = λ q. absurd (omega arith); five = λ q. absurd (omega arith); few-entries = e; few-rows = r })
-      (λ n. record { four = u .four; five = u .five; few-entries = e; few-rows = r }))
+      (λ l. record { four = λ q. absurd (omega arith); five = λ q. absurd (omega arith); few-entries = e; bits-and-one = o; few-rows = r })
+      (λ n. record { four = u .four; five = u .five; few-entries = e; bits-and-one = o; few-rows = r }))
 
   module _ (store store′ places places′ : ℕ) (le : store ≤ store′) (le′ : places ≤ places′) where
     -- the smaller answer, by cases
@@ -325,6 +269,11 @@ module _ (S : Settings) (bytes : List ℕ) where
   pub four-never : (store places : ℕ) → 16 * length bytes ≤ store → decode S bytes store places .number ≡ 4 → ⊥
   four-never store places h q = omega (arith, four-wants store (suc store) places places (omega arith) (omega arith) (omega arith) q, decode-spent (suc store) places .few-entries)
 
+  -- one entry more than bits is enough,
+  pub four-never-more : (store places : ℕ) → 8 * length bytes + 1 ≤ store → decode S bytes store places .number ≡ 4 → ⊥
+  four-never-more store places h q = omega (arith, four-wants store (suc store) places places (omega arith) (omega arith) (omega arith) q, decode-spent (suc store) places .bits-and-one)
+
+  -- and one row end more.
   pub five-never : (store places : ℕ) → 8 * length bytes + 1 ≤ places → decode S bytes store places .number ≡ 5 → ⊥
   five-never store places h q = omega (arith, five-wants store store places (suc places) (omega arith) (omega arith) (omega arith) q, decode-spent store (suc places) .few-rows)
 

@@ -13,5 +13,7 @@ pub mod Rows
 pub mod Group4
 pub mod Group3
 pub mod Pages
+pub mod InSteps
+pub mod ByRow
 pub mod Write
 pub mod Sheets
