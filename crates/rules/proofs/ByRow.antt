@@ -20,7 +20,7 @@ use Rattle.rules.specs.InSteps.{says, moreToCome, mostCounted}
 use Rattle.rules.specs.ByRow.{Side, first, second, other, Arrays, arrayAt, written, End, unended, ended, RowState, between, roomIn, RowStep, afterRow, sound, leaves, refuses, noColumns, unlessFew, rowHere, nextRow, tested, unlessEnded, readRow, Caller, callerWith, goesOn, callStep, overOf}
 use Rattle.rules.proofs.Bits.{length-bitsOf, both-true}
 use Rattle.rules.proofs.Ascending.{rises-ascends}
-use Rattle.rules.proofs.Lines.{read-broken, data-bound}
+use Rattle.rules.proofs.Lines.{read-whole, read-broken, data-bound}
 use Rattle.rules.proofs.Eols.{eols-ahead}
 use Rattle.rules.proofs.Budget.{Bytes, whole-bytes}
 use Rattle.rules.proofs.Rows.{row4-cases}
@@ -118,26 +118,27 @@ module _ (S : Settings) (bytes : List ℕ) (p : RowState) (xs : Arrays) where
 
 -- ---- 5 is never said
 
--- a row ends the page with 0 to 4
-abbrev Numbered : RowOut → Type 0
-Numbered (row r mark next) = Unit {0}
-Numbered (stop n place bytes loose) = n ≤ 4
+-- a row has no more changes than the data has bits, and it ends the page with 0 to 4
+abbrev pub Bounded : List Bool → RowOut → Type 0
+Bounded bs (row r mark next) = length r ≤ length bs
+Bounded bs (stop n place bytes loose) = n ≤ 4
 
-row-numbered : (S : Settings) → 0 < S .columns → (bs : List Bool) → Bytes bs → (room : ℕ) (st : State) → st .at ≤ length bs → (enc : Encoding) → Numbered (rowOf enc S bs room st)
+-- So it is from any state that stands in the data.
+pub row-bounded : (S : Settings) → 0 < S .columns → (bs : List Bool) → Bytes bs → (room : ℕ) (st : State) → st .at ≤ length bs → (enc : Encoding) → Bounded bs (rowOf enc S bs room st)
 unfolding rowOf
-row-numbered S wide bs bytes room st inside = kinds
+row-bounded S wide bs bytes room st inside = kinds
   where
-    of3 : (o : RowOut) → Does S bs room st o → Numbered o
-    of3 (row r mark next) d = tt
+    of3 : (o : RowOut) → Does S bs room st o → Bounded bs o
+    of3 (row r mark next) d = d .short
     of3 (stop n place b loose) d = d .numbered
 
-    of4 : (w : Went) → readLine (rulesOf S room) (two (st .reference)) bs (eolsBefore S bs st .at) ≡ w → Numbered (afterLine4 S bs st w)
-    of4 (went l) e = tt
+    of4 : (w : Went) → readLine (rulesOf S room) (two (st .reference)) bs (eolsBefore S bs st .at) ≡ w → Bounded bs (afterLine4 S bs st w)
+    of4 (went l) e = let f = read-whole (rulesOf S room) wide (two (st .reference)) bs (eolsBefore S bs st .at) l e in omega (arith, f .few, f .inside)
     of4 (failed n place l) e =
         read-broken (rulesOf S room) wide (two (st .reference)) bs (eolsBefore S bs st .at) (length bs) (data-bound bs) (eols-ahead (cond (S .endOfBlock) 2 (length bs)) bs (st .at) .inside inside) n place l e .numbered .1
 
-    kinds : (enc : Encoding) → Numbered (rowOf enc S bs room st)
-    kinds group4 = row4-cases S bs room st Numbered (λ e. omega arith) (λ e. of4)
+    kinds : (enc : Encoding) → Bounded bs (rowOf enc S bs room st)
+    kinds group4 = row4-cases S bs room st (Bounded bs) (λ e. omega arith) (λ e. of4)
     kinds group3-1D = of3 (rowOf group3-1D S bs room st) (row-does S wide bs bytes room st group3-1D tt inside)
     kinds group3-2D = of3 (rowOf group3-2D S bs room st) (row-does S wide bs bytes room st group3-2D tt inside)
 
@@ -152,10 +153,10 @@ never-five S bytes p xs open′ =
     call-cases S bytes p xs (λ d. d .said .number ≡ 5 → ⊥) (λ n place b loose e. absurd (let z : _≡_ {A = ℕ} 0 1 = cc in omega arith))
     (λ u e z. omega arith) (λ u e f z. omega arith) (λ u e f g z. omega arith) (λ u e f g c z. omega arith)
     (λ u e f g wide o q. rows o
-    (subst Numbered q
-    (row-numbered (strictIfExact S) wide (bitsOf bytes) (whole-bytes bytes) (roomIn p xs) (between p xs) (omega (arith, sound-inside S bytes p xs g, length-bitsOf bytes)) (S .encoding))))
+    (subst (Bounded (bitsOf bytes)) q
+    (row-bounded (strictIfExact S) wide (bitsOf bytes) (whole-bytes bytes) (roomIn p xs) (between p xs) (omega (arith, sound-inside S bytes p xs g, length-bitsOf bytes)) (S .encoding))))
   where
-    rows : (o : RowOut) → Numbered o → afterRow p xs (unlessFew S bytes p xs o) .said .number ≡ 5 → ⊥
+    rows : (o : RowOut) → Bounded (bitsOf bytes) o → afterRow p xs (unlessFew S bytes p xs o) .said .number ≡ 5 → ⊥
     rows (row r mark next) h = λ z. omega arith
     rows (stop n place b loose) h = few-cases S bytes p xs n place b loose (λ w. afterRow p xs w .said .number ≡ 5 → ⊥) (λ z. omega arith) (λ z. omega arith)
 
