@@ -183,17 +183,17 @@ module _ (settings : DecodeSettings) (bytes : List ℕ) where
 
     -- the EOLs from where the row before ended, aligned or not
     module _ (from : ℕ) (f : from ≡ alignedFrom settings st) (p : eolsOf e ≡ eols3 bs t from) where
-      whole : (b : Bool) → b ≡ lacking S t bs rowsDone (stateOf [] st) (eolsOf e) → checked S t bs rowsDone (stateOf [] st) (eolsOf e) b ≡ beforeIn settings bytes st false
-      whole b q = ap (checked S t bs rowsDone (stateOf [] st) (eolsOf e)) q ∙ ap (checkEob S t bs (stateOf [] st) rowsDone) (p ∙ ap (eols3 bs t) f)
+      whole : (b : Bool) → b ≡ lacking S t bs rowsDone (stateOf [] [] st) (eolsOf e) → checked S t bs rowsDone (stateOf [] [] st) (eolsOf e) b ≡ beforeIn settings bytes st false
+      whole b q = ap (checked S t bs rowsDone (stateOf [] [] st) (eolsOf e)) q ∙ ap (checkEob S t bs (stateOf [] [] st) rowsDone) (p ∙ ap (eols3 bs t) f)
 
       -- an EOL that is lacking does not stand where it is looked for
-      pub lacking-there : Loading bytes from → true ≡ lacking S t bs rowsDone (stateOf [] st) (eolsOf e) → NoEolAt bytes (e .at)
+      pub lacking-there : Loading bytes from → true ≡ lacking S t bs rowsDone (stateOf [] [] st) (eolsOf e) → NoEolAt bytes (e .at)
       lacking-there h q = none-stands h t e p (eqb-true (e .count) 0 (lacks-count (eqb (e .count) 0) (st .eols) rowsDone (leb (length bs) (e .at)) q))
 
-      pub before-lacking : true ≡ lacking S t bs rowsDone (stateOf [] st) (eolsOf e) → (r : BeforeIn settings bytes) → r ≡ missingIn settings bytes (e .at) → r ≡ beforeIn settings bytes st false
+      pub before-lacking : true ≡ lacking S t bs rowsDone (stateOf [] [] st) (eolsOf e) → (r : BeforeIn settings bytes) → r ≡ missingIn settings bytes (e .at) → r ≡ beforeIn settings bytes st false
       before-lacking q r h = h ∙ whole true q
 
-      pub before-judged : false ≡ lacking S t bs rowsDone (stateOf [] st) (eolsOf e) → (r : BeforeIn settings bytes) → r ≡ judgedIn settings bytes rowsDone (st .eols) e → r ≡ beforeIn settings bytes st false
+      pub before-judged : false ≡ lacking S t bs rowsDone (stateOf [] [] st) (eolsOf e) → (r : BeforeIn settings bytes) → r ≡ judgedIn settings bytes rowsDone (st .eols) e → r ≡ beforeIn settings bytes st false
       before-judged q r h = h ∙ whole false q
 
     -- the first row

@@ -50,7 +50,7 @@ module _ (settings : DecodeSettings) (st : State) (at : ℕ) (expected : Bool) (
   base = st .base
 
   -- the line of the rules, and the store as it was before
-  module _ (bytes xs : List ℕ) (u : Rule.Line) (v : Lies (st .base) (settings .columns) xs u l zs) where
+  module _ (bytes lent xs : List ℕ) (u : Rule.Line) (v : Lies (st .base) (settings .columns) xs u l zs) where
     abbrev S : Settings
     S = settingsOf settings
 
@@ -58,12 +58,12 @@ module _ (settings : DecodeSettings) (st : State) (at : ℕ) (expected : Bool) (
     R = rulesOf S (length xs - base)
 
     abbrev outcome : Bool → RowOut
-    outcome b = recovered S (taggingOf (settings .encoding)) (bitsOf bytes) R (stateOf xs st) at expected number place u b
+    outcome b = recovered S (taggingOf (settings .encoding)) (bitsOf bytes) R (stateOf lent xs st) at expected number place u b
 
     abbrev white : Rule.Line
     white = whitened S (taggingOf (settings .encoding)) (bitsOf bytes) u
 
-    left : ((expected && not (settings .strict)) && leb number 3) ≡ false → RowGives base xs (afterLineIn settings bytes xs st at expected (failed number place u)) (Stop number place 0 (l .changes)) zs
+    left : ((expected && not (settings .strict)) && leb number 3) ≡ false → RowGives base xs (afterLineIn settings bytes lent xs st at expected (failed number place u)) (Stop number place 0 (l .changes)) zs
     left q = subst (λ (b : Bool). RowGives base xs (outcome b) (Stop number place 0 (l .changes)) zs) (sym q) (record { answer = ap (λ (m : Line). Stop number place 0 (m .changes)) (v .line-is); store = v .store })
 
     row-is : drop base zs ≡ overlaid (u .changes) (drop base xs)
@@ -98,13 +98,13 @@ module _ (settings : DecodeSettings) (st : State) (at : ℕ) (expected : Bool) (
           subst (λ (k : ℕ). Comes (settings .columns) (drop base xs) (push (rulesOf S k) 0 (settings .columns - u .position) white) r ys) (length-drop base xs)
           (subst (λ (k : ℕ). Comes (settings .columns) (drop base xs) (push (rulesFor (settings .columns) (linesBy settings) (drop base xs)) 0 k white) r ys) n c)
 
-      ended : (o : Went) → pushed ≡ o → (a : Row) → a ≡ rowFor (kept S (taggingOf (settings .encoding)) (bitsOf bytes) (stateOf xs st) expected at recoveredMark o)
-          → changesIn (kept S (taggingOf (settings .encoding)) (bitsOf bytes) (stateOf xs st) expected at recoveredMark o) ≡ changesOf o
-          → RowGives base xs (afterLineIn settings bytes xs st at expected (failed number place u)) a (putMid base (length zs - base) zs ys)
+      ended : (o : Went) → pushed ≡ o → (a : Row) → a ≡ rowFor (kept S (taggingOf (settings .encoding)) (bitsOf bytes) (stateOf lent xs st) expected at recoveredMark o)
+          → changesIn (kept S (taggingOf (settings .encoding)) (bitsOf bytes) (stateOf lent xs st) expected at recoveredMark o) ≡ changesOf o
+          → RowGives base xs (afterLineIn settings bytes lent xs st at expected (failed number place u)) a (putMid base (length zs - base) zs ys)
       unfolding pushed
       ended o e a k c =
           subst (λ (b : Bool). RowGives base xs (outcome b) a (putMid base (length zs - base) zs ys)) (sym q)
-          (subst (λ (o : Went). RowGives base xs (kept S (taggingOf (settings .encoding)) (bitsOf bytes) (stateOf xs st) expected at recoveredMark o) a (putMid base (length zs - base) zs ys)) (sym e)
+          (subst (λ (o : Went). RowGives base xs (kept S (taggingOf (settings .encoding)) (bitsOf bytes) (stateOf lent xs st) expected at recoveredMark o) a (putMid base (length zs - base) zs ys)) (sym e)
           (record {
             answer = k;
             store =
@@ -112,12 +112,12 @@ module _ (settings : DecodeSettings) (st : State) (at : ℕ) (expected : Bool) (
                 ∙ (λ i. front-is i ++ (comes .store ∙ ap (λ (o : Went). overlaid (changesOf o) (drop base xs)) e ∙ ap (λ (x : List ℕ). overlaid x (drop base xs)) (sym c)) i);
           }))
 
-      mended-on : (m : Line) → r ≡ Push.On m → RowGives base xs (afterLineIn settings bytes xs st at expected (failed number place u)) (Kept (m .changes) recoveredMark at expected) (putMid base (length zs - base) zs ys)
+      mended-on : (m : Line) → r ≡ Push.On m → RowGives base xs (afterLineIn settings bytes lent xs st at expected (failed number place u)) (Kept (m .changes) recoveredMark at expected) (putMid base (length zs - base) zs ys)
       mended-on m e =
           let (t, o, same) = push-on (settings .columns) pushed m (sym e ∙ comes .answer) in
           ended (went t) o (Kept (m .changes) recoveredMark at expected) (ap (λ (m : Line). Kept (m .changes) recoveredMark at expected) same) refl
 
-      mended-stop : (n : ℕ) (m : Line) → r ≡ Push.Stop n m → RowGives base xs (afterLineIn settings bytes xs st at expected (failed number place u)) (Stop n 0 0 (m .changes)) (putMid base (length zs - base) zs ys)
+      mended-stop : (n : ℕ) (m : Line) → r ≡ Push.Stop n m → RowGives base xs (afterLineIn settings bytes lent xs st at expected (failed number place u)) (Stop n 0 0 (m .changes)) (putMid base (length zs - base) zs ys)
       unfolding pushed
       mended-stop n m e =
           let (p, t, o, same) = push-stop (settings .columns) pushed n m (sym e ∙ comes .answer) in
@@ -131,12 +131,12 @@ module _ (settings : DecodeSettings) (st : State) (at : ℕ) (expected : Bool) (
   -- ---- Each way out
 
   pub recovers-left : false ≡ ((expected && not (settings .strict)) && leb number 3) → Recovers settings st at expected number place l zs (Stop number place 0 (l .changes)) zs
-  recovers-left q bytes xs u v = left bytes xs u v (sym q)
+  recovers-left q bytes lent xs u v = left bytes lent xs u v (sym q)
 
   module _ (q : true ≡ ((expected && not (settings .strict)) && leb number 3)) (r : Push) (ys : List ℕ)
       (p : Pushes (midOf (st .base) (length zs - st .base) zs) (whiteFor l) (l .width - l .position) (settings .strict) r ys) where
     pub recovers-on : (m : Line) → r ≡ Push.On m → Recovers settings st at expected number place l zs (Kept (m .changes) recoveredMark at expected) (putMid (st .base) (length zs - st .base) zs ys)
-    recovers-on m e bytes xs u v = mended-on bytes xs u v (sym q) r ys p m e
+    recovers-on m e bytes lent xs u v = mended-on bytes lent xs u v (sym q) r ys p m e
 
     pub recovers-stop : (n : ℕ) (m : Line) → r ≡ Push.Stop n m → Recovers settings st at expected number place l zs (Stop n 0 0 (m .changes)) (putMid (st .base) (length zs - st .base) zs ys)
-    recovers-stop n m e bytes xs u v = mended-stop bytes xs u v (sym q) r ys p n m e
+    recovers-stop n m e bytes lent xs u v = mended-stop bytes lent xs u v (sym q) r ys p n m e

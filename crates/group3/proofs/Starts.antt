@@ -18,7 +18,6 @@ use Rattle.bit_reader.specs.Loaded.{Loading}
 use Rattle.context.specs.declared.line.Line.{Line}
 use Rattle.context.specs.declared.step.Step.{Step}
 use Rattle.context.specs.declared.step.Step.the-variants.{Stop}
-use Rattle.context.specs.declared.two.Reference.the-variants.{Kept}
 use Rattle.context.specs.State.{newFor, rulesFor}
 use Rattle.context.specs.Outcome as Line
 use Rattle.context.specs.Outcome.{Steps}
@@ -81,24 +80,24 @@ module _ {bytes : List ℕ} {at : ℕ} (h : Loading bytes at) (t : Tagging) wher
 
 -- ---- The line, into the store
 
-module _ {w b bytes xs : List ℕ} {settings : DecodeSettings} {st : State} {at : ℕ} (h : LineFrom w b bytes xs settings st at) (k : Kind) (a : KindAt bytes (taggingOf (settings .encoding)) at k) where
+module _ {w b bytes lent xs : List ℕ} {settings : DecodeSettings} {st : State} {at : ℕ} (h : LineFrom w b bytes lent xs settings st at) (k : Kind) (a : KindAt bytes (taggingOf (settings .encoding)) at k) where
   abbrev base : ℕ
   base = st .base
 
   -- the line of the kind, in the room that the slice behind the base has, or that the store has
   abbrev lineOf : ℕ → Went
-  lineOf n = kindLine (rulesOf (settingsOf settings) n) (stateOf xs st .reference) (bitsOf bytes) at k
+  lineOf n = kindLine (rulesOf (settingsOf settings) n) (stateOf lent xs st .reference) (bitsOf bytes) at k
 
-  is : lineOf (length (drop base xs)) ≡ lineIn settings bytes xs st at
-  is = ap lineOf (length-drop base xs) ∙ a .same (settingsOf settings) (rulesOf (settingsOf settings) (length xs - base)) (stateOf xs st .reference)
+  is : lineOf (length (drop base xs)) ≡ lineIn settings bytes lent xs st at
+  is = ap lineOf (length-drop base xs) ∙ a .same (settingsOf settings) (rulesOf (settingsOf settings) (length xs - base)) (stateOf lent xs st .reference)
 
-  gives : (r : Step) (ys : List ℕ) → StepsAt base (settings .columns) xs (lineOf (length (drop base xs))) r ys → StepsAt base (settings .columns) xs (lineIn settings bytes xs st at) r ys
+  gives : (r : Step) (ys : List ℕ) → StepsAt base (settings .columns) xs (lineOf (length (drop base xs))) r ys → StepsAt base (settings .columns) xs (lineIn settings bytes lent xs st at) r ys
   gives r ys s = subst (λ (w : Went). StepsAt base (settings .columns) xs w r ys) is s
 
   starts : (start : ℕ) → Loading bytes start → Line.Starts w b bytes (settings .columns) start
   starts start l = record { lookups = h .row .lookups; loading = l; narrow = h .row .narrow }
 
-  pub line-missing : k ≡ NoTag → StepsAt base (settings .columns) xs (lineIn settings bytes xs st at) (Stop 2 (newFor (settings .columns)) (8 * length bytes)) xs
+  pub line-missing : k ≡ NoTag → StepsAt base (settings .columns) xs (lineIn settings bytes lent xs st at) (Stop 2 (newFor (settings .columns)) (8 * length bytes)) xs
   line-missing e =
       gives _ xs
       (rw e (record { answer = ap (λ (n : ℕ). Stop 2 (newFor (settings .columns)) n) (sym (length-bitsOf bytes)); store = unchanged base xs }))
@@ -110,14 +109,14 @@ module _ {w b bytes xs : List ℕ} {settings : DecodeSettings} {st : State} {at 
     -- into the slice behind the base, which comes back
     pub line-one : k ≡ One start → (r : Step) (ys : List ℕ)
         → Steps (settings .columns) (midOf base (length xs - base) xs) (readLine (rulesFor (settings .columns) (linesBy settings) (midOf base (length xs - base) xs)) one (bitsOf bytes) start) r ys
-        → StepsAt base (settings .columns) xs (lineIn settings bytes xs st at) r (putMid base (length xs - base) xs ys)
+        → StepsAt base (settings .columns) xs (lineIn settings bytes lent xs st at) r (putMid base (length xs - base) xs ys)
     line-one e r ys s =
         let v = rw (row-lent xs base) at s in
         gives r _ (rw (e, row-back xs base (h .row .held) ys) (record { answer = v .answer; store = ap (λ (l : List ℕ). take base xs ++ l) (v .store) }))
 
-    pub two-asks : k ≡ Two start → Lines w b bytes [] xs base (Kept (st .start)) (settings .columns) start
-    two-asks e = record { starts = starts start (subst (KindStarts bytes) e (a .starts)); placed = (h .row .ordered, h .row .held); rising = h .row .rising }
+    pub two-asks : k ≡ Two start → Lines w b bytes lent xs base (st .reference) (settings .columns) start
+    two-asks e = record { starts = starts start (subst (KindStarts bytes) e (a .starts)); placed = h .row .placed; rising = h .row .rising }
 
-    pub line-two : k ≡ Two start → (r : Step) (ys : List ℕ) → Lined bytes [] xs base (Kept (st .start)) (settings .columns) start (linesBy settings) r ys
-        → StepsAt base (settings .columns) xs (lineIn settings bytes xs st at) r ys
+    pub line-two : k ≡ Two start → (r : Step) (ys : List ℕ) → Lined bytes lent xs base (st .reference) (settings .columns) start (linesBy settings) r ys
+        → StepsAt base (settings .columns) xs (lineIn settings bytes lent xs st at) r ys
     line-two e r ys s = gives r ys (rw e s)

@@ -32,7 +32,7 @@ pub record NoEolAt (bytes : List ℕ) (at : ℕ) : Type 0 where
 
 -- an EOL is lacking after the row, whatever the settings
 abbrev pub Lacks : List ℕ → Bool → State → Eols → Bool → Type 0
-Lacks bytes rowsDone st e r = (S : Settings) (t : Tagging) → r ≡ lacking S t (bitsOf bytes) rowsDone (stateOf [] st) (eolsOf e)
+Lacks bytes rowsDone st e r = (S : Settings) (t : Tagging) → r ≡ lacking S t (bitsOf bytes) rowsDone (stateOf [] [] st) (eolsOf e)
 
 module _ (s : DecodeSettings) (bytes : List ℕ) where
   abbrev pub BeforeIn : Type 0
@@ -51,4 +51,4 @@ module _ (s : DecodeSettings) (bytes : List ℕ) where
 
   -- before the first row, or another; the reference has no part in it
   abbrev pub beforeIn : State → Bool → BeforeIn
-  beforeIn st first = before (settingsOf s) (taggingOf (s .encoding)) (bitsOf bytes) (stateOf [] st) first
+  beforeIn st first = before (settingsOf s) (taggingOf (s .encoding)) (bitsOf bytes) (stateOf [] [] st) first

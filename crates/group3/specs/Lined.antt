@@ -39,11 +39,11 @@ pub record KindAt (bytes : List ℕ) (t : Tagging) (at : ℕ) (r : Kind) : Type 
   pub same : (S : Settings) (R : Rules) (reference : List ℕ) → kindLine R reference (bitsOf bytes) at r ≡ line3 S t (bitsOf bytes) R reference at t
 
 -- what a line asks: a row that may begin, and a bit inside the data
-pub record LineFrom (w b bytes xs : List ℕ) (s : DecodeSettings) (st : State) (at : ℕ) : Type 0 where
-  pub row : RowFrom w b bytes xs s st
+pub record LineFrom (w b bytes lent xs : List ℕ) (s : DecodeSettings) (st : State) (at : ℕ) : Type 0 where
+  pub row : RowFrom w b bytes lent xs s st
   pub loading : Loading bytes at
 
 -- the line that begins at a bit, in the room that the store has
-abbrev pub lineIn : DecodeSettings → List ℕ → List ℕ → State → ℕ → Went
-lineIn s bytes xs st at =
-    line3 (settingsOf s) (taggingOf (s .encoding)) (bitsOf bytes) (rulesOf (settingsOf s) (length xs - st .base)) (stateOf xs st .reference) at (taggingOf (s .encoding))
+abbrev pub lineIn : DecodeSettings → List ℕ → List ℕ → List ℕ → State → ℕ → Went
+lineIn s bytes lent xs st at =
+    line3 (settingsOf s) (taggingOf (s .encoding)) (bitsOf bytes) (rulesOf (settingsOf s) (length xs - st .base)) (stateOf lent xs st .reference) at (taggingOf (s .encoding))

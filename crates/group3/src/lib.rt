@@ -25,15 +25,16 @@ fn row_at<'a>(
     black: &'a [u16; 8192],
     src: &[u8],
     settings: DecodeSettings,
+    lent: &[u32],
     changes: &mut [u32],
     state: State,
     at: usize,
     expected: bool,
 ) -> Row
-    requires { ⌜ LineFrom (now white) (now black) (now src) (now changes) settings state at ⌝ }
-    ensures { λ r. ⌜ RowGives (state .base) (now (changes .entry)) (afterLineIn settings (now (src .entry)) (now (changes .entry)) state at expected (lineIn settings (now (src .entry)) (now (changes .entry)) state at)) r (now (changes .exit)) ⌝ }
+    requires { ⌜ LineFrom (now white) (now black) (now src) (now lent) (now changes) settings state at ⌝ }
+    ensures { λ r. ⌜ RowGives (state .base) (now (changes .entry)) (afterLineIn settings (now (src .entry)) (now (lent .entry)) (now (changes .entry)) state at expected (lineIn settings (now (src .entry)) (now (lent .entry)) (now (changes .entry)) state at)) r (now (changes .exit)) ⌝ }
 {
-    match line::decode(white, black, src, settings, changes, state, at) {
+    match line::decode(white, black, src, settings, lent, changes, state, at) {
         Step::On(line, next) => Row::Kept(line.changes, line.cut, next, expected),
         Step::Stop(number, line, place) => {
             recover::recover(changes, settings, state, at, expected, number, place, line)
@@ -46,17 +47,28 @@ pub fn row<'a>(
     black: &'a [u16; 8192],
     src: &[u8],
     settings: DecodeSettings,
+    lent: &[u32],
     changes: &mut [u32],
     state: State,
 ) -> Row
-    requires { ⌜ RowFrom (now white) (now black) (now src) (now changes) settings state ⌝ }
-    ensures { λ r. ⌜ RowGives (state .base) (now (changes .entry)) (row3 (settingsOf settings) (taggingOf (settings .encoding)) (bitsOf (now (src .entry))) (length (now (changes .entry)) - state .base) (stateOf (now (changes .entry)) state)) r (now (changes .exit)) ⌝ }
+    requires { ⌜ RowFrom (now white) (now black) (now src) (now lent) (now changes) settings state ⌝ }
+    ensures { λ r. ⌜ RowGives (state .base) (now (changes .entry)) (row3 (settingsOf settings) (taggingOf (settings .encoding)) (bitsOf (now (src .entry))) (length (now (changes .entry)) - state .base) (stateOf (now (lent .entry)) (now (changes .entry)) state)) r (now (changes .exit)) ⌝ }
 {
     match eob::between(src, settings, state) {
         Before::End(at) => rows::end_at(at),
         Before::NoEol(at) => Row::Stop(1, at, 0, 0),
         Before::Line(at, expected) => {
-            row_at(white, black, src, settings, changes, state, at, expected)
+            row_at(
+                white,
+                black,
+                src,
+                settings,
+                lent,
+                changes,
+                state,
+                at,
+                expected,
+            )
         }
     }
 }

@@ -5,7 +5,6 @@ use context::runs;
 use context::step::Rules;
 use context::step::Step;
 use context::two;
-use context::two::Reference;
 use rows::DecodeSettings;
 use rows::State;
 ghost use Rattle.bit_reader.specs.Loaded.{Loading};
@@ -41,12 +40,13 @@ pub(crate) fn decode<'a>(
     black: &'a [u16; 8192],
     src: &[u8],
     settings: DecodeSettings,
+    lent: &[u32],
     changes: &mut [u32],
     state: State,
     at: usize,
 ) -> Step
-    requires { ⌜ LineFrom (now white) (now black) (now src) (now changes) settings state at ⌝ }
-    ensures { λ r. ⌜ StepsAt (state .base) (settings .columns) (now (changes .entry)) (lineIn settings (now (src .entry)) (now (changes .entry)) state at) r (now (changes .exit)) ⌝ }
+    requires { ⌜ LineFrom (now white) (now black) (now src) (now lent) (now changes) settings state at ⌝ }
+    ensures { λ r. ⌜ StepsAt (state .base) (settings .columns) (now (changes .entry)) (lineIn settings (now (src .entry)) (now (lent .entry)) (now (changes .entry)) state at) r (now (changes .exit)) ⌝ }
 {
     let columns = settings.columns;
     let base = state.base;
@@ -72,14 +72,12 @@ pub(crate) fn decode<'a>(
             )
         }
         Kind::Two(start) => {
-            // The reference lies in the store, so none is lent.
-            let lent: [u32; 0] = [];
-            let place = Reference::Kept(state.start);
+            let place = state.reference;
             two::decode_2d_line(
                 white,
                 black,
                 src,
-                &lent,
+                lent,
                 changes,
                 base,
                 place,

@@ -23,7 +23,6 @@ use Rattle.codes.specs.Eols.{eolsOf}
 use Rattle.context.specs.declared.line.Line.{Line}
 use Rattle.context.specs.declared.step.Step.{Step}
 use Rattle.context.specs.declared.step.Step.the-variants as Step
-use Rattle.context.specs.declared.two.Reference.the-variants as Reference
 use Rattle.context.specs.State.{changesOf}
 use Rattle.context.specs.Coding.{Lines, Lined}
 use Rattle.context.proofs.State.{mark-is}
@@ -57,7 +56,7 @@ module _ (S : Rule.Settings) (bs : List Bool) (st : Rule.State) (e : Eol.Eols) w
 
 -- ---- A row
 
-module _ {w b bytes xs : List ℕ} {settings : DecodeSettings} {st : State} (h : RowFrom w b bytes xs settings st) (e : Eols) where
+module _ {w b bytes lent xs : List ℕ} {settings : DecodeSettings} {st : State} (h : RowFrom w b bytes lent xs settings st) (e : Eols) where
   abbrev S : Rule.Settings
   S = settingsOf settings
 
@@ -68,9 +67,9 @@ module _ {w b bytes xs : List ℕ} {settings : DecodeSettings} {st : State} (h :
   room = length xs - st .base
 
   abbrev outcome : RowOut
-  outcome = row4 S bs room (stateOf xs st)
+  outcome = row4 S bs room (stateOf lent xs st)
 
-  module _ (q : eolsOf e ≡ eolsBefore S bs (stateOf [] st)) where
+  module _ (q : eolsOf e ≡ eolsBefore S bs (stateOf [] [] st)) where
     pub eols-loading : Loading bytes (e .at)
     eols-loading =
         let a = eols-ahead (cond (S .endOfBlock) 2 (length bs)) bs (st .at) .inside (omega (arith, h .loading .inside, length-bitsOf bytes)) in
@@ -79,51 +78,50 @@ module _ {w b bytes xs : List ℕ} {settings : DecodeSettings} {st : State} (h :
     pub end-loading : e .at ≤ mostBits
     end-loading = omega (arith, eols-loading .inside, eols-loading .size)
 
-    outcome-is : (o : Bool) → o ≡ over S bs (stateOf [] st) (eolsOf e) → outcome ≡ lineOrEnd S bs room (stateOf xs st) (eolsOf e) o
+    outcome-is : (o : Bool) → o ≡ over S bs (stateOf [] [] st) (eolsOf e) → outcome ≡ lineOrEnd S bs room (stateOf lent xs st) (eolsOf e) o
     unfolding row4
     outcome-is o p =
-        (λ i. lineOrEnd S bs room (stateOf xs st) (sym q i) (over S bs (stateOf xs st) (sym q i)))
-        ∙ ap (lineOrEnd S bs room (stateOf xs st) (eolsOf e)) (sym p)
+        (λ i. lineOrEnd S bs room (stateOf lent xs st) (sym q i) (over S bs (stateOf lent xs st) (sym q i)))
+        ∙ ap (lineOrEnd S bs room (stateOf lent xs st) (eolsOf e)) (sym p)
 
-    pub row-ends : true ≡ over S bs (stateOf [] st) (eolsOf e) → (r : Row) → r ≡ rowFor (finished (e .at)) → RowGives (st .base) xs outcome r xs
+    pub row-ends : true ≡ over S bs (stateOf [] [] st) (eolsOf e) → (r : Row) → r ≡ rowFor (finished (e .at)) → RowGives (st .base) xs outcome r xs
     row-ends p r a = subst (λ (o : RowOut). RowGives (st .base) xs o r xs) (sym (outcome-is true p)) (gives-stop (st .base) xs 0 0 _ r a)
 
-    module _ (lent : List ℕ) where
-      pub row-asks : Lines w b bytes lent xs (st .base) (Reference.Kept (st .start)) (settings .columns) (e .at)
-      row-asks = record { starts = record { lookups = h .lookups; loading = eols-loading; narrow = h .narrow }; placed = (h .ordered, h .held); rising = h .rising }
+    pub row-asks : Lines w b bytes lent xs (st .base) (st .reference) (settings .columns) (e .at)
+    row-asks = record { starts = record { lookups = h .lookups; loading = eols-loading; narrow = h .narrow }; placed = h .placed; rising = h .rising }
 
-      -- the page goes on, and the line was read
-      module _ (p : false ≡ over S bs (stateOf [] st) (eolsOf e)) (r : Step) (ys : List ℕ)
-          (l : Lined bytes lent xs (st .base) (Reference.Kept (st .start)) (settings .columns) (e .at) (record { strict = settings .strict; exact = settings .exact; plain = settings .plain }) r ys) where
-        abbrev lined : ℕ → Went
-        lined n = readLine (rulesOf S n) (two (stateOf xs st .reference)) bs (e .at)
+    -- the page goes on, and the line was read
+    module _ (p : false ≡ over S bs (stateOf [] [] st) (eolsOf e)) (r : Step) (ys : List ℕ)
+        (l : Lined bytes lent xs (st .base) (st .reference) (settings .columns) (e .at) (record { strict = settings .strict; exact = settings .exact; plain = settings .plain }) r ys) where
+      abbrev lined : ℕ → Went
+      lined n = readLine (rulesOf S n) (two (stateOf lent xs st .reference)) bs (e .at)
 
-        room-is : length (drop (st .base) xs) ≡ room
-        room-is = length-drop (st .base) xs
+      room-is : length (drop (st .base) xs) ≡ room
+      room-is = length-drop (st .base) xs
 
-        -- where the line comes to an outcome, so does the row
-        gives : (o : Went) → lined (length (drop (st .base) xs)) ≡ o → (a : Row) → a ≡ rowFor (afterLine4 S bs (stateOf xs st) o) → changesIn (afterLine4 S bs (stateOf xs st) o) ≡ changesOf o → RowGives (st .base) xs outcome a ys
-        gives o t a k c =
-            subst (λ (u : RowOut). RowGives (st .base) xs u a ys)
-            (sym (outcome-is false p ∙ ap (afterLine4 S bs (stateOf xs st)) (ap lined (sym room-is) ∙ t)))
-            (record {
-              answer = k;
-              store = l .store ∙ ap (λ (o : Went). take (st .base) xs ++ overlaid (changesOf o) (drop (st .base) xs)) t ∙ ap (λ (c : List ℕ). take (st .base) xs ++ overlaid c (drop (st .base) xs)) (sym c);
-            })
+      -- where the line comes to an outcome, so does the row
+      gives : (o : Went) → lined (length (drop (st .base) xs)) ≡ o → (a : Row) → a ≡ rowFor (afterLine4 S bs (stateOf lent xs st) o) → changesIn (afterLine4 S bs (stateOf lent xs st) o) ≡ changesOf o → RowGives (st .base) xs outcome a ys
+      gives o t a k c =
+          subst (λ (u : RowOut). RowGives (st .base) xs u a ys)
+          (sym (outcome-is false p ∙ ap (afterLine4 S bs (stateOf lent xs st)) (ap lined (sym room-is) ∙ t)))
+          (record {
+            answer = k;
+            store = l .store ∙ ap (λ (o : Went). take (st .base) xs ++ overlaid (changesOf o) (drop (st .base) xs)) t ∙ ap (λ (c : List ℕ). take (st .base) xs ++ overlaid c (drop (st .base) xs)) (sym c);
+          })
 
-        pub line-inside : (m : Line) (at : ℕ) → r ≡ Step.On m at → at ≤ mostBits
-        line-inside m at a =
-            let (t, o, same, there) = step-on (settings .columns) (lined (length (drop (st .base) xs))) m at (sym a ∙ l .answer) in
-            let f = read-whole (rulesOf S (length (drop (st .base) xs))) (h .wide) (two (stateOf xs st .reference)) bs (e .at) t o in
-            omega (arith, there, f .inside, length-bitsOf bytes, h .loading .size)
+      pub line-inside : (m : Line) (at : ℕ) → r ≡ Step.On m at → at ≤ mostBits
+      line-inside m at a =
+          let (t, o, same, there) = step-on (settings .columns) (lined (length (drop (st .base) xs))) m at (sym a ∙ l .answer) in
+          let f = read-whole (rulesOf S (length (drop (st .base) xs))) (h .wide) (two (stateOf lent xs st .reference)) bs (e .at) t o in
+          omega (arith, there, f .inside, length-bitsOf bytes, h .loading .size)
 
-        pub row-kept : (m : Line) (at next : ℕ) → r ≡ Step.On m at → next ≡ alignedIf (settings .«rows_are_byte_aligned») at → RowGives (st .base) xs outcome (Kept (m .changes) (m .cut) next (st .eols)) ys
-        row-kept m at next a n =
-            let (t, o, same, there) = step-on (settings .columns) (lined (length (drop (st .base) xs))) m at (sym a ∙ l .answer) in
-            gives (went t) o (Kept (m .changes) (m .cut) next (st .eols))
-            (λ i. Kept (same i .changes) (mark-is (settings .columns) t m same i) ((n ∙ ap (alignedIf (settings .«rows_are_byte_aligned»)) there) i) (st .eols)) refl
+      pub row-kept : (m : Line) (at next : ℕ) → r ≡ Step.On m at → next ≡ alignedIf (settings .«rows_are_byte_aligned») at → RowGives (st .base) xs outcome (Kept (m .changes) (m .cut) next (st .eols)) ys
+      row-kept m at next a n =
+          let (t, o, same, there) = step-on (settings .columns) (lined (length (drop (st .base) xs))) m at (sym a ∙ l .answer) in
+          gives (went t) o (Kept (m .changes) (m .cut) next (st .eols))
+          (λ i. Kept (same i .changes) (mark-is (settings .columns) t m same i) ((n ∙ ap (alignedIf (settings .«rows_are_byte_aligned»)) there) i) (st .eols)) refl
 
-        pub row-stops : (n place : ℕ) (m : Line) → r ≡ Step.Stop n m place → RowGives (st .base) xs outcome (Stop n place 0 (m .changes)) ys
-        row-stops n place m a =
-            let (t, o, same) = step-stop (settings .columns) (lined (length (drop (st .base) xs))) n place m (sym a ∙ l .answer) in
-            gives (failed n place t) o (Stop n place 0 (m .changes)) (λ i. Stop n place 0 (same i .changes)) refl
+      pub row-stops : (n place : ℕ) (m : Line) → r ≡ Step.Stop n m place → RowGives (st .base) xs outcome (Stop n place 0 (m .changes)) ys
+      row-stops n place m a =
+          let (t, o, same) = step-stop (settings .columns) (lined (length (drop (st .base) xs))) n place m (sym a ∙ l .answer) in
+          gives (failed n place t) o (Stop n place 0 (m .changes)) (λ i. Stop n place 0 (same i .changes)) refl

@@ -4,7 +4,6 @@ use codes::eol::Eols;
 use context::step::Rules;
 use context::step::Step;
 use context::two;
-use context::two::Reference;
 use rows::DecodeSettings;
 use rows::Row;
 use rows::State;
@@ -24,7 +23,7 @@ ghost use Rattle.rows.specs.Between.{stateOf, RowFrom, RowGives};
 // EOLs are no part of Group 4, but PDF wants them accepted. Data behind an EOFB may begin like an EOL, so no more than its two are read.
 fn eols_before(src: &[u8], settings: DecodeSettings, state: State) -> Eols
     requires { ⌜ Loading (now src) (state .at) ⌝ }
-    ensures { λ r. ⌜ eolsOf r ≡ eolsBefore (settingsOf settings) (bitsOf (now (src .entry))) (stateOf [] state) ⌝ }
+    ensures { λ r. ⌜ eolsOf r ≡ eolsBefore (settingsOf settings) (bitsOf (now (src .entry))) (stateOf [] [] state) ⌝ }
 {
     if settings.end_of_block {
         return eol::read_eols(src, state.at, 2);
@@ -53,7 +52,7 @@ fn is_full(settings: DecodeSettings, rows: usize) -> bool
 }
 
 fn is_over(src: &[u8], settings: DecodeSettings, state: State, eols: Eols) -> bool
-    ensures { λ r. ⌜ r ≡ over (settingsOf settings) (bitsOf (now (src .entry))) (stateOf [] state) (eolsOf eols) ⌝ }
+    ensures { λ r. ⌜ r ≡ over (settingsOf settings) (bitsOf (now (src .entry))) (stateOf [] [] state) (eolsOf eols) ⌝ }
 {
     if is_eofb(settings, eols.count) {
         return true;
@@ -69,26 +68,26 @@ pub fn row<'a>(
     black: &'a [u16; 8192],
     src: &[u8],
     settings: DecodeSettings,
+    lent: &[u32],
     changes: &mut [u32],
     state: State,
 ) -> Row
-    requires { ⌜ RowFrom (now white) (now black) (now src) (now changes) settings state ⌝ }
-    ensures { λ r. ⌜ RowGives (state .base) (now (changes .entry)) (row4 (settingsOf settings) (bitsOf (now (src .entry))) (length (now (changes .entry)) - state .base) (stateOf (now (changes .entry)) state)) r (now (changes .exit)) ⌝ }
+    requires { ⌜ RowFrom (now white) (now black) (now src) (now lent) (now changes) settings state ⌝ }
+    ensures { λ r. ⌜ RowGives (state .base) (now (changes .entry)) (row4 (settingsOf settings) (bitsOf (now (src .entry))) (length (now (changes .entry)) - state .base) (stateOf (now (lent .entry)) (now (changes .entry)) state)) r (now (changes .exit)) ⌝ }
 {
     let eols = eols_before(src, settings, state);
     if is_over(src, settings, state, eols) {
         return rows::end_at(eols.at);
     }
-    // The reference lies in the store, so none is lent.
-    let lent: [u32; 0] = [];
+    let place = state.reference;
     match two::decode_2d_line(
         white,
         black,
         src,
-        &lent,
+        lent,
         changes,
         state.base,
-        Reference::Kept(state.start),
+        place,
         settings.columns,
         eols.at,
         Rules {

@@ -9,14 +9,15 @@ use Rattle.rules.specs.Pages.{overlaid}
 use Rattle.rules.proofs.Ascending.{Rising}
 use Rattle.tables.specs.Tables.{Lookups}
 use Rattle.bit_reader.specs.Loaded.{Loading}
+use Rattle.context.specs.Coding.{referenceIn, Placed}
 use Rattle.rows.specs.declared.DecodeSettings.{DecodeSettings}
 use Rattle.rows.specs.declared.State.{State}
 use Rattle.rows.specs.declared.Row.{Row}
 use Rattle.rows.specs.declared.Row.the-variants.{Kept, Stop}
 
--- the state that a store of changes holds
-abbrev pub stateOf : List ℕ → State → Rule.State
-stateOf xs st = record { at = st .at; reference = take (st .base - st .start) (drop (st .start) xs); count = st .rows; eols = st .eols }
+-- the state whose reference is lent, or lies in a store of changes
+abbrev pub stateOf : List ℕ → List ℕ → State → Rule.State
+stateOf lent xs st = record { at = st .at; reference = referenceIn (st .reference) (st .base) lent xs; count = st .rows; eols = st .eols }
 
 abbrev pub rowFor : RowOut → Row
 rowFor (row changes mark st) = Kept (length changes) mark (st .at) (st .eols)
@@ -27,15 +28,15 @@ abbrev pub changesIn : RowOut → List ℕ
 changesIn (row changes mark st) = changes
 changesIn (stop n place bytes loose) = loose
 
--- what a row asks: the tables, a bit inside the data, a width, and a reference in the store that rises below it
-pub record RowFrom (w b bytes xs : List ℕ) (settings : DecodeSettings) (st : State) : Type 0 where
+-- what a row asks: the tables, a bit inside the data, a width, and a reference that rises below it
+pub record RowFrom (w b bytes lent xs : List ℕ) (settings : DecodeSettings) (st : State) : Type 0 where
   pub lookups : Lookups w b
   pub loading : Loading bytes (st .at)
   pub wide : 0 < settings .columns
   pub narrow : settings .columns < 4294967295
-  pub ordered : st .start ≤ st .base
+  pub placed : Placed (st .reference) (st .base) xs
   pub held : st .base ≤ length xs
-  pub rising : Rising (settings .columns) 0 (stateOf xs st .reference)
+  pub rising : Rising (settings .columns) 0 (stateOf lent xs st .reference)
 
 -- an answer and the store after it are those of an outcome for the row from `base` on
 pub record RowGives (base : ℕ) (xs : List ℕ) (w : RowOut) (r : Row) (ys : List ℕ) : Type 0 where

@@ -1,5 +1,6 @@
 // The settings of a page (lib.rs), the state between its rows, and what one row answers. The rows stand one behind the other in a lent
 // store of changes, and the last kept row is the reference.
+use context::two::Reference;
 ghost use mathlib.Core.Path.{_≡_};
 ghost use Prim.Native.Nat.{_≤_};
 ghost use Rattle.rules.specs.Rows.{alignedIf, finished};
@@ -27,12 +28,12 @@ pub struct DecodeSettings {
     pub plain: bool,
 }
 
-// The next bit, and the rows kept. The reference lies in the store from `start` to `base`, and the next row is written from `base` on.
+// The next bit, the rows kept, and where the reference lies: it is lent, or it lies in the store right before `base`. The next row is written from `base` on.
 // `eols` says whether EOLs are expected, in Group 3 alone.
 pub struct State {
     pub at: usize,
     pub rows: usize,
-    pub start: usize,
+    pub reference: Reference,
     pub base: usize,
     pub eols: bool,
 }
