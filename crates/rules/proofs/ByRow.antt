@@ -160,6 +160,23 @@ never-five S bytes p xs open′ =
     rows (row r mark next) h = λ z. omega arith
     rows (stop n place b loose) h = few-cases S bytes p xs n place b loose (λ w. afterRow p xs w .said .number ≡ 5 → ⊥) (λ z. omega arith) (λ z. omega arith)
 
+-- Where a row is given the arrays have changed places: it lies in the one that it went to. Else the reference is where it was.
+module _ (S : Settings) (bytes : List ℕ) (p : RowState) (xs : Arrays) (listed : (n place b loose : ℕ) → p .end ≡ ended n place b loose → n ≡ moreToCome → ⊥) where
+  abbrev Sided : RowStep → Type 0
+  Sided d = (d .said .number ≡ moreToCome → d .state .side ≡ other (p .side)) × ((d .said .number ≡ moreToCome → ⊥) → d .state .side ≡ p .side)
+
+  pub call-sides : Sided (readRow S bytes p xs)
+  call-sides =
+      call-cases S bytes p xs Sided (λ n place b loose e. (λ z. absurd (listed n place b loose e z), λ h. refl))
+      (λ u e. (λ z. absurd (omega arith), λ h. refl)) (λ u e f. (λ z. absurd (omega arith), λ h. refl)) (λ u e f g. (λ z. absurd (omega arith), λ h. refl)) (λ u e f g c. (λ z. absurd (omega arith), λ h. refl))
+      (λ u e f g wide o q. rows o
+      (subst (Bounded (bitsOf bytes)) q
+      (row-bounded (strictIfExact S) wide (bitsOf bytes) (whole-bytes bytes) (roomIn p xs) (between p xs) (omega (arith, sound-inside S bytes p xs g, length-bitsOf bytes)) (S .encoding))))
+    where
+      rows : (o : RowOut) → Bounded (bitsOf bytes) o → Sided (afterRow p xs (unlessFew S bytes p xs o))
+      rows (row r mark next) h = (λ z. refl, λ ne. absurd (ne refl))
+      rows (stop n place b loose) h = few-cases S bytes p xs n place b loose (λ w. Sided (afterRow p xs w)) (λ z. absurd (omega arith), λ ne. refl) (λ z. absurd (omega arith), λ ne. refl)
+
 -- ---- The arrays
 
 -- a row lies where it was written
@@ -239,6 +256,19 @@ module _ (S : Settings) (wide : 0 < S .columns) (bytes : List ℕ) where
         le-leb (c .state .entries) (mostCounted bytes) (omega (arith, o .counted, length-bitsOf bytes, spared-few (S .encoding) T wide bs (whole-bytes bytes) _ _ 0 (keptOf c) h (o .spared))),
       )
       (rises-ascends (h .reference))
+
+  -- nor do they depend on the array that the row goes to
+  pub own-lent : (c : Caller) → Own c → (ys : Arrays) → arrayAt (c .state .side) ys ≡ arrayAt (c .state .side) (c .arrays) → Own (record { state = c .state; arrays = ys; rows = c .rows; marks = c .marks })
+  own-lent c o ys e =
+      let same : between (c .state) (c .arrays) ≡ between (c .state) ys = ap (λ (l : List ℕ). record { at = c .state .at; reference = take (c .state .held) l; count = c .state .rows; eols = c .state .eols }) (sym e) in
+      record {
+        held = subst (λ (s : State). HeldIn (entries (c .rows)) (length (c .rows)) (record { state = s; rows = c .rows; marks = c .marks })) same (o .held);
+        spared = subst (λ (s : State). Spared (S .encoding) T wide bs (whole-bytes bytes) (record { state = s; rows = c .rows; marks = c .marks })) same (o .spared);
+        unended-yet = o .unended-yet;
+        counted = o .counted;
+        within = subst (λ (l : List ℕ). c .state .held ≤ length l) (sym e) (o .within);
+        short = o .short;
+      }
 
   -- ---- One call
 

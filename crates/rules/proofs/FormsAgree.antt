@@ -233,7 +233,7 @@ module _ (S : Settings) (wide : 0 < S .columns) (bytes : List ℕ) (narrow : too
 -- ---- Page and row form
 
 -- the first call is not refused with 8
-start-sound : (S : Settings) (bytes : List ℕ) (xs : Arrays) → sound S bytes rowStart xs ≡ true
+pub start-sound : (S : Settings) (bytes : List ℕ) (xs : Arrays) → sound S bytes rowStart xs ≡ true
 unfolding sound ascendsFrom
 start-sound S bytes xs = rw (le-leb 0 (8 * length bytes) (omega arith), le-leb 0 (length (xs .second)) (omega arith), le-leb 0 (mostCounted bytes) (omega arith))
 
@@ -302,7 +302,7 @@ module _ (S : Settings) (wide : 0 < S .columns) (bytes : List ℕ) (narrow : too
   abbrev room : ℕ
   room = roomIn (c .state) (c .arrays)
 
-  abbrev anyRoom : ℕ
+  abbrev pub anyRoom : ℕ
   anyRoom = 8 * length bytes + 1
 
   abbrev pub changesHere : List ℕ
@@ -311,7 +311,7 @@ module _ (S : Settings) (wide : 0 < S .columns) (bytes : List ℕ) (narrow : too
   row-with : (n : ℕ) → Does (T S wide bytes) (bs S wide bytes) n (between (c .state) (c .arrays)) (rowAt S wide bytes n (between (c .state) (c .arrays)))
   row-with n = row-does (T S wide bytes) wide (bs S wide bytes) (whole-bytes bytes) n (between (c .state) (c .arrays)) (S .encoding) (o .held .fitting) (o .held .inside)
 
-  few-changes : (n : ℕ) → length (changesIn (rowAt S wide bytes n (between (c .state) (c .arrays)))) ≤ 8 * length bytes
+  pub few-changes : (n : ℕ) → length (changesIn (rowAt S wide bytes n (between (c .state) (c .arrays)))) ≤ 8 * length bytes
   few-changes n = cases (rowAt S wide bytes n (between (c .state) (c .arrays))) (row-with n)
     where
       cases : (w : RowOut) → Does (T S wide bytes) (bs S wide bytes) n (between (c .state) (c .arrays)) w → length (changesIn w) ≤ 8 * length bytes
@@ -324,6 +324,10 @@ module _ (S : Settings) (wide : 0 < S .columns) (bytes : List ℕ) (narrow : too
     where
       cases : (w : RowOut) → length (changesIn w) ≤ 8 * length bytes → RowFills n w → Short w → ⊥
       cases w k f (short {loose = loose}) = omega (arith, k, f refl)
+
+  -- so more room than that gives the same row
+  pub any-row : (n : ℕ) → anyRoom ≤ n → rowAt S wide bytes n (between (c .state) (c .arrays)) ≡ rowAt S wide bytes anyRoom (between (c .state) (c .arrays))
+  any-row n h = sym (same-row S wide bytes narrow size anyRoom n (between (c .state) (c .arrays)) (never anyRoom (omega arith)) (never n h))
 
   short-exactly : (Short (rowIn S wide bytes c) → room < length changesHere) × (room < length changesHere → Short (rowIn S wide bytes c))
   short-exactly = tests (leb room anyRoom) refl

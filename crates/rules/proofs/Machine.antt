@@ -56,6 +56,17 @@ module _ {S A : Type 0} where
     unfolding ends
     ends-ind μ s a e = run-ind (suc (μ s)) s a e
 
+  -- any two numbers of steps that reach an end reach the same
+  pub run-once : (step : S → Out S A) (n m : ℕ) (s : S) (a b : A) → run step n s ≡ done a → run step m s ≡ done b → a ≡ b
+  unfolding run
+  run-once step zero m s a b e f = absurd (let z : _≡_ {A = ℕ} 0 1 = cc in omega arith)
+  run-once step (suc n) zero s a b e f = absurd (let z : _≡_ {A = ℕ} 0 1 = cc in omega arith)
+  run-once step (suc n) (suc m) s a b e f = cases (λ t. run-once step n m t a b) (step s) e f
+    where
+      cases : ((t : S) → run step n t ≡ done a → run step m t ≡ done b → a ≡ b) → (o : Out S A) → andThen o (run step n) ≡ done a → andThen o (run step m) ≡ done b → a ≡ b
+      cases ih (more t) e f = ih t e f
+      cases ih (done c) e f = cc
+
   -- and there is an end
   module _ (step : S → Out S A) (μ : S → ℕ) (falls : Falls step μ) where
     run-stops : (n : ℕ) (s : S) → μ s < n → (a : A) × (run step n s ≡ done a)
