@@ -25,6 +25,9 @@ use Rattle.rules.proofs.Pages.{Onward, Moved, Goes, Does, row-goes, row-does, s
 use Rattle.rules.proofs.Marks.{RowMarked, row-marked}
 use Rattle.rules.proofs.Store.{length-overlaid, overlaid-nothing, overlaid-behind, overlaid-one, length-joined, joined-snoc, length-ends, ends-snoc}
 use Rattle.tables.specs.Tables.{Lookups}
+use Rattle.context.specs.declared.two.Reference.{Reference}
+use Rattle.context.specs.declared.two.Reference.the-variants as Reference
+use Rattle.context.specs.Coding.{Placed}
 use Rattle.error.specs.Error.{answerOf}
 use Rattle.error.specs.declared.Answer.{Answer}
 use Rattle.rows.specs.declared.DecodeSettings.{DecodeSettings}
@@ -96,15 +99,17 @@ module _ (bytes : List ℕ) (settings : DecodeSettings) (size : length bytes ≤
     pub kept : Page.Kept
     pub held : Holds kept
     pub same : ends stepped (rowsLeft bs) kept ≡ ends stepped (rowsLeft bs) noneKept
-    pub state : stateOf ys st ≡ kept .state
+    pub state : stateOf [] ys st ≡ kept .state
     pub base : st .base ≡ entries (kept .rows)
-    pub ordered : st .start ≤ st .base
+    pub from : ℕ
+    pub refers : st .reference ≡ Reference.Kept from
+    pub ordered : from ≤ st .base
     pub changes : ys ≡ overlaid (joined (kept .rows)) xs
     pub row-ends : fs ≡ overlaid (endsFrom 0 (kept .rows)) es
     pub as-many : length (kept .marks) ≡ length (kept .rows)
     pub marks : ns ≡ overlaid (kept .marks) ms
 
-  pub going-start : Going xs es ms (record { at = 0; rows = 0; start = 0; base = 0; eols = false })
+  pub going-start : Going xs es ms (record { at = 0; rows = 0; reference = Reference.Kept 0; base = 0; eols = false })
   unfolding entries joined endsFrom
   going-start = record {
     kept = noneKept;
@@ -112,6 +117,8 @@ module _ (bytes : List ℕ) (settings : DecodeSettings) (size : length bytes ≤
     same = refl;
     state = refl;
     base = refl;
+    from = 0;
+    refers = refl;
     ordered = omega arith;
     changes = sym (overlaid-nothing xs);
     row-ends = sym (overlaid-nothing es);
@@ -129,20 +136,23 @@ module _ (bytes : List ℕ) (settings : DecodeSettings) (size : length bytes ≤
     rows-is : st .rows ≡ length (g .kept .rows)
     rows-is = ap (λ (s : Rule.State). s .count) (g .state) ∙ g .held .counted
 
+    inside : st .base ≤ length ys
+    inside = omega (arith, g .base, g .held .roomy, length-ys)
+
     -- what a row asks
-    pub row-asked : {w b : List ℕ} → Lookups w b → RowFrom w b bytes ys settings st
+    pub row-asked : {w b : List ℕ} → Lookups w b → RowFrom w b bytes [] ys settings st
     row-asked l = record {
       lookups = l;
       loading = record { size = size; inside = omega (arith, ap (λ (s : Rule.State). s .at) (g .state), g .held .inside, length-bitsOf bytes) };
       wide = wide;
       narrow = narrow;
-      ordered = g .ordered;
-      held = omega (arith, g .base, g .held .roomy, length-ys);
+      placed = subst (λ (p : Reference). Placed p (st .base) ys) (sym (g .refers)) (g .ordered, inside);
+      held = inside;
       rising = subst (Rising (settings .columns) 0) (sym (ap (λ (s : Rule.State). s .reference) (g .state))) (g .held .reference);
     }
 
     -- the row of the code is the machine's
-    outcome : rowOf enc S bs (length ys - st .base) (stateOf ys st) ≡ rowOf enc S bs (roomFor enc S wide bs data-bytes (length xs) (placesIn es ms) (g .kept)) (g .kept .state)
+    outcome : rowOf enc S bs (length ys - st .base) (stateOf [] ys st) ≡ rowOf enc S bs (roomFor enc S wide bs data-bytes (length xs) (placesIn es ms) (g .kept)) (g .kept .state)
     outcome = ap₂ (λ (n : ℕ) (s : Rule.State). rowOf enc S bs n s) (ap₂ (λ (a b : ℕ). a - b) length-ys (g .base)) (g .state)
 
     -- the changes behind the rows
@@ -173,11 +183,11 @@ module _ (bytes : List ℕ) (settings : DecodeSettings) (size : length bytes ≤
           marks = g .marks;
         })
 
-    module _ (r : Row) (zs : List ℕ) (o : Rowed bytes ys settings st r zs) where
+    module _ (r : Row) (zs : List ℕ) (o : Rowed bytes [] ys settings st r zs) where
       -- the page has ended
       module _ (n p b m : ℕ) (e : r ≡ Stop n p b m) where
-        s : StopOf n p b m (rowOf enc S bs (length ys - st .base) (stateOf ys st))
-        s = stop-of (rowOf enc S bs (length ys - st .base) (stateOf ys st)) (sym e ∙ o .answer)
+        s : StopOf n p b m (rowOf enc S bs (length ys - st .base) (stateOf [] ys st))
+        s = stop-of (rowOf enc S bs (length ys - st .base) (stateOf [] ys st)) (sym e ∙ o .answer)
 
         stops : rowOf enc S bs (roomFor enc S wide bs data-bytes (length xs) (placesIn es ms) (g .kept)) (g .kept .state) ≡ stop n p b (s .loose)
         stops = sym outcome ∙ s .is
@@ -190,8 +200,8 @@ module _ (bytes : List ℕ) (settings : DecodeSettings) (size : length bytes ≤
 
       -- a row
       module _ (count mark at : ℕ) (eols : Bool) (e : r ≡ Kept count mark at eols) where
-        t : RowIs count mark at eols (rowOf enc S bs (length ys - st .base) (stateOf ys st))
-        t = row-of (rowOf enc S bs (length ys - st .base) (stateOf ys st)) (sym e ∙ o .answer)
+        t : RowIs count mark at eols (rowOf enc S bs (length ys - st .base) (stateOf [] ys st))
+        t = row-of (rowOf enc S bs (length ys - st .base) (stateOf [] ys st)) (sym e ∙ o .answer)
 
         reads : rowOf enc S bs (roomFor enc S wide bs data-bytes (length xs) (placesIn es ms) (g .kept)) (g .kept .state) ≡ row (t .changes) mark (t .next)
         reads = sym outcome ∙ t .is
@@ -234,7 +244,7 @@ module _ (bytes : List ℕ) (settings : DecodeSettings) (size : length bytes ≤
             few-entries = omega (arith, more-entries, held-entries enc S wide bs data-bytes (length xs) (placesIn es ms) next holds, bits);
           }
 
-          state-next : stateOf zs (behindRow st count at eols) ≡ t .next
+          state-next : stateOf [] zs (behindRow st count at eols) ≡ t .next
           unfolding t overlaid
           state-next = λ i. record {
             at = sym (t .at-is) i;
@@ -263,6 +273,8 @@ module _ (bytes : List ℕ) (settings : DecodeSettings) (size : length bytes ≤
             same = sym (ends-more stepped (rowsLeft bs) (page-falls enc S wide bs data-bytes (length xs) (placesIn es ms)) (g .kept) next stepping) ∙ g .same;
             state = state-next;
             base = sym more-entries;
+            from = st .base;
+            refers = refl;
             ordered = omega arith;
             changes = stored ∙ ap (λ (l : List ℕ). overlaid l xs) (sym (joined-snoc (g .kept .rows) (t .changes)));
             row-ends = set-end;
@@ -302,14 +314,14 @@ abbrev pub turnsLeft : List ℕ → State → ℕ
 turnsLeft bytes st = length (bitsOf bytes) - st .at + cond (eqb (st .rows) 0) 1 0
 
 pub turn-start : {w b : List ℕ} (bytes : List ℕ) (settings : DecodeSettings) (xs es ms : List ℕ) → PageFrom w b bytes settings
-    → Turn bytes settings xs es ms xs es ms (record { at = 0; rows = 0; start = 0; base = 0; eols = false })
+    → Turn bytes settings xs es ms xs es ms (record { at = 0; rows = 0; reference = Reference.Kept 0; base = 0; eols = false })
 turn-start bytes settings xs es ms p = record { size = p .size; wide = p .wide; narrow = p .narrow; going = going-start bytes settings (p .size) (p .wide) (p .narrow) xs es ms; same-changes = refl; same-ends = refl; same-marks = refl }
 
 module _ {bytes : List ℕ} {settings : DecodeSettings} {xs es ms ys fs ns : List ℕ} {st : State} (t : Turn bytes settings xs es ms ys fs ns st) where
-  pub turn-asked : {w b : List ℕ} → Lookups w b → RowFrom w b bytes ys settings st
+  pub turn-asked : {w b : List ℕ} → Lookups w b → RowFrom w b bytes [] ys settings st
   turn-asked l = row-asked bytes settings (t .size) (t .wide) (t .narrow) xs es ms ys fs ns st (t .going) l
 
-  module _ {r : Row} {zs : List ℕ} (o : Rowed bytes ys settings st r zs) where
+  module _ {r : Row} {zs : List ℕ} (o : Rowed bytes [] ys settings st r zs) where
     pub turn-stopped : {n p b m : ℕ} → r ≡ Stop n p b m → Reads bytes settings xs es ms (counted n p (st .rows) (st .base) m b) zs fs ns
     turn-stopped {n} {p} {b} {m} e =
         stopped-gives bytes settings (t .size) (t .wide) (t .narrow) xs es ms ys fs ns st (t .going) r zs o n p b m e
@@ -399,20 +411,20 @@ by-encoding Group4 S bs room st = refl
 by-encoding «Group3_1D» S bs room st = refl
 by-encoding «Group3_2D» S bs room st = refl
 
-module _ (bytes xs : List ℕ) (settings : DecodeSettings) (st : State) {r : Row} {ys : List ℕ} where
-  rowed : (e : EncodingMode) → settings .encoding ≡ e → RowGives (st .base) xs (byEncoding e (settingsOf settings) (bitsOf bytes) (length xs - st .base) (stateOf xs st)) r ys → Rowed bytes xs settings st r ys
+module _ (bytes lent xs : List ℕ) (settings : DecodeSettings) (st : State) {r : Row} {ys : List ℕ} where
+  rowed : (e : EncodingMode) → settings .encoding ≡ e → RowGives (st .base) xs (byEncoding e (settingsOf settings) (bitsOf bytes) (length xs - st .base) (stateOf lent xs st)) r ys → Rowed bytes lent xs settings st r ys
   rowed e q g =
-      subst (λ (d : EncodingMode). RowGives (st .base) xs (rowOf (encodingOf d) (settingsOf settings) (bitsOf bytes) (length xs - st .base) (stateOf xs st)) r ys) (sym q)
-      (subst (λ (w : RowOut). RowGives (st .base) xs w r ys) (by-encoding e (settingsOf settings) (bitsOf bytes) (length xs - st .base) (stateOf xs st)) g)
+      subst (λ (d : EncodingMode). RowGives (st .base) xs (rowOf (encodingOf d) (settingsOf settings) (bitsOf bytes) (length xs - st .base) (stateOf lent xs st)) r ys) (sym q)
+      (subst (λ (w : RowOut). RowGives (st .base) xs w r ys) (by-encoding e (settingsOf settings) (bitsOf bytes) (length xs - st .base) (stateOf lent xs st)) g)
 
-  pub rowed-4 : settings .encoding ≡ Group4 → RowGives (st .base) xs (row4 (settingsOf settings) (bitsOf bytes) (length xs - st .base) (stateOf xs st)) r ys → Rowed bytes xs settings st r ys
+  pub rowed-4 : settings .encoding ≡ Group4 → RowGives (st .base) xs (row4 (settingsOf settings) (bitsOf bytes) (length xs - st .base) (stateOf lent xs st)) r ys → Rowed bytes lent xs settings st r ys
   unfolding byEncoding
   rowed-4 q g = rowed Group4 q g
 
-  pub rowed-1D : settings .encoding ≡ «Group3_1D» → RowGives (st .base) xs (row3 (settingsOf settings) (taggingOf (settings .encoding)) (bitsOf bytes) (length xs - st .base) (stateOf xs st)) r ys → Rowed bytes xs settings st r ys
+  pub rowed-1D : settings .encoding ≡ «Group3_1D» → RowGives (st .base) xs (row3 (settingsOf settings) (taggingOf (settings .encoding)) (bitsOf bytes) (length xs - st .base) (stateOf lent xs st)) r ys → Rowed bytes lent xs settings st r ys
   unfolding byEncoding
-  rowed-1D q g = rowed «Group3_1D» q (subst (λ (d : EncodingMode). RowGives (st .base) xs (row3 (settingsOf settings) (taggingOf d) (bitsOf bytes) (length xs - st .base) (stateOf xs st)) r ys) q g)
+  rowed-1D q g = rowed «Group3_1D» q (subst (λ (d : EncodingMode). RowGives (st .base) xs (row3 (settingsOf settings) (taggingOf d) (bitsOf bytes) (length xs - st .base) (stateOf lent xs st)) r ys) q g)
 
-  pub rowed-2D : settings .encoding ≡ «Group3_2D» → RowGives (st .base) xs (row3 (settingsOf settings) (taggingOf (settings .encoding)) (bitsOf bytes) (length xs - st .base) (stateOf xs st)) r ys → Rowed bytes xs settings st r ys
+  pub rowed-2D : settings .encoding ≡ «Group3_2D» → RowGives (st .base) xs (row3 (settingsOf settings) (taggingOf (settings .encoding)) (bitsOf bytes) (length xs - st .base) (stateOf lent xs st)) r ys → Rowed bytes lent xs settings st r ys
   unfolding byEncoding
-  rowed-2D q g = rowed «Group3_2D» q (subst (λ (d : EncodingMode). RowGives (st .base) xs (row3 (settingsOf settings) (taggingOf d) (bitsOf bytes) (length xs - st .base) (stateOf xs st)) r ys) q g)
+  rowed-2D q g = rowed «Group3_2D» q (subst (λ (d : EncodingMode). RowGives (st .base) xs (row3 (settingsOf settings) (taggingOf d) (bitsOf bytes) (length xs - st .base) (stateOf lent xs st)) r ys) q g)

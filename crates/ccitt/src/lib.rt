@@ -1,15 +1,40 @@
 // The page form (`decode` of lib.rs): all three encodings, one loop, rows kept in lent arrays.
+use context::two::Reference;
 use error::Answer;
 use rows::DecodeSettings;
 use rows::EncodingMode;
 use rows::Row;
 use rows::State;
 ghost use mathlib.Core.Path.{_≡_};
+ghost use mathlib.Core.List.{[]};
 ghost use Prim.Native.Nat.{min};
+ghost use Rattle.rules.specs.Pages.{tooFew};
+ghost use Rattle.rows.specs.Settings.{settingsOf};
 ghost use Rattle.rows.specs.Between.{RowFrom};
 ghost use Rattle.ccitt.specs.Decode.{Rowed, counted, behindRow, Behind, PageFrom, Reads, strictFor, shortFor, Decodes};
 
-// What one row does, by the encoding.
+// What one row does, by the encoding, where the reference is lent or lies in the store.
+pub fn row_under<'a>(
+    white: &'a [u16; 8192],
+    black: &'a [u16; 8192],
+    src: &[u8],
+    settings: DecodeSettings,
+    lent: &[u32],
+    changes: &mut [u32],
+    state: State,
+) -> Row
+    requires { ⌜ RowFrom (now white) (now black) (now src) (now lent) (now changes) settings state ⌝ }
+    ensures { λ r. ⌜ Rowed (now (src .entry)) (now (lent .entry)) (now (changes .entry)) settings state r (now (changes .exit)) ⌝ }
+{
+    let encoding = settings.encoding;
+    match encoding {
+        EncodingMode::Group4 => group4::row(white, black, src, settings, lent, changes, state),
+        EncodingMode::Group3_1D => group3::row(white, black, src, settings, lent, changes, state),
+        EncodingMode::Group3_2D => group3::row(white, black, src, settings, lent, changes, state),
+    }
+}
+
+// The reference lies in the store, so none is lent.
 fn row<'a>(
     white: &'a [u16; 8192],
     black: &'a [u16; 8192],
@@ -18,15 +43,11 @@ fn row<'a>(
     changes: &mut [u32],
     state: State,
 ) -> Row
-    requires { ⌜ RowFrom (now white) (now black) (now src) (now changes) settings state ⌝ }
-    ensures { λ r. ⌜ Rowed (now (src .entry)) (now (changes .entry)) settings state r (now (changes .exit)) ⌝ }
+    requires { ⌜ RowFrom (now white) (now black) (now src) [] (now changes) settings state ⌝ }
+    ensures { λ r. ⌜ Rowed (now (src .entry)) [] (now (changes .entry)) settings state r (now (changes .exit)) ⌝ }
 {
-    let encoding = settings.encoding;
-    match encoding {
-        EncodingMode::Group4 => group4::row(white, black, src, settings, changes, state),
-        EncodingMode::Group3_1D => group3::row(white, black, src, settings, changes, state),
-        EncodingMode::Group3_2D => group3::row(white, black, src, settings, changes, state),
-    }
+    let lent: [u32; 0] = [];
+    row_under(white, black, src, settings, &lent, changes, state)
 }
 
 // A count in the 64 bits that a row end has: more than 32, since a page may have more entries than those can count (A4).
@@ -66,7 +87,7 @@ fn behind(state: State, count: usize, at: usize, eols: bool) -> State
     State {
         at: at,
         rows: state.rows + 1,
-        start: state.base,
+        reference: Reference::Kept(state.base),
         base: state.base + count,
         eols: eols,
     }
@@ -95,7 +116,7 @@ fn page<'a>(
     let mut state = State {
         at: 0,
         rows: 0,
-        start: 0,
+        reference: Reference::Kept(0),
         base: 0,
         eols: false,
     };
@@ -118,7 +139,7 @@ fn page<'a>(
 }
 
 // How a page is read: exact implies strict (A12).
-fn strict_if_exact(settings: DecodeSettings) -> DecodeSettings
+pub fn strict_if_exact(settings: DecodeSettings) -> DecodeSettings
     ensures { λ r. ⌜ r ≡ strictFor settings ⌝ }
 {
     DecodeSettings {
@@ -138,17 +159,24 @@ fn strict_if_exact(settings: DecodeSettings) -> DecodeSettings
     }
 }
 
-// A page that an exact reading ends with too few rows keeps them, and answers 14 with no bytes.
+// Whether an exact reading ends a page with too few rows.
+pub fn is_short(settings: DecodeSettings, number: u32, rows: u64) -> bool
+    ensures { λ r. ⌜ r ≡ tooFew (settingsOf settings) number rows ⌝ }
+{
+    if !settings.exact {
+        return false;
+    }
+    if number != 0 {
+        return false;
+    }
+    rows < settings.rows as u64
+}
+
+// It keeps them, and answers 14 with no bytes.
 fn unless_short(settings: DecodeSettings, answer: Answer) -> Answer
     ensures { λ r. ⌜ r ≡ shortFor settings answer ⌝ }
 {
-    if !settings.exact {
-        return answer;
-    }
-    if answer.number != 0 {
-        return answer;
-    }
-    if settings.rows as u64 <= answer.rows {
+    if !is_short(settings, answer.number, answer.rows) {
         return answer;
     }
     Answer {
