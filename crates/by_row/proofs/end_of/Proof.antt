@@ -1,0 +1,33 @@
+use mathlib.Core.Logic.{inl, inr}
+use mathlib.Core.Path.{_≡_, ap}
+use Prim.Native.Nat.{ℕ}
+use native.Mathlib.Omega.{arith}
+use Rattle.rules.specs.ByRow.{ended}
+use Rattle.by_row.specs.ByRow.{Ending}
+use Rattle.by_row.proofs.end_of.Statement.{statement}
+use Rattle.by_row.proofs.end_of.Tie as tie
+
+returns : tie.Need-returns
+returns c = let a = c .before .args in ap (λ (n : ℕ). ended n (a .place) (a .bytes) (a .loose)) (let q : 0 ≡ a .number = omega arith in q)
+
+returns-2 : tie.Need-returns-2
+returns-2 c = let a = c .before .args in ap (λ (n : ℕ). ended n (a .place) (a .bytes) (a .loose)) (let q : 1 ≡ a .number = omega arith in q)
+
+returns-3 : tie.Need-returns-3
+returns-3 c = let a = c .before .args in ap (λ (n : ℕ). ended n (a .place) (a .bytes) (a .loose)) (let q : 2 ≡ a .number = omega arith in q)
+
+returns-4 : tie.Need-returns-4
+returns-4 c = let a = c .before .args in ap (λ (n : ℕ). ended n (a .place) (a .bytes) (a .loose)) (let q : 3 ≡ a .number = omega arith in q)
+
+returns-5 : tie.Need-returns-5
+returns-5 c = let a = c .before .args in ap (λ (n : ℕ). ended n (a .place) (a .bytes) (a .loose)) (let q : 4 ≡ a .number = omega arith in q)
+
+returns-6 : tie.Need-returns-6
+returns-6 c = let a = c .before .args in ap (λ (n : ℕ). ended n (a .place) (a .bytes) (a .loose)) (last (c .before .pre))
+  where
+    last : Ending (c .before .args .number) → 14 ≡ c .before .args .number
+    last (inl few) = absurd (omega arith)
+    last (inr short) = omega arith
+
+pub end-of-spec : {M : Type 1} → statement M
+end-of-spec = tie.close (tie.spec returns returns-2 returns-3 returns-4 returns-5 returns-6)

@@ -1,0 +1,310 @@
+// The row form (02, A1): one row a call, into one of two lent line arrays, under the row that the call before it left in the other. The same
+// two arrays are lent in the same order at each call, and the state is handed back as left.
+use context::reference;
+use context::two::Reference;
+use error::Answer;
+use rows::DecodeSettings;
+use rows::Row;
+use rows::State;
+ghost use mathlib.Core.Path.{_≡_};
+ghost use Prim.Native.Nat.{_≤_};
+ghost use lib.ListN.{length};
+ghost use Rattle.rules.specs.Pages.{mostBytes};
+ghost use Rattle.rules.specs.ByRow.{ended, rowStart};
+ghost use Rattle.by_row.specs.ByRow.{otherSide, endOf, Ending, rowStateOf, toldFor, saidFor, refusedFor, noneFor, soundFor, Grows, givenFor, Ends, NextFrom, Next, Tested, ReadsRow};
+
+// One of the two line arrays.
+pub enum Side {
+    First,
+    Second,
+}
+
+// The page goes on; or it has ended with a number of the list, so that no other can be repeated: 0 to 4, and 14. Each has the bit at fault,
+// the bytes, and the loose entries.
+pub enum End {
+    Unended,
+    Done(usize, usize, usize),
+    InvalidCode(usize, usize, usize),
+    UnexpectedEof(usize, usize, usize),
+    Overflow(usize, usize, usize),
+    NoRoom(usize, usize, usize),
+    Short(usize, usize, usize),
+}
+
+// What a call hands back and the next one takes: the next bit, the rows given and the entries in them, whether EOLs are expected, and the
+// reference, which is the first `held` entries of the array `side`.
+pub struct RowState {
+    pub at: usize,
+    pub rows: usize,
+    pub entries: usize,
+    pub eols: bool,
+    pub side: Side,
+    pub held: usize,
+    pub end: End,
+}
+
+// What a call says. The changes that it speaks of are the first `count` entries of `array`: with 15 the row, of the answer's mark; at the
+// page's end the loose entries.
+pub struct RowStep {
+    pub answer: Answer,
+    pub array: Side,
+    pub count: usize,
+    pub state: RowState,
+}
+
+// Before a page's first call, which gives its row in the first array.
+pub fn row_start() -> RowState
+    ensures { λ r. ⌜ rowStateOf r ≡ rowStart ⌝ }
+{
+    RowState {
+        at: 0,
+        rows: 0,
+        entries: 0,
+        eols: false,
+        side: Side::Second,
+        held: 0,
+        end: End::Unended,
+    }
+}
+
+fn other(side: Side) -> Side
+    ensures { λ r. ⌜ r ≡ otherSide side ⌝ }
+{
+    match side {
+        Side::First => Side::Second,
+        Side::Second => Side::First,
+    }
+}
+
+// What is said of the array that the next row goes to.
+fn told(answer: Answer, count: usize, state: RowState) -> RowStep
+    ensures { λ r. ⌜ r ≡ toldFor answer count state ⌝ }
+{
+    let side = state.side;
+    RowStep {
+        answer,
+        array: other(side),
+        count,
+        state,
+    }
+}
+
+// A page's end, with the counts that stand.
+fn said(number: u32, place: usize, bytes: usize, loose: usize, state: RowState) -> RowStep
+    ensures { λ r. ⌜ r ≡ saidFor number place bytes loose state ⌝ }
+{
+    let answer = Answer {
+        number,
+        mark: 0,
+        rows: state.rows as u64,
+        entries: state.entries as u64,
+        loose: loose as u64,
+        bytes: bytes as u64,
+        place: place as u64,
+    };
+    told(answer, loose, state)
+}
+
+// A refusal does not end the page.
+fn refused(number: u32, state: RowState) -> RowStep
+    ensures { λ r. ⌜ r ≡ refusedFor number state ⌝ }
+{
+    told(error::refusal(number), 0, state)
+}
+
+// No columns, no rows: also where rows were given under another width.
+fn no_columns(state: RowState) -> RowStep
+    ensures { λ r. ⌜ r ≡ noneFor state ⌝ }
+{
+    let side = state.side;
+    let ended = RowState {
+        at: state.at,
+        rows: 0,
+        entries: 0,
+        eols: state.eols,
+        side,
+        held: state.held,
+        end: End::Done(0, 0, 0),
+    };
+    said(0, 0, 0, 0, ended)
+}
+
+// The state's own tests, of 8.
+fn is_sound(size: usize, columns: u32, state: RowState, array: &[u32]) -> bool
+    requires { ⌜ size ≤ mostBytes ⌝ }
+    ensures { λ r. ⌜ r ≡ soundFor size columns state (now (array .entry)) ⌝ }
+{
+    if 8 * size < state.at {
+        return false;
+    }
+    let most = 8 * size + 1;
+    if array.len() < state.held {
+        return false;
+    }
+    if most < state.held {
+        return false;
+    }
+    if most < state.rows {
+        return false;
+    }
+    if most < state.entries {
+        return false;
+    }
+    let held = state.held;
+    reference::ascends(&array[..held], columns)
+}
+
+// The row, which is the next reference.
+fn given(state: RowState, count: usize, mark: u32, at: usize, eols: bool) -> RowStep
+    requires { ⌜ Grows state count ⌝ }
+    ensures { λ r. ⌜ r ≡ givenFor state count mark at eols ⌝ }
+{
+    let side = state.side;
+    let array = other(side);
+    let rows = state.rows + 1;
+    let entries = state.entries + count;
+    RowStep {
+        answer: Answer {
+            number: 15,
+            mark,
+            rows: rows as u64,
+            entries: entries as u64,
+            loose: 0,
+            bytes: 0,
+            place: 0,
+        },
+        array,
+        count,
+        state: RowState {
+            at,
+            rows,
+            entries,
+            eols,
+            side: array,
+            held: count,
+            end: End::Unended,
+        },
+    }
+}
+
+fn end_of(number: u32, place: usize, bytes: usize, loose: usize) -> End
+    requires { ⌜ Ending number ⌝ }
+    ensures { λ r. ⌜ endOf r ≡ ended number place bytes loose ⌝ }
+{
+    match number {
+        0 => End::Done(place, bytes, loose),
+        1 => End::InvalidCode(place, bytes, loose),
+        2 => End::UnexpectedEof(place, bytes, loose),
+        3 => End::Overflow(place, bytes, loose),
+        4 => End::NoRoom(place, bytes, loose),
+        _ => End::Short(place, bytes, loose),
+    }
+}
+
+fn ends(state: RowState, number: u32, place: usize, bytes: usize, loose: usize) -> RowStep
+    requires { ⌜ Ending number ⌝ }
+    ensures { λ r. ⌜ Ends state number place bytes loose r ⌝ }
+{
+    let side = state.side;
+    let ended = RowState {
+        at: state.at,
+        rows: state.rows,
+        entries: state.entries,
+        eols: state.eols,
+        side,
+        held: state.held,
+        end: end_of(number, place, bytes, loose),
+    };
+    said(number, place, bytes, loose, ended)
+}
+
+// The row under the reference, which lies in an array of its own. The lookup tables are made here, once the tests are passed: a constant
+// is built anew wherever it is used.
+fn next_row(
+    src: &[u8],
+    settings: DecodeSettings,
+    state: RowState,
+    reference: &[u32],
+    changes: &mut [u32],
+) -> RowStep
+    requires { ⌜ NextFrom (now src) settings ⌝ }
+    ensures { λ r. ⌜ Next (now (src .entry)) settings state (now (reference .entry)) (now (changes .entry)) r (now (changes .exit)) ⌝ }
+{
+    if !is_sound(src.len(), settings.columns, state, reference) {
+        return refused(8, state);
+    }
+    if settings.columns == 0 {
+        return no_columns(state);
+    }
+    let white = tables::white_lookup();
+    let black = tables::black_lookup();
+    let held = state.held;
+    let between = State {
+        at: state.at,
+        rows: state.rows,
+        reference: Reference::Lent,
+        base: 0,
+        eols: state.eols,
+    };
+    match ccitt::row_under(
+        &white,
+        &black,
+        src,
+        ccitt::strict_if_exact(settings),
+        &reference[..held],
+        changes,
+        between,
+    ) {
+        Row::Kept(count, mark, at, eols) => given(state, count, mark, at, eols),
+        Row::Stop(number, place, bytes, loose) => {
+            if ccitt::is_short(settings, number, state.rows as u64) {
+                return ends(state, 14, 0, 0, loose);
+            }
+            ends(state, number, place, bytes, loose)
+        }
+    }
+}
+
+fn tested(
+    src: &[u8],
+    settings: DecodeSettings,
+    state: RowState,
+    first: &mut [u32],
+    second: &mut [u32],
+) -> RowStep
+    ensures { λ r. ⌜ Tested (now (src .entry)) settings state (now (first .entry)) (now (second .entry)) r (now (first .exit)) (now (second .exit)) ⌝ }
+{
+    if settings.columns == 4294967295 {
+        return refused(6, state);
+    }
+    if 4294967296 < src.len() {
+        return refused(7, state);
+    }
+    let side = state.side;
+    match side {
+        Side::First => next_row(src, settings, state, first, second),
+        Side::Second => next_row(src, settings, state, second, first),
+    }
+}
+
+// A row, or the page's end; after the end, that again, whatever else is lent.
+pub fn read_row(
+    src: &[u8],
+    settings: DecodeSettings,
+    state: RowState,
+    first: &mut [u32],
+    second: &mut [u32],
+) -> RowStep
+    ensures { λ r. ⌜ ReadsRow (now (src .entry)) settings state (now (first .entry)) (now (second .entry)) r (now (first .exit)) (now (second .exit)) ⌝ }
+{
+    let end = state.end;
+    match end {
+        End::Unended => tested(src, settings, state, first, second),
+        End::Done(place, bytes, loose) => said(0, place, bytes, loose, state),
+        End::InvalidCode(place, bytes, loose) => said(1, place, bytes, loose, state),
+        End::UnexpectedEof(place, bytes, loose) => said(2, place, bytes, loose, state),
+        End::Overflow(place, bytes, loose) => said(3, place, bytes, loose, state),
+        End::NoRoom(place, bytes, loose) => said(4, place, bytes, loose, state),
+        End::Short(place, bytes, loose) => said(14, place, bytes, loose, state),
+    }
+}
