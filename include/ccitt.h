@@ -11,8 +11,8 @@
            its mark;
            6 columns 4294967295 (for one line or a writer also 0); 7 data or output above 4294967296 bytes;
            8 a row or reference that does not ascend strictly below the columns, or row ends that fall or pass the array; 9 the bits do not fit;
-           14 an exact page that ends with fewer rows than it is to have.
-   mark:    for one line read whole its mark: 0 clean, 1 cut to the width; else 0.
+           14 an exact page that ends with fewer rows than it is to have; 15 a row was read, and there may be more.
+   mark:    for a form that gives one row its mark: 0 clean, 1 cut to the width, 2 recovered; else 0.
    rows:    rows kept. Row n's changes lie in `changes` from ends[n - 1] (0 for the first) to ends[n].
    entries: entries in kept rows.
    loose:   entries behind them that belong to an unfinished row.
@@ -53,6 +53,23 @@ ccitt_answer ccitt_decode_group3_2d(const uint8_t *src, size_t src_len, uint32_t
 /* One 2D line that begins at bit `at`, under a reference. */
 ccitt_answer ccitt_read_line(const uint8_t *src, size_t src_len, uint64_t at, uint32_t columns, bool strict,
                              const uint32_t *reference, size_t reference_len, uint32_t *changes, size_t changes_len);
+
+/* A page a row at a time: one row a call, into one of two line arrays, without a store for the page. Lend the same two arrays and the same ten numbers
+   of state at each call, and leave them as they were left; before the page's first call the numbers are all 0. encoding: 0 Group 4, 1 Group 3 1D, 2 Group 3 2D.
+   number: 15 a row was read, and there may be more: CCITT_ROW(state, first, second) points at its changes, CCITT_ROW_LENGTH(state) says how many they are, mark
+           is its mark, and rows and entries count what was given so far. 0 to 4 and 14 are the page's end: 0 to 3 and 14 as of a page, 4 where the row has
+           more changes than the array it goes to holds. The entries of an unfinished row, if any, are the first `loose` of CCITT_LOOSE(state, first, second).
+           n rows take n + 1 calls. A call after the end answers the same again and writes nothing, whatever else it is lent.
+           6 and 7 as of a page; 8 a state that no call left (another length, or numbers that no state has; a bit past the data, a count past its array or past
+           8 x bytes + 1), a reference that does not ascend strictly below the columns, or another encoding. These do not end the page and change nothing. */
+#define CCITT_ROW_STATE 10
+#define CCITT_ROW(state, first, second) ((state)[0] == 1 ? (first) : (second))
+#define CCITT_ROW_LENGTH(state) ((state)[1])
+#define CCITT_LOOSE(state, first, second) ((state)[0] == 1 ? (second) : (first))
+
+ccitt_answer ccitt_read_row(const uint8_t *src, size_t src_len, uint32_t columns, uint32_t rows, bool end_of_block, bool end_of_line,
+                            bool rows_are_byte_aligned, uint32_t encoding, bool strict, bool exact, bool plain, uint64_t *state,
+                            size_t state_len, uint32_t *first, size_t first_len, uint32_t *second, size_t second_len);
 
 /* Writes a row as one T.6 line under a reference, from bit `at` of out on. The bits before it and the bytes behind it stay; the unused bits of its
    last byte become 0. */
