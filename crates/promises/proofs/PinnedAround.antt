@@ -1,17 +1,48 @@
 -- The contracts of the functions for C, of the lent line and of the desk's settle their answers and the arrays after them. Assumes nothing.
+use mathlib.Core.Path.{_≡_, sym, ap, _∙_, subst}
+use mathlib.Core.Logic.{inl, inr}
 use mathlib.Core.Bool.{false}
 use Rattle.rows.specs.declared.EncodingMode.the-variants.{Group4}
+use Rattle.rows.specs.declared.DecodeSettings.{DecodeSettings}
+use Rattle.by_row.specs.declared.RowState.{RowState}
+use Rattle.by_row.specs.declared.RowStep.{RowStep}
+use Rattle.by_row.specs.ByRow.{ReadsRow}
 use Rattle.exports.specs.Exports.{settingsFor}
+use Rattle.exports.specs.RowState.{modeOf, numbersOf, Called, ReadsRowForC}
+use Rattle.exports.proofs.RowState.{same-numbers}
 use Rattle.desk.proofs.Standing.{says-once}
-use Rattle.promises.specs.PinnedAround.{ForCGroup4Pinned, ForCGroup3Pinned, PushLinePinned, ParsePinned, PrintsPinned}
+use Rattle.promises.specs.PinnedAround.{ForCGroup4Pinned, ForCGroup3Pinned, ForCRowPinned, PushLinePinned, ParsePinned, PrintsPinned}
 use Rattle.promises.proofs.OneAnswer.{settled-with}
 use Rattle.promises.proofs.Pinned.{decode-pinned, push-pinned}
+use Rattle.promises.proofs.ByRow.{read-row-pinned}
 
 pub for-c-group3-pinned : ForCGroup3Pinned
 for-c-group3-pinned encoding src columns rows block line aligned strict exact plain = decode-pinned src (settingsFor columns rows block line aligned encoding strict exact plain)
 
 pub for-c-group4-pinned : ForCGroup4Pinned
 for-c-group4-pinned src columns rows block aligned strict exact plain = for-c-group3-pinned Group4 src columns rows block false aligned strict exact plain
+
+pub for-c-row-pinned : ForCRowPinned
+for-c-row-pinned src columns rows block line aligned encoding strict exact plain state first second r s xs ys es fs ms ns = cases
+  where
+    S : DecodeSettings
+    S = settingsFor columns rows block line aligned (modeOf encoding) strict exact plain
+
+    same : Called src S encoding state first second r xs es ms → Called src S encoding state first second s ys fs ns → (r ≡ s) × (xs ≡ ys) × (es ≡ fs) × (ms ≡ ns)
+    same g h =
+        let states : h .state ≡ g .state = same-numbers (h .state) (g .state) (h .fits .is ∙ sym (g .fits .is)) in
+        let once = read-row-pinned src S (g .state) first second (g .step) (h .step) es fs ms ns (g .reads) (subst (λ (st : RowState). ReadsRow src S st first second (h .step) fs ns) states (h .reads)) in (
+          g .answer ∙ ap (λ (t : RowStep). t .answer) (once .0) ∙ sym (h .answer),
+          g .handed-back ∙ ap (λ (t : RowStep). numbersOf (t .state)) (once .0) ∙ sym (h .handed-back),
+          once .1,
+          once .2,
+        )
+
+    cases : ReadsRowForC src S encoding state first second r xs es ms → ReadsRowForC src S encoding state first second s ys fs ns → (r ≡ s) × (xs ≡ ys) × (es ≡ fs) × (ms ≡ ns)
+    cases (inl g) (inl h) = same g h
+    cases (inl g) (inr h) = absurd (h .none (g .state) (g .fits))
+    cases (inr g) (inl h) = absurd (g .none (h .state) (h .fits))
+    cases (inr g) (inr h) = (g .answer ∙ sym (h .answer), g .same-numbers ∙ sym (h .same-numbers), g .same-first ∙ sym (h .same-first), g .same-second ∙ sym (h .same-second))
 
 pub push-line-pinned : PushLinePinned
 push-line-pinned xs l count strict r s ys zs g h =

@@ -12,14 +12,14 @@ use Rattle.rules.proofs.Store.{length-joined}
 use Rattle.rules.proofs.Within as W
 use Rattle.rules.proofs.Within.{within, front-joined, front-ends}
 use Rattle.rules.proofs.Marks.{decode-came, came-as-many}
-use Rattle.rules.proofs.Rooms.{decode-within, decode-front, decode-spent, four-wants, five-wants, four-never, five-never, one-within, one-front, one-spent, one-wants, one-never}
+use Rattle.rules.proofs.Rooms.{decode-within, decode-front, decode-spent, four-wants, five-wants, four-never, four-never-more, five-never, one-within, one-front, one-spent, one-wants, one-never}
 use Rattle.rules.specs.Lines.{headOr}
 use Rattle.error.specs.Error.{rowAnswerOf}
 use Rattle.error.specs.declared.Answer.{Answer}
 use Rattle.rows.specs.declared.DecodeSettings.{DecodeSettings}
 use Rattle.rows.specs.Settings.{settingsOf}
 use Rattle.ccitt.specs.Decode.{Gives}
-use Rattle.promises.specs.Rooms.{Call, places, rowsOf, marksOf, looseOf, handed, Front, Roomier, FourFills, FiveFills, FourGoesOn, FiveGoesOn, SmallerRoom, SmallerRoomIsFront, RoomEnough, LineCall, asCall, LineReading, LineFourFills, LineFourGoesOn, SmallerLine, SmallerLineIsFront, LineRoomEnough}
+use Rattle.promises.specs.Rooms.{Call, places, rowsOf, marksOf, looseOf, handed, Front, Roomier, FourFills, FiveFills, FourGoesOn, FiveGoesOn, SmallerRoom, SmallerRoomIsFront, RoomEnough, EntryForEachBit, LineCall, asCall, LineReading, LineFourFills, LineFourGoesOn, SmallerLine, SmallerLineIsFront, LineRoomEnough}
 use Rattle.promises.proofs.Demand1.{changes-front, ends-front, marks-front, in-store}
 
 -- ---- What a call handed over
@@ -41,10 +41,10 @@ module _ (a : Page.Answer) (c : Call) (given : Answered a c) where
   loose-count : c .answer .loose ≡ length (a .loose)
   loose-count = ap (λ (x : Answer). x .loose) (given .answer)
 
-  rows-are : rowsOf c ≡ a .rows
+  pub rows-are : rowsOf c ≡ a .rows
   rows-are = in-store a (c .changes) (c .ends) (c .marks) (c .answer) (c .changes′) (c .ends′) (c .marks′) given
 
-  loose-are : looseOf c ≡ a .loose
+  pub loose-are : looseOf c ≡ a .loose
   unfolding changesAfter overlaid
   loose-are =
       ap (λ (l : List ℕ). take (c .answer .loose) (drop (c .answer .entries) l)) (given .changes ∙ append-assoc (joined (a .rows)) (a .loose) _)
@@ -53,7 +53,7 @@ module _ (a : Page.Answer) (c : Call) (given : Answered a c) where
 
   -- as many marks as rows
   module _ (as-many : length (a .marks) ≡ length (a .rows)) where
-    marks-are : marksOf c ≡ a .marks
+    pub marks-are : marksOf c ≡ a .marks
     marks-are = marks-front a (c .changes) (c .ends) (c .marks) (c .answer) (c .changes′) (c .ends′) (c .marks′) given as-many
 
     handed-is : handed c ≡ a
@@ -128,11 +128,11 @@ cut-gives store places a b small large given later as-many e =
 -- ---- The page form
 
 module _ (bytes : List ℕ) (settings : DecodeSettings) where
-  abbrev answerIn : Call → Page.Answer
+  abbrev pub answerIn : Call → Page.Answer
   answerIn c = decode (settingsOf settings) bytes (length (c .changes)) (places c)
 
   -- it has as many marks as rows
-  as-many : (c : Call) → length (answerIn c .marks) ≡ length (answerIn c .rows)
+  pub as-many : (c : Call) → length (answerIn c .marks) ≡ length (answerIn c .rows)
   as-many c = came-as-many (decode-came (settingsOf settings) bytes (length (c .changes)) (places c) .1)
 
   -- longer arrays have no fewer places
@@ -179,6 +179,9 @@ room-enough bytes settings c g =
       (λ h q. four-never (settingsOf settings) bytes (length (c .changes)) (places c) h (sym (number-is a c g) ∙ q)),
       λ h q. five-never (settingsOf settings) bytes (length (c .changes)) (places c) h (sym (number-is a c g) ∙ q),
     )
+
+pub entry-for-each-bit : EntryForEachBit
+entry-for-each-bit bytes settings c g h q = four-never-more (settingsOf settings) bytes (length (c .changes)) (places c) h (sym (number-is (answerIn bytes settings c) c g) ∙ q)
 
 -- ---- One line
 

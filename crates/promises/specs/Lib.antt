@@ -13,3 +13,4 @@ pub mod Places
 pub mod Marks
 pub mod Exact
 pub mod EnginesAgree
+pub mod ByRow

@@ -7,6 +7,7 @@ use Rattle.rows.specs.declared.EncodingMode.the-variants.{Group4}
 use Rattle.ccitt.specs.Decode.{Decodes}
 use Rattle.context.specs.declared.line.Line.{Line}
 use Rattle.exports.specs.Exports.{settingsFor}
+use Rattle.exports.specs.RowState.{modeOf, ReadsRowForC}
 use Rattle.lent.specs.Lent.{Lends}
 use Rattle.lent.specs.declared.Pushed.{Pushed}
 use Rattle.desk.specs.Line.{Says}
@@ -26,6 +27,12 @@ abbrev pub ForCGroup3Pinned : Type 0
 ForCGroup3Pinned =
     (encoding : EncodingMode) (src : List ℕ) (columns rows : ℕ) (block line aligned strict exact plain : Bool) (changes ends marks : List ℕ)
     → OneWithThree (Decodes src (settingsFor columns rows block line aligned encoding strict exact plain) changes ends marks)
+
+-- ccitt_read_row, whose lent arrays are the state's numbers and the two line arrays
+abbrev pub ForCRowPinned : Type 0
+ForCRowPinned =
+    (src : List ℕ) (columns rows : ℕ) (block line aligned : Bool) (encoding : ℕ) (strict exact plain : Bool) (state first second : List ℕ)
+    → OneWithThree (ReadsRowForC src (settingsFor columns rows block line aligned (modeOf encoding) strict exact plain) encoding state first second)
 
 -- ---- lent
 
