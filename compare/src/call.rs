@@ -177,6 +177,8 @@ pub struct Call<'a> {
     pub ask: &'a Ask,
     pub exact: bool,
     pub plain: bool,
+    /// The lengths of two line arrays, where the page is to be read a row at a time; its rows are then gathered in what is lent.
+    pub lines: Option<(usize, usize)>,
     pub room: Room,
     pub fill: u32,
 }

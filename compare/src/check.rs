@@ -39,6 +39,8 @@ pub struct Plan {
     pub exact: bool,
     /// Whether runs are to be read by the plain engine (A14). What must come back is the same.
     pub plain: bool,
+    /// The lengths of the two line arrays, where the page is to be read a row at a time (A1).
+    pub lines: Option<(usize, usize)>,
     pub room: Room,
     pub fill: u32,
     pub wanted: Wanted,
@@ -146,7 +148,7 @@ fn compare(ours: &mut dyn Ours, start: u64, cases: &[Case], tally: &mut Tally) {
 }
 
 fn call_of<'a>(ask: &'a Ask, plan: &Plan) -> Call<'a> {
-    Call { ask, exact: plan.exact, plain: plan.plain, room: plan.room, fill: plan.fill }
+    Call { ask, exact: plan.exact, plain: plan.plain, lines: plan.lines, room: plan.room, fill: plan.fill }
 }
 
 fn compare_replies(start: u64, cases: &[Case], replies: &Replies, tally: &mut Tally) {
@@ -168,6 +170,10 @@ fn compare_replies(start: u64, cases: &[Case], replies: &Replies, tally: &mut Ta
 /// Compares the answer, and every lent entry with what it must be: what is written, and the pattern
 /// everywhere else.
 fn difference_of(plan: &Plan, reply: &Reply) -> Option<String> {
+    #[cfg(any(feature = "linked", test))]
+    if let Some(complaint) = crate::by_row::Complaint::of(&reply.answer) {
+        return Some(complaint.to_string());
+    }
     if reply.answer != plan.wanted.answer {
         return Some(format!("it answers {}", show(&reply.answer)));
     }
@@ -221,6 +227,9 @@ fn describe(index: u64, ask: &Ask, plan: &Plan, text: &str) -> String {
         let _ = writeln!(out, "  at bit {}, lists {:?} and {:?}", ask.at, ask.first, ask.second);
     }
     let _ = writeln!(out, "  lent: {:?}, filled by {:08x}", plan.room, plan.fill);
+    if let Some(lines) = plan.lines {
+        let _ = writeln!(out, "  a row at a time, into arrays of {lines:?} entries; its rows gathered there");
+    }
     let Wanted { answer, changes, ends, marks, .. } = &plan.wanted;
     let _ = writeln!(out, "  it must answer {}, changes {changes:?}, ends {ends:?}, marks {marks:?}", show(answer));
     if let Some(written) = &plan.wanted.out {

@@ -1,6 +1,7 @@
 //! The library, linked into this program.
 #![allow(unsafe_code)]
 
+use crate::by_row::{self, Page, RowForm, Store};
 use crate::call::{Answer, BYTE_MARGIN, Call, Form, MARGIN, Replies, Room, with_zeros};
 use crate::ours::Ours;
 use crate::settings::{Encoding, Settings};
@@ -23,6 +24,8 @@ unsafe extern "C" {
         changes: *mut u32, changes_len: usize, ends: *mut u64, ends_len: usize, marks: *mut u8, marks_len: usize) -> *mut Answer;
     fn ccitt_read_line(answer: *mut Answer, src: *const u8, src_len: usize, at: u64, columns: u32, strict: bool,
         reference: *const u32, reference_len: usize, changes: *mut u32, changes_len: usize) -> *mut Answer;
+    fn ccitt_read_row(answer: *mut Answer, src: *const u8, src_len: usize, columns: u32, rows: u32, end_of_block: bool, end_of_line: bool, rows_are_byte_aligned: bool, encoding: u32,
+        strict: bool, exact: bool, plain: bool, state: *mut u64, state_len: usize, first: *mut u32, first_len: usize, second: *mut u32, second_len: usize) -> *mut Answer;
     #[cfg(feature = "writers")]
     fn ccitt_write_line(answer: *mut Answer, columns: u32, reference: *const u32, reference_len: usize, row: *const u32, row_len: usize,
         out: *mut u8, out_len: usize, at: u64) -> *mut Answer;
@@ -99,6 +102,11 @@ fn read(call: &Call, changes: &mut [u32], ends: &mut [u64], marks: &mut [u8]) ->
 }
 
 fn read_from(call: &Call, src: &[u8], changes: &mut [u32], ends: &mut [u64], marks: &mut [u8]) -> Answer {
+    if let Some(lines) = call.lines {
+        let settings = &call.ask.settings;
+        let page = Page { settings, exact: call.exact, plain: call.plain, src, encoding: by_row::encoding_number(settings.encoding) };
+        return by_row::read(&mut Linked, &page, lines, call.fill, Store::new(changes, ends, marks));
+    }
     match call.ask.form {
         Form::ReadLine => read_line(call, src, changes),
         _ => page(&call.ask.settings, call.exact, call.plain, src, changes, ends, marks),
@@ -134,6 +142,20 @@ unsafe fn page_into(s: &Settings, exact: bool, plain: bool, src: &[u8], changes:
         }
     };
     answer
+}
+
+impl RowForm for Linked {
+    #[rustfmt::skip]
+    fn read_row(&mut self, page: &Page, state: &mut [u64], first: &mut [u32], second: &mut [u32]) -> Answer {
+        let s = page.settings;
+        let mut answer = Answer::default();
+        // SAFETY: each pointer stands with the length of its slice, and the three lent arrays and the answer are apart.
+        unsafe {
+            ccitt_read_row(&mut answer, page.src.as_ptr(), page.src.len(), s.columns, s.rows, s.end_of_block, s.end_of_line, s.aligned, page.encoding, s.strict, page.exact, page.plain,
+                state.as_mut_ptr(), state.len(), first.as_mut_ptr(), first.len(), second.as_mut_ptr(), second.len())
+        };
+        answer
+    }
 }
 
 #[rustfmt::skip]

@@ -5,6 +5,8 @@
 mod arguments;
 mod bench;
 mod bits;
+#[cfg(any(feature = "linked", test))]
+mod by_row;
 mod call;
 mod check;
 mod checks;

@@ -1,5 +1,5 @@
 //! Which rooms are lent for a reader's input: more than enough, just enough, one entry short, one row
-//! end short, one mark short, or anything less. Pages are read exactly (A12) and by the plain engine (A14) besides.
+//! end short, one mark short, or anything less. Pages are read exactly (A12), by the plain engine (A14) and a row at a time (A1) besides.
 
 use crate::call::{Ask, Room};
 use crate::check::{Case, Plan};
@@ -7,17 +7,38 @@ use crate::random::Random;
 use crate::truth::{Outcome, Wanted};
 
 /// A page, with room to spare and with each of the rooms that decide; exactly, with room to spare and with one of them; and in one of
-/// these ways by the plain engine.
+/// these ways by the plain engine; and a row at a time, and exactly so.
 pub fn page_case(ask: Ask, random: &mut Random) -> Case {
     let outcome = Outcome::of_page(&ask.settings, &ask.src, ask.tail);
     let mut plans = planned(rooms(&outcome, random), random, |room| outcome.page_within(room));
+    let inexact = outcome.clone();
     let outcome = exactly(&ask, outcome);
     let mut rooms = rooms(&outcome, random);
     let another = rooms.swap_remove(1 + random.index(rooms.len() - 1));
     rooms.truncate(1);
     rooms.push(another);
     plans.extend(exact_plans(rooms, random, &outcome));
-    Case { ask, plans, complaint: None }.plainly(random)
+    let mut case = Case { ask, plans, complaint: None }.plainly(random);
+    case.plans.extend(by_row(&inexact, false, random));
+    case.plans.extend(by_row(&outcome, true, random));
+    case
+}
+
+/// A row at a time, by either engine, into line arrays that are long enough, just so, one entry short, or of any lengths. Where the library is not
+/// linked in, it is not asked.
+fn by_row(outcome: &Outcome, exact: bool, random: &mut Random) -> Option<Plan> {
+    let (first, second) = outcome.longest();
+    let lines = match random.below(6) {
+        0 => (first + 2, second + 1),
+        1 if first > 0 => (first - 1, second),
+        2 if second > 0 => (first, second - 1),
+        3 => (random.index(first + 1), random.index(second + 1)),
+        _ => (first, second),
+    };
+    let (changes, ends) = (outcome.changes.len() + 3, outcome.ends.len() + 2);
+    let room = Room::Rows { changes, ends, marks: ends };
+    let (plain, fill) = (random.bool(), random.next() as u32);
+    cfg!(any(feature = "linked", test)).then(|| Plan { exact, plain, lines: Some(lines), room, fill, wanted: outcome.by_rows(lines) })
 }
 
 /// Room to spare, and each of the rooms that decide.
@@ -48,9 +69,16 @@ pub fn exact_plans(rooms: Vec<Room>, random: &mut Random, outcome: &Outcome) -> 
 
 /// A page with fewer rooms, for checks that have very many pages: room to spare or just enough, and for
 /// one page in eight one entry, one row end or one mark short. Each strict page is read exactly too, and
-/// one lenient page in 32: an exact reading does not look at strictness. In one of these ways it is read by the plain engine.
+/// one lenient page in 32: an exact reading does not look at strictness. In one of these ways it is read by the plain engine, and one page in four
+/// a row at a time, exactly or not.
 pub fn quick_page_case(ask: Ask, random: &mut Random) -> Case {
-    lookup_page_case(ask, random).plainly(random)
+    let mut case = lookup_page_case(ask, random).plainly(random);
+    if random.below(4) == 0 {
+        let exact = random.bool();
+        let outcome = if exact { Outcome::of_exact_page } else { Outcome::of_page }(&case.ask.settings, &case.ask.src, case.ask.tail);
+        case.plans.extend(by_row(&outcome, exact, random));
+    }
+    case
 }
 
 /// The same, by the lookup alone.
@@ -101,5 +129,5 @@ pub fn line_room(changes: usize) -> Room {
 }
 
 fn planned(rooms: Vec<Room>, random: &mut Random, wanted: impl Fn(Room) -> Wanted) -> Vec<Plan> {
-    rooms.into_iter().map(|room| Plan { exact: false, plain: false, room, fill: random.next() as u32, wanted: wanted(room) }).collect()
+    rooms.into_iter().map(|room| Plan { exact: false, plain: false, lines: None, room, fill: random.next() as u32, wanted: wanted(room) }).collect()
 }

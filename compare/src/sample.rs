@@ -64,7 +64,7 @@ fn chosen(source: &dyn Source, seed: u64) -> Vec<(Ask, Plan)> {
     let each = if source.count() < TRIED { usize::MAX } else { EACH };
     for index in 0..source.count() {
         let Case { ask, plans, .. } = source.case(index, &mut Random::of(seed, &source.name(), index));
-        for plan in plans.into_iter().filter(|plan| is_small(&ask, plan)) {
+        for plan in plans.into_iter().filter(|plan| plan.lines.is_none() && is_small(&ask, plan)) {
             let strictness = if plan.exact { 2 } else { u32::from(ask.settings.strict) };
             let kind = (plan.plain, form_number(ask.form), strictness, plan.wanted.answer.number);
             let count = taken.entry(kind).or_default();

@@ -1,7 +1,10 @@
 //! A stand-in for the library, for testing this package: it reads with a copy of the crate and writes
 //! with the encoder. A fault can be put into what it hands back; each must be caught.
 
+mod rows;
+
 use crate::bits::Bits;
+use crate::by_row::{self, Page, Store};
 use crate::call::{Answer, Ask, BYTE_MARGIN, Call, Form, Replies, Room};
 use crate::checks::writers::encoded;
 use crate::codes::LONGEST;
@@ -60,9 +63,18 @@ pub enum Fault {
     PlainChange,
     PlainPlace,
     PlainNumber,
+    SameArray,
+    RowTwice,
+    BehindARow,
+    ReferenceTouched,
+    LooseLost,
+    RepetitionWrites,
+    RepeatsOtherwise,
+    ForgedTaken,
+    PlainRow,
 }
 
-pub const FAULTS: [Fault; 43] = [
+pub const FAULTS: [Fault; 52] = [
     Fault::Number,
     Fault::Rows,
     Fault::Entries,
@@ -106,6 +118,15 @@ pub const FAULTS: [Fault; 43] = [
     Fault::PlainChange,
     Fault::PlainPlace,
     Fault::PlainNumber,
+    Fault::SameArray,
+    Fault::RowTwice,
+    Fault::BehindARow,
+    Fault::ReferenceTouched,
+    Fault::LooseLost,
+    Fault::RepetitionWrites,
+    Fault::RepeatsOtherwise,
+    Fault::ForgedTaken,
+    Fault::PlainRow,
 ];
 
 pub struct Standin(pub Fault);
@@ -129,6 +150,9 @@ impl Ours for Standin {
 
 impl Standin {
     fn read(&self, call: &Call, words: &mut [u32], bytes: &mut [u8]) -> Answer {
+        if let Some(lines) = call.lines {
+            return self.by_row(call, lines, words, bytes);
+        }
         let wanted = match call.ask.form {
             Form::ReadLine => self.line(call.ask).line_within(self.room(call.room)),
             _ => self.page(call).page_within(self.room(call.room)),
@@ -144,6 +168,19 @@ impl Standin {
         self.spoil_words(call, &wanted, words, changes, ends);
         self.spoil_marks(&wanted, marks);
         self.spoil_answer(call, wanted.answer)
+    }
+
+    fn by_row(&self, call: &Call, lines: (usize, usize), words: &mut [u32], bytes: &mut [u8]) -> Answer {
+        let (changes, ends) = call.room.places();
+        let outcome = self.page(call);
+        let (src, settings) = (call.ask.data(), &call.ask.settings);
+        let page = Page { settings, exact: call.exact, plain: call.plain, src: &src, encoding: by_row::encoding_number(settings.encoding) };
+        let mut wide: Vec<u64> = words[ends.clone()].iter().copied().map(u64::from).collect();
+        let end = bytes.len() - BYTE_MARGIN;
+        let store = Store::new(&mut words[changes], &mut wide, &mut bytes[BYTE_MARGIN..end]);
+        let answer = by_row::read(&mut rows::Rows { fault: self.0, outcome: &outcome }, &page, lines, call.fill, store);
+        words[ends].iter_mut().zip(wide).for_each(|(word, end)| *word = end as u32);
+        answer
     }
 
     /// The room that it takes itself to have.

@@ -178,6 +178,31 @@ impl Outcome {
         self.stopped(self.number, self.ends.len(), base, self.changes.len())
     }
 
+    /// What a page gives that is read a row at a time into two arrays of so many entries, in turn (A1): the first row, or unfinished row, that
+    /// has more changes than the array it goes to is 4. There is no 5.
+    pub fn by_rows(&self, (first, second): (usize, usize)) -> Wanted {
+        let mut base = 0;
+        let last = self.changes.len();
+        for (row, end) in self.ends.iter().map(|&end| end as usize).chain(once(last)).enumerate() {
+            let room = if row % 2 == 0 { first } else { second };
+            if end - base > room {
+                return self.stopped(4, row, base, base + room);
+            }
+            if row < self.ends.len() {
+                base = end;
+            }
+        }
+        self.stopped(self.number, self.ends.len(), base, last)
+    }
+
+    /// The longest row that each of two arrays holds in turn, the unfinished one among them.
+    pub fn longest(&self) -> (usize, usize) {
+        let loose = &self.changes[self.ends.last().map_or(0, |&end| end as usize)..];
+        let lengths: Vec<usize> = self.rows().chain(once(loose)).map(<[u32]>::len).collect();
+        let longest = |from: usize| lengths.iter().skip(from).step_by(2).copied().max().unwrap_or(0);
+        (longest(0), longest(1))
+    }
+
     /// A line has no row ends and its mark in the answer, so it can't run out of places.
     pub fn line_within(&self, room: Room) -> Wanted {
         let Room::Rows { changes, .. } = room else { unreachable!("a reader is lent rows") };

@@ -1,9 +1,10 @@
-//! The page form against the crate's, and its plain engine against its lookup.
+//! The page form against the crate's, its plain engine against its lookup, and the row form against it.
 
 use super::fill;
 use super::timing::{RUNS, report};
+use crate::by_row::{self, RowForm, STATE};
 use crate::checks::other_decoder::Text;
-use crate::linked;
+use crate::linked::{self, Linked};
 use crate::settings::{Encoding, Settings};
 use crate::truth::Outcome;
 use std::time::{Duration, Instant};
@@ -77,6 +78,10 @@ pub fn run(texts: &[Text]) {
     for (name, some) in &sets {
         compare_engines(&format!("{name}, by the plain engine"), some, &mut store);
     }
+    println!("a row at a time against the page form, likewise");
+    for (name, some) in &sets {
+        compare_forms(&format!("{name}, a row at a time"), some, &mut store);
+    }
     println!("fill, likewise, in Group 3 1D pages with EOLs");
     for (name, page) in fill::pages() {
         compare(&name, &[&page], &mut store);
@@ -94,6 +99,30 @@ fn compare_engines(name: &str, pages: &[&Page], store: &mut Store) {
     let plain = |store: &mut Store| pages.iter().map(|page| time_ours(page, true, store)).sum();
     let lookup = |store: &mut Store| pages.iter().map(|page| time_ours(page, false, store)).sum();
     report(name, store, plain, "the lookup", lookup);
+}
+
+/// The row form, into two arrays of as many entries as the page is wide, against the page form.
+fn compare_forms(name: &str, pages: &[&Page], store: &mut Store) {
+    let by_row = |store: &mut Store| pages.iter().map(|page| time_by_row(page, store)).sum();
+    let whole = |store: &mut Store| pages.iter().map(|page| time_ours(page, false, store)).sum();
+    report(name, store, by_row, "the page form", whole);
+}
+
+fn time_by_row(page: &Page, store: &mut Store) -> Duration {
+    let (first, second) = store.cleared().changes.split_at_mut(CHANGES / 2);
+    let columns = page.settings.columns as usize;
+    let call = by_row::Page { settings: &page.settings, exact: false, plain: false, src: &page.src, encoding: by_row::encoding_number(page.settings.encoding) };
+    let mut state = [0; STATE];
+    let began = Instant::now();
+    let answer = loop {
+        let answer = Linked.read_row(&call, &mut state, &mut first[..columns], &mut second[..columns]);
+        if answer.number != 15 {
+            break answer;
+        }
+    };
+    let took = began.elapsed();
+    assert!(answer.number == page.number && answer.rows as usize == page.rows, "the row form answers as the page form does");
+    took
 }
 
 fn time_ours(page: &Page, plain: bool, store: &mut Store) -> Duration {

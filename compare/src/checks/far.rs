@@ -33,7 +33,7 @@ impl Source for Far {
         let outcome = Outcome::of_page(&settings, &ask.data(), 0);
         let agrees = outcome.number == 0 && outcome.idle.is_none() && outcome.rows().eq(rows.iter().map(Vec::as_slice));
         let room = Room::Rows { changes: outcome.changes.len() + 3, ends: rows.len() + 3, marks: rows.len() + 3 };
-        let plan = |(exact, plain)| Plan { exact, plain, room, fill: random.next() as u32, wanted: outcome.page_within(room) };
+        let plan = |(exact, plain)| Plan { exact, plain, lines: None, room, fill: random.next() as u32, wanted: outcome.page_within(room) };
         Case { ask, plans: [(false, false), (true, false), (false, true)].map(plan).into(), complaint: None }
             .require(agrees, || "the crate does not read the rows back".to_string())
     }

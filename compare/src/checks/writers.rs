@@ -51,7 +51,7 @@ fn line_case(random: &mut Random, columns: u32, reference: Vec<u32>, row: Vec<u3
     let plans = lengths.map(|length| {
         let fill = random.next() as u32;
         let wanted = if length < exact { refused(9) } else { written(line, at, length, fill, (at + line.len()) as u64) };
-        Plan { exact: false, plain: false, room: Room::Bytes(length), fill, wanted }
+        Plan { exact: false, plain: false, lines: None, room: Room::Bytes(length), fill, wanted }
     });
     let agrees = read.number == 0 && read.changes == row && read.bytes == line.len() as u64;
     let ask = Ask::write_line(columns, reference, row, at as u64);
@@ -116,7 +116,7 @@ pub fn written_page(random: &mut Random, columns: u32, rows: &[Vec<u32>]) -> Cas
     let plans = lengths.map(|length| {
         let fill = random.next() as u32;
         let wanted = if length < bytes { refused(9) } else { written(&page, 0, length, fill, bytes as u64) };
-        Plan { exact: false, plain: false, room: Room::Bytes(length), fill, wanted }
+        Plan { exact: false, plain: false, lines: None, room: Room::Bytes(length), fill, wanted }
     });
     Case { ask: Ask::write_page(columns, changes, ends), plans: plans.into(), complaint }
 }
@@ -220,7 +220,7 @@ impl Source for WriterLimits {
             Ask::write_page(columns, first.to_vec(), second.to_vec())
         };
         ask.tail = tail;
-        let plans = vec![Plan { exact: false, plain: false, room: Room::Bytes(4), fill: random.next() as u32, wanted: refused(number) }];
+        let plans = vec![Plan { exact: false, plain: false, lines: None, room: Room::Bytes(4), fill: random.next() as u32, wanted: refused(number) }];
         Case { ask, plans, complaint: None }
     }
 
