@@ -3,7 +3,7 @@ use mathlib.Core.Path.{_≡_, refl, sym, ap, ap₂, _∙_, subst}
 use mathlib.Core.Logic.{inl, inr}
 use mathlib.Core.Bool.{Bool, true, false, cond, _&&_, true≢false}
 use mathlib.Core.List.{List}
-use Prim.Native.Nat.{ℕ, suc, _+_, _-_, _*_, _≤_, _<_}
+use Prim.Native.Nat.{ℕ, _+_, _-_, _*_, _≤_, _<_}
 use native.Mathlib.Omega.{arith}
 use native.Mathlib.Numerals.{add-one}
 use lib.Dec.{leb}
@@ -33,7 +33,7 @@ use Rattle.by_row.specs.declared.Side.{Side}
 use Rattle.by_row.specs.declared.Side.the-variants.{First, Second}
 use Rattle.by_row.specs.declared.RowState.{RowState}
 use Rattle.by_row.specs.declared.RowStep.{RowStep}
-use Rattle.by_row.specs.ByRow.{sideOf, otherSide, Ending, endOf, rowStateOf, answerOf, countOf, Gives, ReadsRow, saidFor, refusedFor, noneFor, soundFor, givenFor, Grows, Ends, arraysAt, NextFrom, Comes, Next, Tested}
+use Rattle.by_row.specs.ByRow.{sideOf, otherSide, Ending, endOf, rowStateOf, answerOf, Gives, ReadsRow, saidFor, refusedFor, noneFor, soundFor, givenFor, Grows, Ends, arraysAt, NextFrom, Comes, Next, Tested}
 use Rattle.by_row.proofs.States.{not-more}
 
 other-is : (s : Side) → sideOf (otherSide s) ≡ Rule.other (sideOf s)

@@ -8,7 +8,6 @@ use rows::Row;
 use rows::State;
 ghost use mathlib.Core.Path.{_≡_};
 ghost use Prim.Native.Nat.{_≤_};
-ghost use lib.ListN.{length};
 ghost use Rattle.rules.specs.Pages.{mostBytes};
 ghost use Rattle.rules.specs.ByRow.{ended, rowStart};
 ghost use Rattle.by_row.specs.ByRow.{otherSide, endOf, Ending, rowStateOf, toldFor, saidFor, refusedFor, noneFor, soundFor, Grows, givenFor, Ends, NextFrom, Next, Tested, ReadsRow};

@@ -5,15 +5,15 @@ use mathlib.Core.Bool.{Bool, true, false, cond, true≢false}
 use mathlib.Core.List.{List, [], _∷_, _++_, map, append-assoc, append-nil}
 use Prim.Native.Nat.{ℕ, suc, _+_, _*_, _≤_, _<_}
 use native.Mathlib.Omega.{arith}
-use lib.Dec.{eqb, leb}
+use lib.Dec.{leb}
 use lib.ListN.{length, take, length-append}
 use borrow.Author.Tests.{leb-true, le-leb, eq-eqb, ne-eqb, eqb-true, eqb-false}
 use Rattle.rules.specs.Machine.{more, done, run}
 use Rattle.rules.specs.Bits.{bitsOf}
 use Rattle.rules.specs.Rows.{Settings, State, RowOut, row, stop}
 use Rattle.rules.specs.Pages as Page
-use Rattle.rules.specs.Pages.{mostBytes, tooWide, strictIfExact, ascends, decode}
-use Rattle.rules.specs.InSteps.{Said, moreToCome, mostCounted}
+use Rattle.rules.specs.Pages.{mostBytes, tooWide, strictIfExact}
+use Rattle.rules.specs.InSteps.{Said, moreToCome}
 use Rattle.rules.specs.ByRow as Rule
 use Rattle.rules.specs.ByRow.{Arrays, arrayAt, other, unended, ended, referenceIn, between, roomIn, afterRow, unlessFew, sound, readRow, Caller, callerWith, Over, goesOn, callStep, overOf}
 use Rattle.rules.proofs.Machine.{run-once}
@@ -21,7 +21,7 @@ use Rattle.rules.proofs.Bits.{length-bitsOf, both-true}
 use Rattle.rules.proofs.Ascending.{Rising, ascends-rises, rises-ascends}
 use Rattle.rules.proofs.Budget.{whole-bytes}
 use Rattle.rules.proofs.LessRoom.{changesIn}
-use Rattle.rules.proofs.ByRow.{few-cases, call-cases, repeats-end, call-marked, Bounded, row-bounded, call-sides, Own, own-start, own-lent, own-sound, rowAt, rowIn, given, own-next, own-reads, does}
+use Rattle.rules.proofs.ByRow.{few-cases, call-cases, repeats-end, call-marked, Bounded, row-bounded, call-sides, Own, own-start, own-lent, rowAt, rowIn, own-next, own-reads}
 use Rattle.rules.proofs.ByRow as Laws
 use Rattle.rules.proofs.FormsAgree.{FitIn, start-sound, fitting-agree, few-changes, any-row, changesHere, four-exactly}
 use Rattle.error.specs.declared.Answer.{Answer}
@@ -32,9 +32,9 @@ use Rattle.by_row.specs.declared.Side.the-variants.{First, Second}
 use Rattle.by_row.specs.declared.End.the-variants.{Unended}
 use Rattle.by_row.specs.declared.RowState.{RowState}
 use Rattle.by_row.specs.declared.RowStep.{RowStep}
-use Rattle.by_row.specs.ByRow.{sideOf, otherSide, Ending, endOf, rowStateOf, answerOf, countOf, ReadsRow}
+use Rattle.by_row.specs.ByRow.{sideOf, otherSide, Ending, endOf, rowStateOf, answerOf, countOf}
 use Rattle.by_row.proofs.States.{same-side, same-state, not-more, end-listed}
-use Rattle.promises.specs.Rooms.{Call, places, rowsOf, marksOf, looseOf, Reading}
+use Rattle.promises.specs.Rooms.{places, rowsOf}
 use Rattle.promises.specs.ByRow.{RowCall, RowReading, numberOf, markOf, arrayOf, changesOf, referenceOf, rowArrayOf, Handed, Follows, Page, FormsAgree, RowsEnd, RowFormRepeats, Sound, RowListed, Left, RowRefusals, OwnStates, FourMeans, LineArrayEnough, NeverFive, ReadRowPinned, RowStartPinned}
 use Rattle.promises.proofs.Rooms.{answerIn, rows-are, marks-are, loose-are, as-many}
 

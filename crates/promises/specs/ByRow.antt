@@ -9,7 +9,6 @@ use Rattle.rules.specs.Pages.{mostBytes}
 use Rattle.rules.specs.ByRow.{rowStart}
 use Rattle.rules.proofs.Ascending.{Rising}
 use Rattle.rules.proofs.FormsAgree.{FitIn}
-use Rattle.error.specs.declared.Answer.{Answer}
 use Rattle.rows.specs.declared.DecodeSettings.{DecodeSettings}
 use Rattle.by_row.specs.declared.Side.{Side}
 use Rattle.by_row.specs.declared.Side.the-variants.{First, Second}

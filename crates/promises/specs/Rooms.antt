@@ -111,7 +111,7 @@ RoomEnough =
     (bytes : List ℕ) (settings : DecodeSettings) (c : Call) → Reading bytes settings c
     → (16 * length bytes ≤ length (c .changes) → c .answer .number ≡ 4 → ⊥) × (8 * length bytes + 1 ≤ places c → c .answer .number ≡ 5 → ⊥)
 
--- With an entry for each bit of the data and one more, which is less, 4 is never given either (A1: the bound of 01's paragraph on calls in steps).
+-- With an entry for each bit of the data and one more 4 is never given either (A1; for any data but none that is less room).
 abbrev pub EntryForEachBit : Type 0
 EntryForEachBit = (bytes : List ℕ) (settings : DecodeSettings) (c : Call) → Reading bytes settings c → 8 * length bytes + 1 ≤ length (c .changes) → c .answer .number ≡ 4 → ⊥
 
