@@ -38,6 +38,12 @@ eol-inside bs at e = omega (arith, zeros-inside (drop at bs) (e .zeros) (e .run)
 
 -- ---- EOLs in a row
 
+-- zeros without a one are no EOL
+pub no-one : (n : ℕ) (bs : List Bool) (at : ℕ) → zeroRun (drop at bs) ≡ none → readEols n bs at ≡ eolsTo 0 at
+unfolding readEols
+no-one zero bs at e = refl
+no-one (suc n) bs at e = rw (e, readEols)
+
 -- where EOLs were read: forwards, inside the data, and past one that stands there if any was read
 pub record Ahead (bs : List Bool) (at : ℕ) (r : Eols) : Type 0 where
   pub forward : at ≤ r .at

@@ -43,3 +43,7 @@ pub mod Rooms
 pub mod ByRow
 pub mod FormsAgree
 pub mod ByRowSheets
+pub mod EolChains
+pub mod Group3Back
+pub mod Group3Trip
+pub mod Group3Sheets

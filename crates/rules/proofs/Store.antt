@@ -77,3 +77,9 @@ rows-from front (r ∷ rows) rest base e =
 -- rows that were joined are read back by their ends, whatever lies behind them
 pub rows-back : (rows : List (List ℕ)) (rest : List ℕ) → rowsIn 0 (joined rows ++ rest) (endsFrom 0 rows) ≡ rows
 rows-back rows rest = rows-from [] rows rest 0 refl
+
+-- as many rows as row ends
+pub length-rowsIn : (base : ℕ) (changes ends : List ℕ) → length (rowsIn base changes ends) ≡ length ends
+unfolding rowsIn
+length-rowsIn base changes [] = refl
+length-rowsIn base changes (e ∷ es) = ap suc (length-rowsIn e changes es)

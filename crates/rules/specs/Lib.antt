@@ -16,4 +16,5 @@ pub mod Pages
 pub mod InSteps
 pub mod ByRow
 pub mod Write
+pub mod WriteGroup3
 pub mod Sheets
