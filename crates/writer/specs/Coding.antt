@@ -6,7 +6,7 @@ use lib.Dec.{leb}
 use lib.ListN.{length}
 use Rattle.rules.specs.Codes.{Colour, opposite}
 use Rattle.rules.specs.Modes.{horizontal, modeBits}
-use Rattle.rules.specs.Lines.{two}
+use Rattle.rules.specs.Lines.{one, two}
 use Rattle.rules.specs.Write.{mostMakeup, runBits, lineBits}
 use Rattle.rules.proofs.Ascending.{Rising}
 use Rattle.tables.specs.Tables.{Terminating, Makeup}
@@ -36,14 +36,21 @@ verticalSize (suc (suc (suc k))) = 7
 unfoldable pub across : Colour → ℕ → ℕ → List Bool
 across colour first second = modeBits horizontal ++ (runBits mostMakeup colour first ++ runBits mostMakeup (opposite colour) second)
 
--- the bits of a line
+-- the bits of a 2D line, and of a 1D line
 abbrev pub lineOf : ℕ → List ℕ → List ℕ → List Bool
 lineOf width reference row = lineBits mostMakeup width (two reference) row
 
--- a line that can be put from bit `at` on
-pub record Lined (write : Bool) (width : ℕ) (reference row : List ℕ) (at bytes : ℕ) : Type 0 where
+abbrev pub line1Of : ℕ → List ℕ → List Bool
+line1Of width row = lineBits mostMakeup width one row
+
+-- the bits of a row, which stands under another, can be put from bit `at` on
+pub record Rowed (write : Bool) (width : ℕ) (above row : List ℕ) (bits : List Bool) (at bytes : ℕ) : Type 0 where
   pub wide : 0 < width
   pub narrow : width < 4294967295
-  pub rises : Rising width 0 reference
+  pub rises : Rising width 0 above
   pub rises′ : Rising width 0 row
-  pub room : Room write at (length (lineOf width reference row)) bytes
+  pub room : Room write at (length bits) bytes
+
+-- those of its 2D line
+abbrev pub Lined : Bool → ℕ → List ℕ → List ℕ → ℕ → ℕ → Type 0
+Lined write width reference row at bytes = Rowed write width reference row (lineOf width reference row) at bytes

@@ -2,4 +2,5 @@
 pub mod Putting
 pub mod Coding
 pub mod Paging
+pub mod Paging3
 pub mod Outcome

@@ -1,7 +1,7 @@
 -- Bits that are put into bytes from a bit on.
 use mathlib.Core.Path.{_≡_}
 use mathlib.Core.Bool.{Bool, true, false}
-use mathlib.Core.List.{List, _++_}
+use mathlib.Core.List.{List, [], _++_}
 use Prim.Native.Nat.{ℕ, _+_, _-_, _*_, _/_, _^_, _≤_, _<_}
 use lib.ListN.{length, take, drop}
 use Rattle.rules.specs.Bits.{bitsFor, bitsOf}
@@ -52,6 +52,10 @@ pub record Raised (word size whole r : ℕ) : Type 0 where
 unfoldable pub inked : Bool → ℕ → List Bool → List Bool → List Bool
 inked true at xs bs = writtenAt at xs bs
 inked false at xs bs = bs
+
+-- behind bit `at` its byte has zeros, where anything is written: nothing that is put there leaves the output as it is
+abbrev pub Cleared : Bool → ℕ → List ℕ → Type 0
+Cleared write at out = inked write at [] (bitsOf out) ≡ bitsOf out
 
 -- `size` bits from bit `at` on end at a bit that a number holds, and in the output where they are written
 pub record Room (write : Bool) (at size bytes : ℕ) : Type 0 where

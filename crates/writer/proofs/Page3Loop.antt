@@ -1,0 +1,161 @@
+-- A Group 3 page that is being put, row by row: what differs by the layout and by the kind of line. Assumes nothing.
+use mathlib.Core.Path.{_≡_, refl, sym, ap, _∙_, subst}
+use mathlib.Core.Bool.{Bool, true, false}
+use mathlib.Core.List.{List, [], _∷_, _++_, append-assoc}
+use Prim.Native.Nat.{ℕ, zero, suc, _+_, _-_, _*_, _≤_, _<_}
+use native.Mathlib.Omega.{arith}
+use native.Mathlib.Numerals.{add-one}
+use lib.Dec.{eqb}
+use lib.ListN.{length, getD, drop, replicate, length-append, length-replicate, drop-of-length-le}
+use lib.Seq.{drop-cons}
+use borrow.Author.Tests.{eqb-true, eqb-false}
+use Rattle.rules.specs.Codes.{Colour, white, opposite}
+use Rattle.rules.specs.Lines.{Kind}
+use Rattle.rules.specs.Write.{mostMakeup, runBits, bits1D, lineBits, eolBits, rowsIn}
+use Rattle.rules.specs.WriteGroup3.{Layout, bare, filled, mixed, kOf, kindNext, leftNext, codedLines, ahead, times, ending, framed, page3Bits}
+use Rattle.rules.proofs.Ascending.{Rising, none, some, rises-lower, rises-length}
+use Rattle.writer.specs.Putting.{Room, Puts}
+use Rattle.writer.specs.Coding.{Rowed}
+use Rattle.writer.specs.Paging.{Sheet, Pages}
+use Rattle.writer.specs.Paging3.{Laid, kindFrom, lineFrom, row3Of, page3Of}
+use Rattle.writer.proofs.Owing.{owes-last}
+use Rattle.writer.proofs.RunCodes.{run-few}
+use Rattle.writer.proofs.Turns.{line-few}
+use Rattle.writer.proofs.GoodRows.{rowTo}
+use Rattle.writer.proofs.BetweenRows.{Between, before-rows, tested, row-fits, too-long, row-behind, page-is}
+
+-- ---- How many bits
+
+-- few to each run, and one to each pixel
+runs-few : (width : ℕ) (c : Colour) (p : ℕ) (rest : List ℕ) → p ≤ width → Rising width p rest → length (bits1D mostMakeup width c p rest) ≤ 13 * length rest + 13 + (width - p)
+unfolding bits1D
+runs-few width c p [] k none = omega (arith, run-few c (width - p))
+runs-few width c p (x ∷ xs) k (some a b r) =
+    omega (
+      arith,
+      length-append (runBits mostMakeup c (x - p)) (bits1D mostMakeup width (opposite c) x xs),
+      run-few c (x - p),
+      runs-few width (opposite c) x xs (omega arith) (rises-lower (omega arith) r),
+    )
+
+-- a line of either kind
+kind-few : (width : ℕ) (single : Bool) (above row : List ℕ) → Rising width 0 above → Rising width 0 row → length (lineFrom width single above row) ≤ 34 * width + 33 * length row + 33
+unfolding lineBits
+kind-few width true above row rises rises′ = omega (arith, runs-few width white 0 row (omega arith) rises′)
+kind-few width false above row rises rises′ = line-few width above row rises rises′
+
+-- what stands before it, and the end
+ahead-few : (layout : Layout) → Laid layout → (kind : Kind) → length (ahead layout kind) ≤ 76
+unfolding eolBits
+ahead-few bare h kind = omega arith
+ahead-few (filled fill) h kind = omega (arith, length-append (replicate fill false) eolBits, length-replicate fill false)
+ahead-few (mixed k) h kind = omega arith
+
+end-few : (layout : Layout) → Laid layout → length (ending layout) ≤ 136
+unfolding times eolBits
+end-few bare h = omega arith
+end-few (filled fill) h = omega (arith, length-append (replicate fill false) (times 6 eolBits), length-replicate fill false)
+end-few (mixed k) h = omega arith
+
+-- a 1D line where no 2D line may come
+kind-is : (left : ℕ) (single : Bool) (above : List ℕ) → single ≡ eqb left 0 → kindNext left above ≡ kindFrom single above
+kind-is zero true above e = refl
+kind-is zero false above e = absurd (eqb-false 0 0 (sym e) refl)
+kind-is (suc left) true above e = absurd (omega (arith, eqb-true (suc left) 0 (sym e)))
+kind-is (suc left) false above e = refl
+
+-- ---- Between two rows
+
+module _ (layout : Layout) where
+  -- what is left: the lines of these rows, with what stands before each, and the end
+  abbrev pub linesLeft : ℕ → ℕ → List ℕ → List (List ℕ) → List Bool
+  linesLeft width left above rows = framed layout (codedLines mostMakeup width (kOf layout) left above rows)
+
+  abbrev pub Paging3 : Bool → ℕ → List ℕ → List ℕ → List ℕ → ℕ → ℕ → ℕ → ℕ → ℕ → List ℕ → Type 0
+  Paging3 write width changes ends start next from base k left out =
+      Between write width changes ends start (page3Of layout width changes ends) next from base k
+      (linesLeft width left (rowTo changes from base) (rowsIn base changes (drop k ends))) out
+
+  -- before the first, under a white row
+  pub begin3 : {write : Bool} {width : ℕ} (changes ends : List ℕ) {bytes : ℕ} (out : List ℕ) → Sheet write width changes ends (page3Of layout width changes ends) bytes
+      → Paging3 write width changes ends out 0 0 0 0 0 out
+  unfolding page3Bits
+  begin3 changes ends out s = before-rows out s
+
+  module _ (laid : Laid layout) {write : Bool} {width : ℕ} {changes ends start : List ℕ} {next from base k : ℕ} (left : ℕ) {out : List ℕ}
+      (g : Paging3 write width changes ends start next from base k left out) (s : Sheet write width changes ends (page3Of layout width changes ends) (length start)) where
+    -- ---- A row
+
+    module _ (h : k < length ends) (single : Bool) (due : single ≡ eqb left 0) where
+      -- it, its bits, and the bits of the others
+      abbrev above : List ℕ
+      above = rowTo changes from base
+
+      abbrev row : List ℕ
+      row = rowTo changes base (getD ends k 0)
+
+      abbrev this : List Bool
+      this = row3Of layout width single above row
+
+      abbrev others : List Bool
+      others = linesLeft width (leftNext (kOf layout) left) row (rowsIn (getD ends k 0) changes (drop (k + 1) ends))
+
+      row-is : linesLeft width left above (rowsIn base changes (drop k ends)) ≡ this ++ others
+      unfolding codedLines framed rowsIn
+      row-is =
+          ap (λ (l : List ℕ). linesLeft width left above (rowsIn base changes l)) (drop-cons ends k 0 h)
+          ∙ ap (λ (kind : Kind). ahead layout kind ++ (lineBits mostMakeup width kind row ++ later)) (kind-is left single above due)
+          ∙ sym (append-assoc (ahead layout (kindFrom single above)) (lineFrom width single above row) later)
+          ∙ rw (add-one k)
+        where
+          later : List Bool
+          later = linesLeft width (leftNext (kOf layout) left) row (rowsIn (getD ends k 0) changes (drop (suc k) ends))
+
+      -- it can be put,
+      pub row-room : Rowed write width above row this next (length out)
+      row-room =
+          let t = tested g s h in
+          record {
+            wide = s .wide;
+            narrow = s .narrow;
+            rises = g .rises;
+            rises′ = t .rises;
+            room = row-fits g s h this others row-is (omega (
+              arith,
+              length-append (ahead layout (kindFrom single above)) (lineFrom width single above row),
+              ahead-few layout laid (kindFrom single above),
+              kind-few width single above row (g .rises) (t .rises),
+              rises-length (omega arith) (t .rises),
+              s .narrow,
+            ));
+          }
+
+      module _ {r : ℕ} {out′ : List ℕ} (p : Puts write next this out r out′) where
+        -- and then the page does not fit,
+        pub row-over : 8 * length out′ < r → Pages write (page3Of layout width changes ends) start r out′
+        row-over l = too-long g s h this others row-is p l
+
+        -- or the others are left
+        pub row-next : r ≤ 8 * length out′ → (left′ : ℕ) → left′ ≡ leftNext (kOf layout) left → Paging3 write width changes ends start r base (getD ends k 0) (k + 1) left′ out′
+        row-next l left′ e =
+            subst (λ (n : ℕ). Between write width changes ends start (page3Of layout width changes ends) r base (getD ends k 0) (k + 1)
+            (linesLeft width n row (rowsIn (getD ends k 0) changes (drop (k + 1) ends))) out′)
+            (sym e) (row-behind g s h this others row-is p l)
+
+    -- ---- The end
+
+    module _ (h : length ends ≤ k) where
+      end-is : linesLeft width left (rowTo changes from base) (rowsIn base changes (drop k ends)) ≡ ending layout
+      unfolding codedLines framed rowsIn
+      end-is = ap (λ (l : List ℕ). linesLeft width left (rowTo changes from base) (rowsIn base changes l)) (drop-of-length-le ends h)
+
+      -- it can be put,
+      pub end-room : Room write next (length (ending layout)) (length out)
+      end-room = record {
+        countable = omega (arith, g .inside, s .small, end-few layout laid);
+        inside = λ w. omega (arith, s .inside w, g .owes .count, g .owes .size, ap length end-is);
+      }
+
+      -- and then all is
+      pub ended : {r : ℕ} {out′ : List ℕ} → Puts write next (ending layout) out r out′ → Pages write (page3Of layout width changes ends) start r out′
+      ended q = page-is (owes-last (g .owes) (ending layout) end-is q)
