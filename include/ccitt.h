@@ -1,4 +1,4 @@
-/* The fax decoder and the T.6 writers for C. Link target/staticlib/libexports.a (rt staticlib exports).
+/* The fax decoder, the T.6 writers and the Group 3 writer for C. Link target/staticlib/libexports.a (rt staticlib exports).
    Every function tests for itself, takes any bytes, settings and arrays, and answers a number of the list below. */
 #ifndef CCITT_H
 #define CCITT_H
@@ -10,7 +10,8 @@
 /* number: 0 done; 1 invalid code; 2 unexpected end of the data; 3 overflow; 4 no entry left for a change; 5 no place left for a row's end with
            its mark;
            6 columns 4294967295 (for one line or a writer also 0); 7 data or output above 4294967296 bytes;
-           8 a row or reference that does not ascend strictly below the columns, or row ends that fall or pass the array; 9 the bits do not fit;
+           8 a row or reference that does not ascend strictly below the columns, or row ends that fall or pass the array, or a Group 3 page of no
+           rows to write; 9 the bits do not fit; 10 fill above 64;
            14 an exact page that ends with fewer rows than it is to have; 15 a row was read, and there may be more.
    mark:    for a form that gives one row its mark: 0 clean, 1 cut to the width, 2 recovered; else 0.
    rows:    rows kept. Row n's changes lie in `changes` from ends[n - 1] (0 for the first) to ends[n].
@@ -18,7 +19,7 @@
    loose:   entries behind them that belong to an unfinished row.
    bytes:   after 0 the bytes consumed or written; for one line the bit after it; else 0.
    place:   after 1, 2 and 3 the bit of the data at which the failing code began, counted from 0, or 8 x bytes for the end of the data; else 0.
-   After 6 to 9 every array is as it was; otherwise every entry behind the last one named keeps its value. */
+   After 6 to 10 every array is as it was; otherwise every entry behind the last one named keeps its value. */
 typedef struct {
     uint32_t number;
     uint32_t mark;
@@ -79,5 +80,10 @@ ccitt_answer ccitt_write_line(uint32_t columns, const uint32_t *reference, size_
 /* Writes one T.6 page from byte 0 of out on: as many rows as there are row ends, then EOFB. */
 ccitt_answer ccitt_write_page(uint32_t columns, const uint32_t *changes, size_t changes_len, const uint64_t *ends, size_t ends_len,
                               uint8_t *out, size_t out_len);
+
+/* Writes one Group 3 page of 1D lines from byte 0 of out on. With eols: `fill` zeros and an EOL before each line, and behind the last line `fill`
+   zeros and six EOLs. Without: the lines alone, and a reader must be told how many rows there are. */
+ccitt_answer ccitt_write_group3_1d(uint32_t columns, const uint32_t *changes, size_t changes_len, const uint64_t *ends, size_t ends_len,
+                                   bool eols, uint32_t fill, uint8_t *out, size_t out_len);
 
 #endif
