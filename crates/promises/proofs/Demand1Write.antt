@@ -33,7 +33,7 @@ module _ (columns : ℕ) (out : List ℕ) (good : Bool) (end : ℕ) where
     is-done : (None → ⊥) → (Long → ⊥) → good ≡ true → end ≤ 8 * length out → (w : Written) → w .number ≡ 0 → Said w
 
   -- the test of the columns, both ways
-  none : noLine columns ≡ true → None
+  pub none : noLine columns ≡ true → None
   none = tests (eqb columns 0) (eqb-true _ _) (eqb columns 4294967295) (eqb-true _ _)
     where
       tests : (a : Bool) → (a ≡ true → columns ≡ 0) → (b : Bool) → (b ≡ true → columns ≡ 4294967295) → (a || b) ≡ true → None
@@ -41,7 +41,7 @@ module _ (columns : ℕ) (out : List ℕ) (good : Bool) (end : ℕ) where
       tests false p true q e = inr (q refl)
       tests false p false q e = absurd (true≢false (sym e))
 
-  some : noLine columns ≡ false → None → ⊥
+  pub some : noLine columns ≡ false → None → ⊥
   some = tests (eqb columns 0) (eqb-false _ _) (eqb columns 4294967295) (eqb-false _ _)
     where
       tests : (a : Bool) → (a ≡ false → columns ≡ 0 → ⊥) → (b : Bool) → (b ≡ false → columns ≡ 4294967295 → ⊥) → (a || b) ≡ false → None → ⊥

@@ -3,7 +3,7 @@ use mathlib.Core.Path.{_≡_, refl, sym, ap, _∙_, subst}
 use mathlib.Core.Logic.{_⊎_}
 use mathlib.Core.Bool.{Bool}
 use mathlib.Core.List.{List, [], _∷_, _++_, append-assoc, append-nil}
-use Prim.Native.Nat.{ℕ, suc, _+_, _-_, _≤_}
+use Prim.Native.Nat.{ℕ, _+_, _-_, _≤_}
 use native.Mathlib.Omega.{arith}
 use lib.ListN.{length, take, drop, length-append, take-append-drop}
 use lib.Seq.{take-at, take-append-le, length-take-le}
@@ -17,6 +17,7 @@ use Rattle.rules.proofs.Bits.{length-bitsOf}
 use Rattle.rules.proofs.PageBack.{Rows, Plain, whole, allClean}
 use Rattle.rules.proofs.ReadBack.{rows-same}
 use Rattle.rules.proofs.RoundTrip.{line-returns, bits-split, page-returns, page-cut, line-written, PageWritten, page-written}
+use Rattle.rules.proofs.Store.{length-rowsIn}
 use Rattle.error.specs.Error.{answerOf, rowAnswerOf}
 use Rattle.error.specs.declared.Answer.{Answer}
 use Rattle.rows.specs.declared.DecodeSettings.{DecodeSettings}
@@ -70,12 +71,6 @@ prefix : (xs ys zs ws : List Bool) → xs ++ ys ≡ zs ++ ws → length zs ≤ l
 prefix xs ys zs ws e h =
     sym (take-append-drop (length zs) xs)
     ∙ ap (λ (l : List Bool). l ++ drop (length zs) xs) (sym (take-append-le (length zs) xs ys h) ∙ ap (take (length zs)) e ∙ take-at zs ws (length zs) refl)
-
--- as many rows as row ends
-count-rows : (base : ℕ) (changes ends : List ℕ) → length (rowsIn base changes ends) ≡ length ends
-unfolding rowsIn
-count-rows base changes [] = refl
-count-rows base changes (e ∷ es) = ap suc (count-rows e changes es)
 
 module _ (columns : ℕ) (changes ends out : List ℕ) (w : Answer) (out′ : List ℕ) (narrow : columns ≤ 4294967295)
     (written : Answers (writePage mostMakeup columns changes ends out) out w out′) (z : w .number ≡ 0) where
@@ -148,8 +143,8 @@ module _ (columns : ℕ) (changes ends out : List ℕ) (w : Answer) (out′ : Li
       → decode (settingsOf settings) bytes (length store) (placesIn places marks) ≡ whole (length P) (rowsIn 0 changes ends) (allClean (rowsIn 0 changes ends))
   page-is-whole bytes small e settings s counted store places marks roomy placed marked =
       read-whole bytes small e settings s
-      (subst (λ (n : ℕ). (settings .rows ≡ 0) ⊎ (settings .rows ≡ n)) (sym (count-rows 0 changes ends)) counted) (length store) (placesIn places marks) roomy
-      (omega (arith, count-rows 0 changes ends))
+      (subst (λ (n : ℕ). (settings .rows ≡ 0) ⊎ (settings .rows ≡ n)) (sym (length-rowsIn 0 changes ends)) counted) (length store) (placesIn places marks) roomy
+      (omega (arith, length-rowsIn 0 changes ends))
 
   read-cut : length out′ ≤ mostBytes → (cut : ℕ) (settings : DecodeSettings) → Plainly columns settings → (store places : ℕ)
       → (n : ℕ) × (decode (settingsOf settings) (take cut out′) store places .rows ≡ take n (rowsIn 0 changes ends))

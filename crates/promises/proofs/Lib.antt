@@ -16,3 +16,4 @@ pub mod Marks
 pub mod Exact
 pub mod EnginesAgree
 pub mod ByRow
+pub mod WriteGroup3

@@ -39,7 +39,7 @@ module _ (bytes : List ℕ) (settings : DecodeSettings) (changes ends marks : Li
   kept = Paged.marks-front said changes ends marks r changes′ ends′ marks′ called (Paged.all-marked settings bytes changes ends marks)
 
   -- the mark of a kept row
-  mark-at : (n : ℕ) → n < r .rows → getD marks′ n 0 ≡ getD (said .marks) n 0
+  pub mark-at : (n : ℕ) → n < r .rows → getD marks′ n 0 ≡ getD (said .marks) n 0
   mark-at n h = sym (getD-take (r .rows) marks′ n 0 h) ∙ ap (λ (l : List ℕ). getD l n 0) kept
 
 pub decode-marks : DecodeMarks

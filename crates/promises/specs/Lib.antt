@@ -4,6 +4,7 @@ pub mod Demand1Write
 pub mod Rooms
 pub mod Demand2
 pub mod Demand3
+pub mod WriteGroup3
 pub mod OneAnswer
 pub mod Pinned
 pub mod PinnedInside

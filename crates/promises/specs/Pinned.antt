@@ -28,7 +28,7 @@ ReadLinePinned =
     → ReadOne bytes at columns strict reference changes s ys
     → (r ≡ s) × (xs ≡ ys)
 
--- for write_line and write_page alike; the entries of an output are bytes
+-- for every writer alike, of lines, T.6 pages and Group 3 pages; the entries of an output are bytes
 abbrev pub WritersPinned : Type 0
 WritersPinned =
     (w : Written) (out : List ℕ) (r s : Answer) (xs ys : List ℕ) → ((i : ℕ) → getD xs i 0 < 256) → ((i : ℕ) → getD ys i 0 < 256)

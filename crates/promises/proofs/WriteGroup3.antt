@@ -1,0 +1,236 @@
+-- A3 is met: the writer's answers by its tests, and reading back by the rules' law over the contracts of both functions. Assumes nothing.
+use mathlib.Core.Path.{_≡_, refl, sym, ap, _∙_, subst}
+use mathlib.Core.Logic.{_⊎_, inl, inr, _↔_, ⊎-elim}
+use mathlib.Core.Bool.{Bool, true, false, _&&_, true≢false}
+use mathlib.Core.List.{List, [], _++_, append-nil}
+use Prim.Native.Nat.{ℕ, _+_, _*_, _≤_, _<_}
+use native.Mathlib.Omega.{arith}
+use lib.Dec.{leb, ltb}
+use lib.ListN.{length, getD, take, replicate, getD-replicate}
+use borrow.Author.Tests.{leb-true, leb-false, ltb-true, ltb-false}
+use Rattle.rules.specs.Pages as Page
+use Rattle.rules.specs.Pages.{mostBytes, entries, decode, placesIn}
+use Rattle.rules.specs.Write.{mostMakeup, rowsIn, endsRise, allAscend, Written, unwritten}
+use Rattle.rules.specs.WriteGroup3.{Layout, layout1D, page3Bits, writeGroup3, write1D}
+use Rattle.rules.proofs.PageBack.{allClean}
+use Rattle.rules.proofs.Writes.{write3-cases}
+use Rattle.rules.proofs.Group3Trip.{Returns, Page3Written, page3-written, Told1D, write1D-returns}
+use Rattle.error.specs.Error.{answerOf}
+use Rattle.error.specs.declared.Answer.{Answer}
+use Rattle.rows.specs.declared.DecodeSettings.{DecodeSettings}
+use Rattle.rows.specs.Settings.{encodingOf, settingsOf}
+use Rattle.writer.specs.Outcome.{Answers}
+use Rattle.promises.specs.WriteGroup3.{Write3Listed, Write1DAnswers, For1D, GivesBack, Written1DReadsBack, Written1DBeforeZeros}
+use Rattle.promises.proofs.Demand1.{in-store}
+use Rattle.promises.proofs.Demand1Write.{none, some}
+use Rattle.promises.proofs.Marks.{mark-at}
+
+-- ---- The answers
+
+-- there are rows and they are good, or not
+module _ (n : ℕ) (good : Bool) where
+  rows-bad : (ltb 0 n && good) ≡ false → (n ≡ 0) ⊎ (good ≡ false)
+  rows-bad = tests (ltb 0 n) (ltb-false 0 n)
+    where
+      tests : (a : Bool) → (a ≡ false → n ≤ 0) → (a && good) ≡ false → (n ≡ 0) ⊎ (good ≡ false)
+      tests true f e = inr e
+      tests false f e = inl (let h = f refl in omega arith)
+
+  rows-good : (ltb 0 n && good) ≡ true → ((n ≡ 0) ⊎ (good ≡ false)) → ⊥
+  rows-good = tests (ltb 0 n) (ltb-true 0 n)
+    where
+      tests : (a : Bool) → (a ≡ true → 0 < n) → (a && good) ≡ true → ((n ≡ 0) ⊎ (good ≡ false)) → ⊥
+      tests true f e = ⊎-elim (λ q. let h = f refl in omega (arith, q)) (λ q. true≢false (sym e ∙ q))
+      tests false f e = λ q. true≢false (sym e)
+
+module _ (layout : Layout) (fine : Bool) (Allowed : Type 0) (granted : fine ≡ true → Allowed) (denied : fine ≡ false → Allowed → ⊥) (columns : ℕ) (changes ends out : List ℕ) where
+  abbrev size : ℕ
+  size = length (page3Bits mostMakeup columns layout (rowsIn 0 changes ends))
+
+  abbrev Nothing : Type 0
+  Nothing = (columns ≡ 0) ⊎ (columns ≡ 4294967295)
+
+  abbrev Long : Type 0
+  Long = mostBytes < length out
+
+  abbrev Bad : Type 0
+  Bad = (length ends ≡ 0) ⊎ ((endsRise (length changes) 0 ends && allAscend columns (rowsIn 0 changes ends)) ≡ false)
+
+  -- what is written, by the tests
+  data Said : Written → Type 0 where
+    is-six : Nothing → Said (unwritten 6 out)
+    is-seven : (Nothing → ⊥) → Long → Said (unwritten 7 out)
+    is-ten : (Nothing → ⊥) → (Long → ⊥) → (Allowed → ⊥) → Said (unwritten 10 out)
+    is-eight : (Nothing → ⊥) → (Long → ⊥) → Allowed → Bad → Said (unwritten 8 out)
+    is-nine : (Nothing → ⊥) → (Long → ⊥) → Allowed → (Bad → ⊥) → 8 * length out < size → Said (unwritten 9 out)
+    is-done : (Nothing → ⊥) → (Long → ⊥) → Allowed → (Bad → ⊥) → size ≤ 8 * length out → (w : Written) → w .number ≡ 0 → Said w
+
+  said : Said (writeGroup3 mostMakeup layout fine columns changes ends out)
+  said =
+      write3-cases mostMakeup layout fine columns changes ends out Said
+      (λ i. is-six (none columns out true 0 i))
+      (λ i h. is-seven (some columns out true 0 i) h)
+      (λ i h f. is-ten (some columns out true 0 i) (λ l. omega arith) (denied f))
+      (λ i h f g. is-eight (some columns out true 0 i) (λ l. omega arith) (granted f) (rows-bad (length ends) _ g))
+      (λ i h f g l. is-nine (some columns out true 0 i) (λ l. omega arith) (granted f) (rows-good (length ends) _ g) (omega arith))
+      (λ i h f g l. is-done (some columns out true 0 i) (λ l. omega arith) (granted f) (rows-good (length ends) _ g) (omega arith) _ refl)
+
+  -- what holds of everything that is written
+  record Fine (w : Written) : Type 0 where
+    listed : (w .number ≡ 0) ⊎ ((6 ≤ w .number) × (w .number ≤ 10))
+    six : (w .number ≡ 6) ↔ Nothing
+    seven : (w .number ≡ 7) ↔ ((Nothing → ⊥) × Long)
+    ten : (w .number ≡ 10) ↔ ((Nothing → ⊥) × (Long → ⊥) × (Allowed → ⊥))
+    eight : (w .number ≡ 8) ↔ ((Nothing → ⊥) × (Long → ⊥) × Allowed × Bad)
+    nine : (w .number ≡ 9) ↔ ((Nothing → ⊥) × (Long → ⊥) × Allowed × (Bad → ⊥) × (8 * length out < size))
+    nowhere : (w .number ≡ 0 → ⊥) → w .end ≡ 0
+
+  each : {w : Written} → Said w → Fine w
+  each (is-six n) = record {
+    listed = inr (omega arith);
+    six = ((λ q. n), λ q. refl);
+    seven = ((λ q. absurd (omega arith)), λ q. absurd (q .0 n));
+    ten = ((λ q. absurd (omega arith)), λ q. absurd (q .0 n));
+    eight = ((λ q. absurd (omega arith)), λ q. absurd (q .0 n));
+    nine = ((λ q. absurd (omega arith)), λ q. absurd (q .0 n));
+    nowhere = λ q. refl;
+  }
+  each (is-seven n l) = record {
+    listed = inr (omega arith);
+    six = ((λ q. absurd (omega arith)), λ q. absurd (n q));
+    seven = ((λ q. (n, l)), λ q. refl);
+    ten = ((λ q. absurd (omega arith)), λ q. absurd (q .1 l));
+    eight = ((λ q. absurd (omega arith)), λ q. absurd (q .1 l));
+    nine = ((λ q. absurd (omega arith)), λ q. absurd (q .1 l));
+    nowhere = λ q. refl;
+  }
+  each (is-ten n l a) = record {
+    listed = inr (omega arith);
+    six = ((λ q. absurd (omega arith)), λ q. absurd (n q));
+    seven = ((λ q. absurd (omega arith)), λ q. absurd (l (q .1)));
+    ten = ((λ q. (n, l, a)), λ q. refl);
+    eight = ((λ q. absurd (omega arith)), λ q. absurd (a (q .2)));
+    nine = ((λ q. absurd (omega arith)), λ q. absurd (a (q .2)));
+    nowhere = λ q. refl;
+  }
+  each (is-eight n l a b) = record {
+    listed = inr (omega arith);
+    six = ((λ q. absurd (omega arith)), λ q. absurd (n q));
+    seven = ((λ q. absurd (omega arith)), λ q. absurd (l (q .1)));
+    ten = ((λ q. absurd (omega arith)), λ q. absurd (q .2 a));
+    eight = ((λ q. (n, l, a, b)), λ q. refl);
+    nine = ((λ q. absurd (omega arith)), λ q. absurd (q .3 b));
+    nowhere = λ q. refl;
+  }
+  each (is-nine n l a b f) = record {
+    listed = inr (omega arith);
+    six = ((λ q. absurd (omega arith)), λ q. absurd (n q));
+    seven = ((λ q. absurd (omega arith)), λ q. absurd (l (q .1)));
+    ten = ((λ q. absurd (omega arith)), λ q. absurd (q .2 a));
+    eight = ((λ q. absurd (omega arith)), λ q. absurd (b (q .3)));
+    nine = ((λ q. (n, l, a, b, f)), λ q. refl);
+    nowhere = λ q. refl;
+  }
+  each (is-done n l a b f w z) = record {
+    listed = inl z;
+    six = ((λ q. absurd (omega (arith, z, q))), λ q. absurd (n q));
+    seven = ((λ q. absurd (omega (arith, z, q))), λ q. absurd (l (q .1)));
+    ten = ((λ q. absurd (omega (arith, z, q))), λ q. absurd (q .2 a));
+    eight = ((λ q. absurd (omega (arith, z, q))), λ q. absurd (b (q .3)));
+    nine = ((λ q. absurd (omega (arith, z, q))), λ q. absurd (omega (arith, f, q .4)));
+    nowhere = λ q. absurd (q z);
+  }
+
+  answered : {w : Written} → Fine w → (r : Answer) (out′ : List ℕ) → Answers w out r out′ → Write3Listed Allowed columns changes ends out size r out′
+  unfolding entries
+  answered {w} f r out′ g = record {
+    listed = subst (λ (n : ℕ). (n ≡ 0) ⊎ ((6 ≤ n) × (n ≤ 10))) (sym number) (f .listed);
+    six = ((λ q. f .six .0 (sym number ∙ q)), λ q. number ∙ f .six .1 q);
+    seven = ((λ q. f .seven .0 (sym number ∙ q)), λ q. number ∙ f .seven .1 q);
+    ten = ((λ q. f .ten .0 (sym number ∙ q)), λ q. number ∙ f .ten .1 q);
+    eight = ((λ q. f .eight .0 (sym number ∙ q)), λ q. number ∙ f .eight .1 q);
+    nine = ((λ q. f .nine .0 (sym number ∙ q)), λ q. number ∙ f .nine .1 q);
+    refused = λ q. (g .kept (λ e. q (number ∙ e)), ap (λ (x : Answer). x .bytes) (g .answer) ∙ f .nowhere (λ e. q (number ∙ e)));
+    no-rows = (ap (λ (x : Answer). x .rows) (g .answer), ap (λ (x : Answer). x .entries) (g .answer), ap (λ (x : Answer). x .loose) (g .answer));
+  }
+    where
+      number : r .number ≡ w .number
+      number = ap (λ (x : Answer). x .number) (g .answer)
+
+  pub write3-answers : (r : Answer) (out′ : List ℕ) → Answers (writeGroup3 mostMakeup layout fine columns changes ends out) out r out′ → Write3Listed Allowed columns changes ends out size r out′
+  write3-answers = answered (each said)
+
+pub write-1d-answers : Write1DAnswers
+unfolding write1D
+write-1d-answers columns changes ends out eols fill r out′ g =
+    write3-answers (layout1D eols fill) (leb fill 64) (fill ≤ 64) (leb-true fill 64) (λ e h. let l = leb-false fill 64 e in omega arith) columns changes ends out r out′ g
+
+-- ---- Reading back
+
+-- what a writer wrote, of whose page the rules say that it returns
+module _ (W : Written) (changes ends out : List ℕ) (w : Answer) (out′ : List ℕ) (written : Answers W out w out′) (z : w .number ≡ 0)
+    (settings : DecodeSettings) (returns : Returns W (settingsOf settings) changes ends out) where
+  pub gives-back : (zeros : ℕ) → w .bytes + zeros ≤ mostBytes → GivesBack changes ends w settings (take (w .bytes) out′ ++ replicate zeros 0)
+  gives-back zeros small store places marks r store′ places′ marks′ roomy placed marked called = (
+    ap (λ (x : Answer). x .number) a,
+    ap (λ (x : Answer). x .bytes) a ∙ sym end-is,
+    in-store _ store places marks r store′ places′ marks′ called ∙ ap (λ (x : Page.Answer). x .rows) is,
+    λ n h.
+        mark-at _ settings store places marks r store′ places′ marks′ called n h
+        ∙ ap (λ (x : Page.Answer). getD (x .marks) n 0) is
+        ∙ getD-replicate (length (rowsIn 0 changes ends)) n 0 0 (omega (arith, ap (λ (x : Answer). x .rows) a)),
+  )
+    where
+      end-is : w .bytes ≡ W .end
+      end-is = ap (λ (x : Answer). x .bytes) (written .answer)
+
+      page : Page.Answer
+      page = record { number = 0; place = 0; bytes = W .end; rows = rowsIn 0 changes ends; marks = allClean (rowsIn 0 changes ends); loose = [] }
+
+      is : decode (settingsOf settings) (take (w .bytes) out′ ++ replicate zeros 0) (length store) (placesIn places marks) ≡ page
+      is =
+          ap (λ (n : ℕ). decode (settingsOf settings) (take n out′ ++ replicate zeros 0) (length store) (placesIn places marks)) end-is
+          ∙ returns out′ zeros (omega (arith, end-is)) (sym (ap (λ (x : Answer). x .number) (written .answer)) ∙ z) (written .size) (written .bits) (length store) (placesIn places marks) roomy (omega arith)
+
+      a : r ≡ answerOf page
+      a = called .answer ∙ ap answerOf is
+
+-- the settings of the rules
+told : (columns : ℕ) (eols : Bool) (rows : ℕ) (settings : DecodeSettings) → 0 < columns → columns ≤ 4294967295 → For1D columns eols rows settings → Told1D (settingsOf settings) eols rows
+told columns eols rows settings wide narrow s = record {
+  encoded = ap encodingOf (s .group-3);
+  wide = omega (arith, s .same-columns);
+  narrow = omega (arith, s .same-columns);
+  blocked = s .blocked;
+  lined = s .lined;
+  unaligned = s .unaligned;
+  counted = s .counted;
+}
+
+-- what a 0 says of the width and of the page's bytes
+module _ (layout : Layout) (fine : Bool) (columns : ℕ) (changes ends out : List ℕ) (w : Answer) (out′ : List ℕ) (narrow : columns ≤ 4294967295)
+    (written : Answers (writeGroup3 mostMakeup layout fine columns changes ends out) out w out′) (z : w .number ≡ 0) where
+  p : Page3Written mostMakeup layout fine columns changes ends out (writeGroup3 mostMakeup layout fine columns changes ends out)
+  p = page3-written mostMakeup layout fine columns changes ends out narrow (sym (ap (λ (x : Answer). x .number) (written .answer)) ∙ z)
+
+  pub wide : 0 < columns
+  wide = p .wide
+
+  pub in-limit : w .bytes + 0 ≤ mostBytes
+  in-limit = omega (arith, ap (λ (x : Answer). x .bytes) (written .answer), p .end-is, p .fits, p .short)
+
+pub written-1d-before-zeros : Written1DBeforeZeros
+unfolding write1D
+written-1d-before-zeros columns changes ends out eols fill w out′ narrow written z settings s zeros small =
+    gives-back (write1D mostMakeup eols fill columns changes ends out) changes ends out w out′ written z settings
+    (subst (λ (n : ℕ). Returns (write1D mostMakeup eols fill n changes ends out) (settingsOf settings) changes ends out) (s .same-columns)
+    (write1D-returns mostMakeup (omega arith) (omega arith) (settingsOf settings) changes ends out eols fill
+    (told columns eols (length ends) settings (wide (layout1D eols fill) (leb fill 64) columns changes ends out w out′ narrow written z) narrow s)))
+    zeros small
+
+pub written-1d-reads-back : Written1DReadsBack
+unfolding write1D
+written-1d-reads-back columns changes ends out eols fill w out′ narrow written z settings s =
+    subst (GivesBack changes ends w settings) (append-nil _)
+    (written-1d-before-zeros columns changes ends out eols fill w out′ narrow written z settings s 0
+    (in-limit (layout1D eols fill) (leb fill 64) columns changes ends out w out′ narrow written z))

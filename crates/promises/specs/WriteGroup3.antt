@@ -1,0 +1,81 @@
+-- A3: what the Group 3 1D writer answers, 0 or a refusal, each exactly when 02 says so, in 02's order; and what it wrote reads back: its rows and its length.
+use mathlib.Core.Path.{_≡_}
+use mathlib.Core.Logic.{_⊎_, _↔_}
+use mathlib.Core.Bool.{Bool, true, false, _&&_}
+use mathlib.Core.List.{List, _++_}
+use Prim.Native.Nat.{ℕ, _+_, _*_, _≤_, _<_}
+use lib.ListN.{length, getD, take, replicate}
+use Rattle.rules.specs.Pages.{mostBytes, entries}
+use Rattle.rules.specs.Write.{mostMakeup, rowsIn, endsRise, allAscend}
+use Rattle.rules.specs.WriteGroup3.{layout1D, page3Bits, write1D}
+use Rattle.error.specs.declared.Answer.{Answer}
+use Rattle.rows.specs.declared.DecodeSettings.{DecodeSettings}
+use Rattle.rows.specs.declared.EncodingMode.the-variants.{«Group3_1D»}
+use Rattle.writer.specs.Outcome.{Answers}
+use Rattle.ccitt.specs.Decode.{Decodes}
+
+-- ---- The answers
+
+-- a call of a Group 3 writer: whether the caller's number is allowed, the rows, and how many bits their page has
+module _ (Allowed : Type 0) (columns : ℕ) (changes ends out : List ℕ) (size : ℕ) (r : Answer) (out′ : List ℕ) where
+  abbrev pub NoLine : Type 0
+  NoLine = (columns ≡ 0) ⊎ (columns ≡ 4294967295)
+
+  abbrev pub TooLong : Type 0
+  TooLong = mostBytes < length out
+
+  -- "A page of no rows gets 8", and so do row ends that fall or pass the array, and a row that does not ascend
+  abbrev pub BadRows : Type 0
+  BadRows = (length ends ≡ 0) ⊎ ((endsRise (length changes) 0 ends && allAscend columns (rowsIn 0 changes ends)) ≡ false)
+
+  pub record Write3Listed : Type 0 where
+    pub listed : (r .number ≡ 0) ⊎ ((6 ≤ r .number) × (r .number ≤ 10))
+    pub six : (r .number ≡ 6) ↔ NoLine
+    pub seven : (r .number ≡ 7) ↔ ((NoLine → ⊥) × TooLong)
+    pub ten : (r .number ≡ 10) ↔ ((NoLine → ⊥) × (TooLong → ⊥) × (Allowed → ⊥))
+    pub eight : (r .number ≡ 8) ↔ ((NoLine → ⊥) × (TooLong → ⊥) × Allowed × BadRows)
+    pub nine : (r .number ≡ 9) ↔ ((NoLine → ⊥) × (TooLong → ⊥) × Allowed × (BadRows → ⊥) × (8 * length out < size))
+    pub refused : (r .number ≡ 0 → ⊥) → (out′ ≡ out) × (r .bytes ≡ 0)
+    pub no-rows : (r .rows ≡ 0) × (r .entries ≡ 0) × (r .loose ≡ 0)
+
+-- A3: fill "0 to 64; more answers 10, tested after 7", with EOLs and without
+abbrev pub Write1DAnswers : Type 0
+Write1DAnswers =
+    (columns : ℕ) (changes ends out : List ℕ) (eols : Bool) (fill : ℕ) (r : Answer) (out′ : List ℕ)
+    → Answers (write1D mostMakeup eols fill columns changes ends out) out r out′
+    → Write3Listed (fill ≤ 64) columns changes ends out (length (page3Bits mostMakeup columns (layout1D eols fill) (rowsIn 0 changes ends))) r out′
+
+-- ---- Reading back
+
+-- "`end_of_block` and `end_of_line` on exactly where the page has EOLs, `rows` its true number (or 0 with EOLs), unaligned"
+pub record For1D (columns : ℕ) (eols : Bool) (rows : ℕ) (settings : DecodeSettings) : Type 0 where
+  pub same-columns : settings .columns ≡ columns
+  pub group-3 : settings .encoding ≡ «Group3_1D»
+  pub blocked : settings .«end_of_block» ≡ eols
+  pub lined : settings .«end_of_line» ≡ eols
+  pub unaligned : settings .«rows_are_byte_aligned» ≡ false
+  pub counted : (settings .rows ≡ rows) ⊎ ((settings .rows ≡ 0) × (eols ≡ true))
+
+-- "room enough .. the page gives back its rows and its length"; each row is marked clean (A5). The settings may be strict, lenient or exact.
+abbrev pub GivesBack : List ℕ → List ℕ → Answer → DecodeSettings → List ℕ → Type 0
+GivesBack changes ends w settings bytes =
+    (store places marks : List ℕ) (r : Answer) (store′ places′ marks′ : List ℕ) → entries (rowsIn 0 changes ends) ≤ length store → length ends ≤ length places → length ends ≤ length marks
+    → Decodes bytes settings store places marks r store′ places′ marks′
+    → (r .number ≡ 0) × (r .bytes ≡ w .bytes) × (rowsIn 0 store′ (take (r .rows) places′) ≡ rowsIn 0 changes ends) × ((n : ℕ) → n < r .rows → getD marks′ n 0 ≡ 0)
+
+-- what `write_group3_1d` wrote, `decode` reads, "nothing following"
+abbrev pub Written1DReadsBack : Type 0
+Written1DReadsBack =
+    (columns : ℕ) (changes ends out : List ℕ) (eols : Bool) (fill : ℕ) (w : Answer) (out′ : List ℕ) → columns ≤ 4294967295
+    → Answers (write1D mostMakeup eols fill columns changes ends out) out w out′ → w .number ≡ 0
+    → (settings : DecodeSettings) → For1D columns eols (length ends) settings
+    → GivesBack changes ends w settings (take (w .bytes) out′)
+
+-- beyond 02: and so it does with any number of zero bytes behind it
+abbrev pub Written1DBeforeZeros : Type 0
+Written1DBeforeZeros =
+    (columns : ℕ) (changes ends out : List ℕ) (eols : Bool) (fill : ℕ) (w : Answer) (out′ : List ℕ) → columns ≤ 4294967295
+    → Answers (write1D mostMakeup eols fill columns changes ends out) out w out′ → w .number ≡ 0
+    → (settings : DecodeSettings) → For1D columns eols (length ends) settings
+    → (zeros : ℕ) → w .bytes + zeros ≤ mostBytes
+    → GivesBack changes ends w settings (take (w .bytes) out′ ++ replicate zeros 0)
