@@ -29,6 +29,7 @@ struct Answer ccitt_read_line(const u8 *src, u64 src_len, u64 at, u32 columns, _
 #ifdef WRITERS
 struct Answer ccitt_write_line(u32 columns, const u32 *reference, u64 reference_len, const u32 *row, u64 row_len, u8 *out, u64 out_len, u64 at);
 struct Answer ccitt_write_page(u32 columns, const u32 *changes, u64 changes_len, const u64 *ends, u64 ends_len, u8 *out, u64 out_len);
+struct Answer ccitt_write_group3_1d(u32 columns, const u32 *changes, u64 changes_len, const u64 *ends, u64 ends_len, _Bool eols, u32 fill, u8 *out, u64 out_len);
 #define HAS_WRITERS 1
 #else
 #define HAS_WRITERS 0
@@ -36,7 +37,8 @@ struct Answer ccitt_write_page(u32 columns, const u32 *changes, u64 changes_len,
 
 enum { MARGIN = 2, BYTE_MARGIN = 8 };
 
-// One call as it stands in a batch; the data and the two lists follow it. `out` counts the marks of a reader, and a writer's bytes.
+// One call as it stands in a batch; the data and the two lists follow it. `out` counts the marks of a reader, and a writer's bytes. A Group 3
+// writer has the caller's number in `rows`, and whether there are EOLs in the second flag.
 struct Call {
     u32 form, flags, columns, rows;
     u64 at, tail;
@@ -129,7 +131,11 @@ static struct Answer write_to(const struct Call *c, const u32 *first, const u32 
     if (c->form == 4) return ccitt_write_line(c->columns, first, c->first_len, second, c->second_len, out, out_len, c->at);
     u64 *ends = memory(8ul * c->second_len);
     for (u64 i = 0; i < c->second_len; i++) ends[i] = second[i];
-    struct Answer answer = ccitt_write_page(c->columns, first, c->first_len, ends, c->second_len, out, out_len);
+    struct Answer answer;
+    switch (c->form) {
+    case 5: answer = ccitt_write_page(c->columns, first, c->first_len, ends, c->second_len, out, out_len); break;
+    default: answer = ccitt_write_group3_1d(c->columns, first, c->first_len, ends, c->second_len, c->flags >> 1 & 1, c->rows, out, out_len);
+    }
     free(ends);
     return answer;
 #else

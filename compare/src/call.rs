@@ -28,6 +28,23 @@ pub enum Form {
     ReadLine,
     WriteLine,
     WritePage,
+    WriteGroup3(Layout),
+}
+
+/// What stands between the lines of a Group 3 page that is written, as the caller says it.
+#[derive(Clone, Copy, Debug, PartialEq, Eq)]
+pub enum Layout {
+    /// A3: 1D lines, with EOLs or without, and so many zeros of fill before each EOL.
+    OneD { eols: bool, fill: u32 },
+}
+
+impl Layout {
+    /// The same without fill.
+    pub fn unfilled(self) -> Self {
+        match self {
+            Layout::OneD { eols, .. } => Layout::OneD { eols, fill: 0 },
+        }
+    }
 }
 
 /// What the library is asked, the lent arrays aside.
@@ -78,6 +95,10 @@ impl Ask {
             first: reference,
             second: row,
         }
+    }
+
+    pub fn write_group3(layout: Layout, columns: u32, changes: Vec<u32>, ends: Vec<u32>) -> Self {
+        Ask { form: Form::WriteGroup3(layout), ..Ask::write_page(columns, changes, ends) }
     }
 
     pub fn write_page(columns: u32, changes: Vec<u32>, ends: Vec<u32>) -> Self {

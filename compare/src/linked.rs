@@ -2,6 +2,8 @@
 #![allow(unsafe_code)]
 
 use crate::by_row::{self, Page, RowForm, Store};
+#[cfg(feature = "writers")]
+use crate::call::Layout;
 use crate::call::{Answer, BYTE_MARGIN, Call, Form, MARGIN, Replies, Room, with_zeros};
 use crate::ours::Ours;
 use crate::settings::{Encoding, Settings};
@@ -32,6 +34,9 @@ unsafe extern "C" {
     #[cfg(feature = "writers")]
     fn ccitt_write_page(answer: *mut Answer, columns: u32, changes: *const u32, changes_len: usize, ends: *const u64, ends_len: usize,
         out: *mut u8, out_len: usize) -> *mut Answer;
+    #[cfg(feature = "writers")]
+    fn ccitt_write_group3_1d(answer: *mut Answer, columns: u32, changes: *const u32, changes_len: usize, ends: *const u64, ends_len: usize,
+        eols: bool, fill: u32, out: *mut u8, out_len: usize) -> *mut Answer;
 }
 
 pub struct Linked;
@@ -189,9 +194,11 @@ fn write(call: &Call, bytes: &mut [u8]) -> Answer {
 #[rustfmt::skip]
 fn write_to(call: &Call, out: &mut [u8]) -> Answer {
     let ask = call.ask;
-    if ask.form == Form::WritePage {
-        let ends: Vec<u64> = ask.second.iter().copied().map(u64::from).collect();
-        return write_page(ask.settings.columns, &ask.first, &ends, out);
+    let ends = || -> Vec<u64> { ask.second.iter().copied().map(u64::from).collect() };
+    match ask.form {
+        Form::WritePage => return write_page(ask.settings.columns, &ask.first, &ends(), out),
+        Form::WriteGroup3(layout) => return write_group3(layout, ask.settings.columns, &ask.first, &ends(), out),
+        _ => {}
     }
     let mut answer = Answer::default();
     // SAFETY: each pointer stands with the length of its slice, and the answer is apart.
@@ -210,6 +217,21 @@ pub fn write_page(columns: u32, changes: &[u32], ends: &[u64], out: &mut [u8]) -
     // SAFETY: each pointer stands with the length of its slice, and the answer is apart.
     unsafe {
         ccitt_write_page(&mut answer, columns, changes.as_ptr(), changes.len(), ends.as_ptr(), ends.len(), out.as_mut_ptr(), out.len())
+    };
+    answer
+}
+
+/// The Group 3 writers.
+#[cfg(feature = "writers")]
+#[rustfmt::skip]
+pub fn write_group3(layout: Layout, columns: u32, changes: &[u32], ends: &[u64], out: &mut [u8]) -> Answer {
+    let mut answer = Answer::default();
+    // SAFETY: each pointer stands with the length of its slice, and the answer is apart.
+    unsafe {
+        match layout {
+            Layout::OneD { eols, fill } => ccitt_write_group3_1d(&mut answer, columns, changes.as_ptr(), changes.len(), ends.as_ptr(), ends.len(),
+                eols, fill, out.as_mut_ptr(), out.len()),
+        }
     };
     answer
 }

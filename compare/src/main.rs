@@ -13,6 +13,7 @@ mod checks;
 mod codes;
 mod damage;
 mod encoder;
+mod group3;
 mod huge;
 #[cfg(feature = "linked")]
 mod linked;
@@ -38,7 +39,7 @@ use check::{Source, Tally};
 use checks::other_decoder::{self, OtherDecoder};
 use checks::random_pages::{Kind, RandomPages};
 use checks::{
-    codes::Codes, exhaustive::Exhaustive, far::Far, fill::Fill, limits, lines::Lines, listed_pages::ListedPages, long_runs::LongRuns,
+    codes::Codes, exhaustive::Exhaustive, far::Far, fill::Fill, group3_writers, limits, lines::Lines, listed_pages::ListedPages, long_runs::LongRuns,
     sheets::Sheets, writers,
 };
 use ours::Ours;
@@ -141,8 +142,10 @@ fn writer_sources(more: u64) -> Vec<Box<dyn Source>> {
         Box::new(writers::WriterLimits),
         Box::new(writers::WrittenLines { count: 100_000 * more }),
         Box::new(writers::WrittenPages { count: 50_000 * more }),
-        Box::new(ListedPages::recorded()),
+        Box::new(group3_writers::Limits),
+        Box::new(group3_writers::Written { count: 50_000 * more }),
     ];
+    list.extend(ListedPages::all());
     if let Some(mut texts) = other_decoder::texts() {
         texts.retain(|text| text.settings.encoding == Encoding::Group4);
         list.push(Box::new(writers::WrittenTexts(texts)));

@@ -1,7 +1,7 @@
 //! The library in a process of its own, behind pipes: where it can't be linked, since it is compiled
 //! for another processor. `driver.c` is the other end, and has the same layout.
 
-use crate::call::{Answer, Call, Form, Replies, Room};
+use crate::call::{Answer, Call, Form, Layout, Replies, Room};
 use crate::ours::Ours;
 use crate::settings::Encoding;
 use std::io::{self, Read, Write};
@@ -102,7 +102,7 @@ fn put_call(out: &mut Vec<u8>, call: &Call) {
         form_number(ask.form),
         flags(call),
         ask.settings.columns,
-        ask.settings.rows,
+        number(call),
         ask.at as u32,
         (ask.at >> 32) as u32,
         ask.tail as u32,
@@ -138,12 +138,23 @@ fn form_number(form: Form) -> u32 {
         Form::ReadLine => 3,
         Form::WriteLine => 4,
         Form::WritePage => 5,
+        Form::WriteGroup3(Layout::OneD { .. }) => 6,
     }
 }
 
+/// The number of rows of a page; of a Group 3 writer the caller's number.
+fn number(call: &Call) -> u32 {
+    match call.ask.form {
+        Form::WriteGroup3(Layout::OneD { fill, .. }) => fill,
+        _ => call.ask.settings.rows,
+    }
+}
+
+/// The flags of a page; of a Group 3 writer whether there are EOLs.
 fn flags(call: &Call) -> u32 {
     let s = &call.ask.settings;
-    let flags = [s.end_of_block, s.end_of_line, s.aligned, s.strict, call.exact, call.plain];
+    let eols = matches!(call.ask.form, Form::WriteGroup3(Layout::OneD { eols: true, .. }));
+    let flags = [s.end_of_block, s.end_of_line || eols, s.aligned, s.strict, call.exact, call.plain];
     flags.iter().rev().fold(0, |flags, &flag| flags << 1 | u32::from(flag))
 }
 

@@ -149,5 +149,6 @@ fn form_number(form: Form) -> u32 {
         Form::ReadLine => 3,
         Form::WriteLine => 4,
         Form::WritePage => 5,
+        Form::WriteGroup3(_) => 6,
     }
 }

@@ -5,10 +5,11 @@ mod rows;
 
 use crate::bits::Bits;
 use crate::by_row::{self, Page, Store};
-use crate::call::{Answer, Ask, BYTE_MARGIN, Call, Form, Replies, Room};
+use crate::call::{Answer, Ask, BYTE_MARGIN, Call, Form, Layout, Replies, Room};
 use crate::checks::writers::encoded;
 use crate::codes::LONGEST;
 use crate::encoder::put_line_2d;
+use crate::group3;
 use crate::ours::Ours;
 use crate::settings::{Encoding, Settings};
 use crate::truth::{Idle, LIMIT, Outcome, Wanted, ascends_below};
@@ -72,9 +73,15 @@ pub enum Fault {
     RepeatsOtherwise,
     ForgedTaken,
     PlainRow,
+    OneTooMany,
+    EightBeforeTen,
+    NoRowsWritten,
+    FirstEolMissing,
+    FiveEols,
+    FillBeforeEach,
 }
 
-pub const FAULTS: [Fault; 52] = [
+pub const FAULTS: [Fault; 58] = [
     Fault::Number,
     Fault::Rows,
     Fault::Entries,
@@ -127,7 +134,18 @@ pub const FAULTS: [Fault; 52] = [
     Fault::RepeatsOtherwise,
     Fault::ForgedTaken,
     Fault::PlainRow,
+    Fault::OneTooMany,
+    Fault::EightBeforeTen,
+    Fault::NoRowsWritten,
+    Fault::FirstEolMissing,
+    Fault::FiveEols,
+    Fault::FillBeforeEach,
 ];
+
+/// Whether the caller's number is the first that is refused.
+fn just_past(layout: Layout) -> bool {
+    matches!(layout, Layout::OneD { fill: 65, .. })
+}
 
 pub struct Standin(pub Fault);
 
@@ -312,7 +330,7 @@ impl Standin {
             Fault::WrittenBehind if end.div_ceil(8) < length => out[length - 1] ^= 1,
             _ => {}
         }
-        let place = if ask.form == Form::WritePage { end / 8 } else { end };
+        let place = if ask.form == Form::WriteLine { end } else { end / 8 };
         Answer { bytes: place as u64, ..Answer::default() }
     }
 
@@ -325,6 +343,10 @@ impl Standin {
             7
         } else if self.0 == Fault::NineBeforeEight && past {
             9
+        } else if let Form::WriteGroup3(layout) = ask.form
+            && let refusal @ 1.. = self.group3_refusal(ask, layout)
+        {
+            refusal
         } else if ask.form == Form::WriteLine {
             if ascends_below(&ask.first, columns) && ascends_below(&ask.second, columns) { 0 } else { 8 }
         } else if self.rows(ask).is_some_and(|rows| rows.iter().all(|row| ascends_below(row, columns))) {
@@ -332,6 +354,35 @@ impl Standin {
         } else {
             8
         }
+    }
+
+    /// What a Group 3 writer tests besides: the caller's number before the rows, and that there are rows.
+    fn group3_refusal(&self, ask: &Ask, layout: Layout) -> u32 {
+        let rows = !ask.second.is_empty() || self.0 == Fault::NoRowsWritten;
+        match (group3::allowed(layout) || self.0 == Fault::OneTooMany && just_past(layout), rows) {
+            (false, false) if self.0 == Fault::EightBeforeTen => 8,
+            (false, _) => 10,
+            (true, false) => 8,
+            (true, true) => 0,
+        }
+    }
+
+    /// A Group 3 page, with a fault in what stands between its lines.
+    fn group3_page(&self, layout: Layout, columns: u32, rows: &[Vec<u32>]) -> Bits {
+        let mut bits = Bits::default();
+        for (index, row) in rows.iter().enumerate() {
+            if index > 0 || self.0 != Fault::FirstEolMissing {
+                group3::put_ahead(&mut bits, layout);
+            }
+            group3::put_line(&mut bits, columns, row);
+        }
+        match self.0 {
+            Fault::FiveEols => group3::put_eols(&mut bits, layout, 5),
+            Fault::FillBeforeEach => (0..6).for_each(|_| group3::put_ahead(&mut bits, layout)),
+            _ => group3::put_eols(&mut bits, layout, 6),
+        }
+        bits.align();
+        bits
     }
 
     /// The rows of a page to be written, unless its row ends fall or pass the array.
@@ -351,8 +402,11 @@ impl Standin {
 
     fn bits(&self, ask: &Ask) -> Bits {
         let columns = ask.settings.columns;
-        if ask.form == Form::WritePage {
-            return encoded(columns, &self.rows(ask).expect("it was not refused"));
+        let rows = || self.rows(ask).expect("it was not refused");
+        match ask.form {
+            Form::WritePage => return encoded(columns, &rows()),
+            Form::WriteGroup3(layout) => return self.group3_page(layout, columns, &rows()),
+            _ => {}
         }
         let mut bits = Bits::default();
         put_line_2d(&mut bits, columns, &ask.first, &ask.second, LONGEST);
@@ -428,13 +482,13 @@ mod tests {
     use super::{FAULTS, Fault, Standin};
     use crate::check::{self, Source};
     use crate::checks::random_pages::{Kind, RandomPages};
-    use crate::checks::{codes::Codes, limits, lines::Lines, listed_pages::ListedPages, long_runs::LongRuns, sheets::Sheets, writers};
+    use crate::checks::{codes::Codes, group3_writers, limits, lines::Lines, listed_pages::ListedPages, long_runs::LongRuns, sheets::Sheets, writers};
     use crate::ours::Ours;
 
     /// Every check but the exhaustive one, with fewer inputs.
     fn sources(count: u64) -> Vec<Box<dyn Source>> {
         let random = |kind| Box::new(RandomPages { kind, count }) as Box<dyn Source>;
-        vec![
+        let mut list: Vec<Box<dyn Source>> = vec![
             Box::new(Sheets),
             Box::new(limits::PageLimits),
             Box::new(limits::LineLimits),
@@ -447,8 +501,11 @@ mod tests {
             Box::new(writers::WriterLimits),
             Box::new(writers::WrittenLines { count }),
             Box::new(writers::WrittenPages { count }),
-            Box::new(ListedPages::recorded()),
-        ]
+            Box::new(group3_writers::Limits),
+            Box::new(group3_writers::Written { count }),
+        ];
+        list.extend(ListedPages::all());
+        list
     }
 
     /// The checks that a fault fails.

@@ -1,27 +1,42 @@
-//! Written pages, against what another fax program read from them and writes for their rows (recorded/written.txt).
+//! Written pages, against what other fax programs read from them and write for their rows
+//! (recorded/written.txt, recorded/group3_1d.txt).
 
-use super::writers::written_page;
 use crate::check::{Case, Source};
-use crate::listed::{COUNT, ListedPage};
+use crate::listed::{COUNT, LISTS, List, ListedPage};
 use crate::pixels::packed;
 use crate::random::Random;
 use crate::sha256::digest;
 
-/// The list's pages, with the recorded lines in their order. A line has the page's number, columns and
-/// rows, the digest of its bytes, that of the pixels which the other decoder read, and that of the bytes
+/// A list's pages, with the recorded lines in their order. A line has the page's number, columns and
+/// rows, the digest of its bytes, those of the pixels which the other decoders read, and that of the bytes
 /// which the other encoder writes.
-pub struct ListedPages(pub Vec<String>);
+pub struct ListedPages {
+    list: List,
+    lines: Vec<String>,
+}
 
 impl ListedPages {
-    pub fn recorded() -> Self {
-        let lines = include_str!("../../recorded/written.txt").lines().filter(|line| !line.starts_with('#'));
-        ListedPages(lines.map(str::to_string).collect())
+    pub fn recorded(list: List) -> Self {
+        let text = match list {
+            List::Group4 => include_str!("../../recorded/written.txt"),
+            List::Group3OneD => include_str!("../../recorded/group3_1d.txt"),
+        };
+        let lines = text.lines().filter(|line| !line.starts_with('#'));
+        ListedPages { list, lines: lines.map(str::to_string).collect() }
+    }
+
+    pub fn all() -> impl Iterator<Item = Box<dyn Source>> {
+        LISTS.into_iter().map(|list| Box::new(ListedPages::recorded(list)) as Box<dyn Source>)
     }
 }
 
 impl Source for ListedPages {
     fn name(&self) -> String {
-        "written pages by another decoder and encoder".to_string()
+        match self.list {
+            List::Group4 => "written pages by another decoder and encoder",
+            List::Group3OneD => "written Group 3 1D pages by two other decoders and an encoder",
+        }
+        .to_string()
     }
 
     /// A page without a line counts too, and fails.
@@ -30,16 +45,20 @@ impl Source for ListedPages {
     }
 
     fn case(&self, index: u64, random: &mut Random) -> Case {
-        let page = ListedPage::of(index as usize);
-        let line = self.0.get(index as usize).map_or("", String::as_str);
-        let (line, written) = line.rsplit_once(' ').unwrap_or_default();
-        let (made, read) = line.rsplit_once(' ').unwrap_or_default();
-        let bytes = digest(&page.bytes());
-        let anew = format!("{index} {} {} {bytes}", page.columns, page.rows.len());
-        written_page(random, page.columns, &page.rows)
-            .require(made == anew, || format!("{}: this is not the page that was recorded", page.file_name()))
-            .require(read == digest(&packed(page.columns, &page.rows)), || format!("{}: libtiff read other rows", page.file_name()))
-            .require(written == bytes, || format!("{}: libtiff writes other bytes", page.file_name()))
+        let page = ListedPage::of(self.list, index as usize);
+        let name = page.file_name();
+        let line = self.lines.get(index as usize).map_or("", String::as_str);
+        let words: Vec<&str> = line.split(' ').collect();
+        let readers = self.list.readers();
+        let anew = format!("{index} {} {} {}", page.columns, page.rows.len(), digest(&page.bytes()));
+        let made = words.len() == 5 + readers.len() && words[..4].join(" ") == anew;
+        let mut case = page.case(random).require(made, || format!("{name}: this is not the page that was recorded"));
+        let pixels = digest(&packed(page.columns, &page.rows));
+        for (reader, read) in readers.iter().zip(words.iter().skip(4)) {
+            case = case.require(*read == pixels, || format!("{name}: {reader} read other rows"));
+        }
+        let encoded = digest(&page.by_libtiff());
+        case.require(words.last() == Some(&encoded.as_str()), || format!("{name}: libtiff writes other bytes"))
     }
 }
 
@@ -47,38 +66,51 @@ impl Source for ListedPages {
 mod tests {
     use super::ListedPages;
     use crate::check::{self, Tally};
+    use crate::listed::{LISTS, List};
     use crate::standin::{Fault, Standin};
 
     fn tally(pages: &ListedPages, fault: Fault) -> Tally {
         check::run(pages, 7, &mut [Box::new(Standin(fault))])
     }
 
+    /// The words that a record has behind the page's own, and what is said where one is wrong.
+    fn complaints(list: List) -> Vec<String> {
+        let mut all = vec!["is not the page".to_string(), "is not the page".to_string()];
+        all.extend(list.readers().iter().map(|reader| format!("{reader} read other rows")));
+        all.push("libtiff writes other bytes".to_string());
+        all
+    }
+
     /// A line with a wrong number of rows or a wrong digest fails its own page and no other.
     #[test]
     fn a_wrong_record_is_caught() {
-        for (word, complaint) in
-            [(2, "is not the page"), (3, "is not the page"), (4, "libtiff read other rows"), (5, "libtiff writes other bytes")]
-        {
-            let mut pages = ListedPages::recorded();
-            let mut words: Vec<String> = pages.0[17].split(' ').map(str::to_string).collect();
-            let last = words[word].pop();
-            words[word].push(if last == Some('0') { '1' } else { '0' });
-            pages.0[17] = words.join(" ");
-            let tally = tally(&pages, Fault::None);
-            let (_, text) = tally.smallest.expect("a page differs");
-            assert!(tally.differing == 1 && text.contains("017-") && text.contains(complaint), "word {word}: {text}");
+        for list in LISTS {
+            for (complaint, word) in complaints(list).into_iter().zip(2..) {
+                let mut pages = ListedPages::recorded(list);
+                let mut words: Vec<String> = pages.lines[17].split(' ').map(str::to_string).collect();
+                let last = words[word].pop();
+                words[word].push(if last == Some('0') { '1' } else { '0' });
+                pages.lines[17] = words.join(" ");
+                let tally = tally(&pages, Fault::None);
+                let (_, text) = tally.smallest.expect("a page differs");
+                assert!(tally.differing == 1 && text.contains("017-") && text.contains(&complaint), "word {word}: {text}");
+            }
         }
     }
 
     #[test]
     fn a_missing_record_is_caught() {
-        let mut pages = ListedPages::recorded();
-        pages.0.pop();
-        assert_eq!(tally(&pages, Fault::None).differing, 1);
+        for list in LISTS {
+            let mut pages = ListedPages::recorded(list);
+            pages.lines.pop();
+            assert_eq!(tally(&pages, Fault::None).differing, 1);
+        }
     }
 
     #[test]
     fn a_wrong_bit_of_the_library_is_caught() {
-        assert!(!tally(&ListedPages::recorded(), Fault::WrittenBit).passed());
+        for list in LISTS {
+            assert!(!tally(&ListedPages::recorded(list), Fault::WrittenBit).passed());
+        }
     }
 }

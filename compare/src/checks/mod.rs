@@ -3,6 +3,7 @@
 pub mod codes;
 pub mod exhaustive;
 pub mod far;
+pub mod group3_writers;
 pub mod fill;
 pub mod limits;
 pub mod lines;

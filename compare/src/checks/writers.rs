@@ -60,7 +60,7 @@ fn line_case(random: &mut Random, columns: u32, reference: Vec<u32>, row: Vec<u3
 
 /// What an output holds once bits were written from bit `at` on: the bits before them stay, the rest of
 /// their last byte is zero, the bytes behind it stay.
-fn written(bits: &Bits, at: usize, length: usize, fill: u32, place: u64) -> Wanted {
+pub(super) fn written(bits: &Bits, at: usize, length: usize, fill: u32, place: u64) -> Wanted {
     let mut out: Vec<u8> = (0..length).map(|index| pattern_byte(fill, BYTE_MARGIN + index)).collect();
     let end = at + bits.len();
     for index in at..end.div_ceil(8) * 8 {
@@ -71,7 +71,7 @@ fn written(bits: &Bits, at: usize, length: usize, fill: u32, place: u64) -> Want
     Wanted { out: Some(out), ..Wanted::untouched(Answer { bytes: place, ..Answer::default() }) }
 }
 
-fn refused(number: u32) -> Wanted {
+pub(super) fn refused(number: u32) -> Wanted {
     Wanted::untouched(Answer::bare(number))
 }
 
@@ -158,7 +158,7 @@ pub struct WriterLimits;
 /// A refusal: number, columns, zero bytes behind an output of four, start, and two lists.
 type Refusal = (u32, u32, usize, u64, &'static [u32], &'static [u32]);
 
-const LONG: usize = LIMIT - 3;
+pub(super) const LONG: usize = LIMIT - 3;
 
 const LINE_REFUSALS: [Refusal; 16] = [
     (6, 0, 0, 0, &[], &[]),
