@@ -1,4 +1,4 @@
-// libtiff's Group 4 writer with its file in memory, for the bench of the writers. src/linked/libtiff.rs
+// libtiff's Group 4 and Group 3 writers with their file in memory, for the bench of the writers. src/linked/libtiff.rs
 // calls it.
 
 #include <stdint.h>
@@ -44,21 +44,27 @@ struct Strip {
     size_t at, length;
 };
 
-static int write_strip(TIFF *tiff, uint32_t columns, uint32_t rows, const uint8_t *packed, size_t packed_len) {
+// 4: Group 4; 1: Group 3, 1D lines, an EOL before each
+static int set_scheme(TIFF *tiff, uint32_t scheme) {
+    if (scheme == 4) return TIFFSetField(tiff, TIFFTAG_COMPRESSION, COMPRESSION_CCITTFAX4);
+    return TIFFSetField(tiff, TIFFTAG_COMPRESSION, COMPRESSION_CCITTFAX3) && TIFFSetField(tiff, TIFFTAG_GROUP3OPTIONS, 0);
+}
+
+static int write_strip(TIFF *tiff, uint32_t scheme, uint32_t columns, uint32_t rows, const uint8_t *packed, size_t packed_len) {
     // a strip to write is not const in libtiff, which leaves it as it is
     return TIFFSetField(tiff, TIFFTAG_IMAGEWIDTH, columns) && TIFFSetField(tiff, TIFFTAG_IMAGELENGTH, rows) &&
-           TIFFSetField(tiff, TIFFTAG_ROWSPERSTRIP, rows) && TIFFSetField(tiff, TIFFTAG_COMPRESSION, COMPRESSION_CCITTFAX4) &&
+           TIFFSetField(tiff, TIFFTAG_ROWSPERSTRIP, rows) && set_scheme(tiff, scheme) &&
            TIFFSetField(tiff, TIFFTAG_PHOTOMETRIC, PHOTOMETRIC_MINISWHITE) &&
            TIFFWriteEncodedStrip(tiff, 0, (void *)packed, packed_len) == (tmsize_t)packed_len;
 }
 
 // Writes packed rows as a TIFF file. Returns where its one strip lies, of length 0 if the file is not whole.
-struct Strip libtiff_write_page(uint32_t columns, uint32_t rows, const uint8_t *packed, size_t packed_len, uint8_t *out, size_t out_len) {
+struct Strip libtiff_write_page(uint32_t scheme, uint32_t columns, uint32_t rows, const uint8_t *packed, size_t packed_len, uint8_t *out, size_t out_len) {
     struct File file = {out, out_len, 0, 0};
     struct Strip strip = {0, 0};
     TIFF *tiff = TIFFClientOpen("memory", "w", &file, read_nothing, write_file, seek_file, close_nothing, size_of_file, NULL, NULL);
     if (!tiff) return strip;
-    if (write_strip(tiff, columns, rows, packed, packed_len)) {
+    if (write_strip(tiff, scheme, columns, rows, packed, packed_len)) {
         strip.at = TIFFGetStrileOffset(tiff, 0);
         strip.length = TIFFGetStrileByteCount(tiff, 0);
     }

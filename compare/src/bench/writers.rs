@@ -1,6 +1,7 @@
-//! The page writer against libtiff's, on the rows of the Group 4 pages.
+//! The page writers against libtiff's, on the rows of the Group 4 pages.
 
 use super::timing::report;
+use crate::call::{Answer, Layout};
 use crate::checks::other_decoder::Text;
 use crate::linked::{self, libtiff};
 use crate::pixels::packed;
@@ -11,9 +12,42 @@ use std::time::{Duration, Instant};
 /// More than any of the pages needs.
 const ROOM: usize = 1 << 18;
 
+/// What is written.
+#[derive(Clone, Copy)]
+enum Kind {
+    Group4,
+    /// With EOLs, and no fill, as libtiff writes it. It leaves out the EOLs at the end.
+    Group3(Layout),
+}
+
+impl Kind {
+    fn ours(self, columns: u32, changes: &[u32], ends: &[u64], out: &mut [u8]) -> Answer {
+        match self {
+            Kind::Group4 => linked::write_page(columns, changes, ends, out),
+            Kind::Group3(layout) => linked::write_group3(layout, columns, changes, ends, out),
+        }
+    }
+
+    fn scheme(self) -> libtiff::Scheme {
+        match self {
+            Kind::Group4 => libtiff::Scheme::Group4,
+            Kind::Group3(Layout::OneD { .. }) => libtiff::Scheme::Group3OneD,
+        }
+    }
+
+    /// How the page of so many rows is read back, with its end or without.
+    fn settings(self, columns: u32, rows: u32, end_of_block: bool) -> Settings {
+        let encoding = match self {
+            Kind::Group4 => Encoding::Group4,
+            Kind::Group3(Layout::OneD { .. }) => Encoding::Group3OneD,
+        };
+        Settings { encoding, columns, rows, end_of_block, end_of_line: encoding != Encoding::Group4, aligned: false, strict: true }
+    }
+}
+
 /// A page as each writer takes it: changes and row ends, and packed rows.
 struct Page {
-    settings: Settings,
+    columns: u32,
     rows: Outcome,
     ends: Vec<u64>,
     packed: Vec<u8>,
@@ -23,12 +57,12 @@ impl Page {
     fn of(text: &Text) -> Self {
         let rows = Outcome::of_page(&text.settings, &text.src, 0);
         let ends = rows.ends.iter().copied().map(u64::from).collect();
-        Page { settings: text.settings, packed: packed(text.settings.columns, rows.rows()), ends, rows }
+        Page { columns: text.settings.columns, packed: packed(text.settings.columns, rows.rows()), ends, rows }
     }
 
     /// Whether a strip holds the page's rows: otherwise the two writers did not do the same work.
-    fn is_read_from(&self, strip: &[u8]) -> bool {
-        let read = Outcome::of_page(&self.settings, strip, 0);
+    fn is_read_from(&self, kind: Kind, strip: &[u8], end_of_block: bool) -> bool {
+        let read = Outcome::of_page(&kind.settings(self.columns, self.ends.len() as u32, end_of_block), strip, 0);
         read.number == 0 && read.changes == self.rows.changes && read.ends == self.rows.ends
     }
 }
@@ -40,25 +74,29 @@ pub fn run(texts: &[Text]) {
         "writing, likewise: ours is given changes and row ends, libtiff packed rows, made before the clock starts; \
          libtiff's time is from open to close in memory"
     );
-    let ours = |out: &mut Vec<u8>| pages.iter().map(|page| time_ours(page, out)).sum();
-    let theirs = |out: &mut Vec<u8>| pages.iter().map(|page| time_libtiff(page, out)).sum();
-    report(&format!("{} pages, written as Group4", pages.len()), &mut out, ours, "libtiff", theirs);
+    let kinds = [("Group 4", Kind::Group4), ("Group 3 1D", Kind::Group3(Layout::OneD { eols: true, fill: 0 }))];
+    for (name, kind) in kinds {
+        let ours = |out: &mut Vec<u8>| pages.iter().map(|page| time_ours(page, kind, out)).sum();
+        let theirs = |out: &mut Vec<u8>| pages.iter().map(|page| time_libtiff(page, kind, out)).sum();
+        report(&format!("{} pages, written as {name}", pages.len()), &mut out, ours, "libtiff", theirs);
+    }
 }
 
-fn time_ours(page: &Page, out: &mut [u8]) -> Duration {
+fn time_ours(page: &Page, kind: Kind, out: &mut [u8]) -> Duration {
     out.fill(0);
     let began = Instant::now();
-    let answer = linked::write_page(page.settings.columns, &page.rows.changes, &page.ends, out);
+    let answer = kind.ours(page.columns, &page.rows.changes, &page.ends, out);
     let took = began.elapsed();
-    assert!(answer.number == 0 && page.is_read_from(&out[..answer.bytes as usize]), "our page is read back");
+    assert!(answer.number == 0 && page.is_read_from(kind, &out[..answer.bytes as usize], true), "our page is read back");
     took
 }
 
-fn time_libtiff(page: &Page, out: &mut [u8]) -> Duration {
+fn time_libtiff(page: &Page, kind: Kind, out: &mut [u8]) -> Duration {
     out.fill(0);
     let began = Instant::now();
-    let strip = libtiff::write_page(page.settings.columns, page.rows.ends.len() as u32, &page.packed, out);
+    let strip = libtiff::write_page(kind.scheme(), page.columns, page.rows.ends.len() as u32, &page.packed, out);
     let took = began.elapsed();
-    assert!(strip.is_some_and(|strip| page.is_read_from(&out[strip])), "libtiff's page is read back");
+    let ended = matches!(kind, Kind::Group4);
+    assert!(strip.is_some_and(|strip| page.is_read_from(kind, &out[strip], ended)), "libtiff's page is read back");
     took
 }
