@@ -7,23 +7,29 @@ use Rattle.rules.specs.Bits.{bit, bitsFor, bitsOf, window}
 use Rattle.rules.specs.Codes.{codeBits, whiteTerminating, whiteMakeup, blackTerminating, blackMakeup, commonMakeup, terminatingOf, makeupOf, codesOf}
 use Rattle.rules.specs.Lookup.{begins, shared, codeIn, longestShared, lookup}
 use Rattle.rules.specs.Runs.{runTake, runStep, readRun}
-use Rattle.rules.specs.Lines.{pushRun, lineStep, lineEnd, readLine}
+use Rattle.rules.specs.Modes.{modeBits}
+use Rattle.rules.specs.Lines.{pushRun, rightOfA0, fromB1, lineStep, lineEnd, readLine}
 use Rattle.rules.specs.Eols.{zeroRun, readEols}
 use Rattle.rules.specs.Rows.{Settings, group3-1D}
 use Rattle.rules.specs.Group3.{row3}
 use Rattle.rules.specs.Pages.{entries, pageStep, rowOf, readPage, ascendsFrom}
-use Rattle.rules.specs.Write.{mostMakeup, runCodes, codesBits, runBits, bits1D, lineBits, eolBits, toByte, writtenAt, rowsIn, endsRise, allAscend, writes}
-use Rattle.rules.specs.WriteGroup3.{bare, filled, codedLines, times, framed, page3Bits, writeGroup3, write1D}
+use Rattle.rules.specs.Write.{mostMakeup, runCodes, codesBits, runBits, bits1D, bits2D, lineBits, eolBits, toByte, writtenAt, rowsIn, endsRise, allAscend, writes}
+use Rattle.rules.specs.WriteGroup3.{bare, filled, mixed, codedLines, times, framed, page3Bits, writeGroup3, write1D, write2D}
 
 -- Four columns, the middle two black: white 1 (000111), black 2 (11), white 1. Two zeros of fill before the EOL, and before the first of the six alone;
--- and the same row twice without EOLs.
+-- the same row twice without EOLs; three times with K = 2, which is 1D, 2D (three times V0), 1D, with EOL and a tag before each and six times EOL and a
+-- one behind; and with K = 1, where every line is 1D and tagged.
 pages :
     (page3Bits mostMakeup 4 (filled 2) ((1 ∷ 3 ∷ []) ∷ []) ≡ bitsFor 14 1 ++ (bitsFor 14 0b00011111000111 ++ (bitsFor 14 1 ++ times 5 (bitsFor 12 1))))
     × (page3Bits mostMakeup 4 bare ((1 ∷ 3 ∷ []) ∷ (1 ∷ 3 ∷ []) ∷ []) ≡ bitsFor 28 0b0001111100011100011111000111)
-unfolding page3Bits framed codedLines times lineBits bits1D runBits runCodes codesBits codeBits whiteTerminating blackTerminating terminatingOf makeupOf bit bitsFor eolBits
-pages = (refl, refl)
+    × (page3Bits mostMakeup 4 (mixed 2) ((1 ∷ 3 ∷ []) ∷ (1 ∷ 3 ∷ []) ∷ (1 ∷ 3 ∷ []) ∷ [])
+    ≡ bitsFor 27 0b000000000001100011111000111 ++ (bitsFor 16 0b0000000000010111 ++ (bitsFor 27 0b000000000001100011111000111 ++ times 6 (bitsFor 13 3))))
+    × (page3Bits mostMakeup 4 (mixed 1) ((1 ∷ 3 ∷ []) ∷ (1 ∷ 3 ∷ []) ∷ [])
+    ≡ bitsFor 27 0b000000000001100011111000111 ++ (bitsFor 27 0b000000000001100011111000111 ++ times 6 (bitsFor 13 3)))
+unfolding page3Bits framed codedLines times lineBits bits1D bits2D runBits runCodes codesBits codeBits modeBits whiteTerminating blackTerminating terminatingOf makeupOf bit bitsFor eolBits rightOfA0 fromB1
+pages = (refl, refl, refl, refl)
 
--- The order of answers: 6 before 10, 10 before 8, 8 for no rows before 9; fill above 64 is 10 also where no EOLs are written.
+-- The order of answers: 6 before 10, 10 before 8, 8 for no rows before 9; fill above 64 is 10 also where no EOLs are written; K is from 1 to 65,535.
 answers-in-order :
     (write1D mostMakeup true 65 0 [] [] [] .number ≡ 6)
     × (write1D mostMakeup true 65 4 [] [] [] .number ≡ 10)
@@ -31,8 +37,12 @@ answers-in-order :
     × (write1D mostMakeup true 64 4 [] [] [] .number ≡ 8)
     × (write1D mostMakeup true 64 4 (1 ∷ 3 ∷ []) (2 ∷ []) [] .number ≡ 9)
     × (write1D mostMakeup false 0 4 (1 ∷ 3 ∷ []) (2 ∷ []) (255 ∷ 255 ∷ []) .number ≡ 0)
-unfolding write1D writeGroup3 writes rowsIn endsRise allAscend ascendsFrom bitsOf bit bitsFor toByte writtenAt page3Bits framed codedLines times lineBits bits1D runBits runCodes codesBits codeBits whiteTerminating blackTerminating terminatingOf makeupOf eolBits
-answers-in-order = (refl, refl, refl, refl, refl, refl)
+    × (write2D mostMakeup 0 0 [] [] [] .number ≡ 6)
+    × (write2D mostMakeup 0 4 [] [] [] .number ≡ 10)
+    × (write2D mostMakeup 65536 4 [] [] [] .number ≡ 10)
+    × (write2D mostMakeup 65535 4 [] [] [] .number ≡ 8)
+unfolding write1D write2D writeGroup3 writes rowsIn endsRise allAscend ascendsFrom bitsOf bit bitsFor toByte writtenAt page3Bits framed codedLines times lineBits bits1D runBits runCodes codesBits codeBits whiteTerminating blackTerminating terminatingOf makeupOf eolBits
+answers-in-order = (refl, refl, refl, refl, refl, refl, refl, refl, refl, refl)
 
 -- "A page of no rows gets 8, because the crate, strict, answers 2 to six EOLs alone": they are leading EOLs, and no line follows them.
 strictly : Settings

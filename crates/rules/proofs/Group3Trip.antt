@@ -12,10 +12,10 @@ use lib.Seq.{take-at, length-take-le}
 use borrow.Author.Tests.{ltb-true}
 use Rattle.rules.specs.Bits.{bit, bitsFor, bitsOf}
 use Rattle.rules.specs.Eols.{zeroRun}
-use Rattle.rules.specs.Rows.{group3-1D, Settings, bytesTo}
+use Rattle.rules.specs.Rows.{group3-1D, group3-2D, Settings, bytesTo}
 use Rattle.rules.specs.Pages.{entries, strictIfExact, unlessShort, mostBytes, decode, readPage}
 use Rattle.rules.specs.Write.{toByte, writtenAt, Written, rowsIn, endsRise, allAscend}
-use Rattle.rules.specs.WriteGroup3.{Layout, page3Bits, writeGroup3, layout1D, write1D}
+use Rattle.rules.specs.WriteGroup3.{Layout, mixed, page3Bits, writeGroup3, layout1D, write1D, write2D}
 use Rattle.rules.proofs.Bits.{both-true, length-bitsOf}
 use Rattle.rules.proofs.PageBack.{Rows, ascend-rows, whole, allClean}
 use Rattle.rules.proofs.Writes.{bits3, write3-cases}
@@ -182,7 +182,27 @@ told-1D S false fill n t = record { encoded = t .encoded; wide = t .wide; narrow
     counts (inl e) = e
     counts (inr (_, f)) = absurd (true≢false (sym f))
 
+-- ---- A10
+
+-- A10's settings: end_of_block; the true number of rows, or 0; unaligned. It says nothing on end_of_line, so either.
+pub record Told2D (S : Settings) (n : ℕ) : Type 0 where
+  pub encoded : S .encoding ≡ group3-2D
+  pub wide : 0 < S .columns
+  pub narrow : S .columns ≤ 4294967295
+  pub blocked : S .endOfBlock ≡ true
+  pub unaligned : S .aligned ≡ false
+  pub counted : (S .rows ≡ 0) ⊎ (S .rows ≡ n)
+
+told-2D : (S : Settings) (k n : ℕ) → Told2D S n → Told S n (mixed k)
+told-2D S k n t = record { encoded = t .encoded; wide = t .wide; narrow = t .narrow; says = (t .blocked, t .counted) }
+
+-- ---- Both
+
 module _ (most : ℕ) (some-most : 1 ≤ most) (most-fits : most ≤ 40) (S : Settings) (changes ends out : List ℕ) where
   pub write1D-returns : (eols : Bool) (fill : ℕ) → Told1D S eols (length ends) → Returns (write1D most eols fill (S .columns) changes ends out) S changes ends out
   unfolding write1D
   write1D-returns eols fill t = written3-returns most some-most most-fits S changes ends out (layout1D eols fill) (leb fill 64) (told-1D S eols fill (length ends) t)
+
+  pub write2D-returns : (k : ℕ) → Told2D S (length ends) → Returns (write2D most k (S .columns) changes ends out) S changes ends out
+  unfolding write2D
+  write2D-returns k t = written3-returns most some-most most-fits S changes ends out (mixed k) (leb 1 k && leb k 65535) (told-2D S k (length ends) t)

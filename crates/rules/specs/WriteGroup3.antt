@@ -101,3 +101,7 @@ layout1D eols fill = cond eols (filled fill) bare
 
 unfoldable pub write1D : ℕ → Bool → ℕ → ℕ → List ℕ → List ℕ → List ℕ → Written
 write1D most eols fill = writeGroup3 most (layout1D eols fill) (leb fill 64)
+
+-- A10: "a caller's K from 1 to 65,535 .. Any other K answers 10"
+unfoldable pub write2D : ℕ → ℕ → ℕ → List ℕ → List ℕ → List ℕ → Written
+write2D most k = writeGroup3 most (mixed k) (leb 1 k && leb k 65535)
