@@ -1,6 +1,6 @@
 -- What the tests of a Group 3 writer come to: 6, 7 and 10 here, and where the caller's number is allowed the other writers' laws. Assumes nothing.
 use mathlib.Core.Path.{_≡_, refl, sym, ap, _∙_, subst}
-use mathlib.Core.Bool.{Bool, true, false, true≢false}
+use mathlib.Core.Bool.{Bool, true, false, _&&_, true≢false}
 use mathlib.Core.List.{List}
 use Prim.Native.Nat.{ℕ, _≤_, _<_}
 use native.Mathlib.Omega.{arith}
@@ -11,7 +11,7 @@ use Rattle.rules.specs.Rows.{bytesTo}
 use Rattle.rules.specs.Pages as Page
 use Rattle.rules.specs.Pages.{noLine, mostBytes}
 use Rattle.rules.specs.Write.{mostMakeup}
-use Rattle.rules.specs.WriteGroup3.{Layout, someGood, writeGroup3, layout1D, write1D}
+use Rattle.rules.specs.WriteGroup3.{Layout, mixed, someGood, writeGroup3, layout1D, write1D, write2D}
 use Rattle.rules.proofs.Writes.{write3-cases}
 use Rattle.error.specs.Error.{answerOf}
 use Rattle.error.specs.declared.Answer.{Answer}
@@ -88,3 +88,18 @@ pub answers-1D : {layout : Layout} (eols : Bool) (fill columns : ℕ) (changes e
     → Answers (write1D mostMakeup eols fill columns changes ends out) out r out′
 unfolding write1D
 answers-1D eols fill columns changes ends out {r} {out′} e = subst (λ (l : Layout). Answers (writeGroup3 mostMakeup l (leb fill 64) columns changes ends out) out r out′) e
+
+-- ---- A10: K from 1 to 65,535
+
+pub laid-2D : (k : ℕ) (fine : Bool) → fine ≡ (leb 1 k && leb k 65535) → fine ≡ true → Laid (mixed k)
+laid-2D k fine e f = tests (leb 1 k) (leb-true 1 k) (sym e ∙ f)
+  where
+    tests : (a : Bool) → (a ≡ true → 1 ≤ k) → (a && leb k 65535) ≡ true → 1 ≤ k
+    tests true g h = g refl
+    tests false g h = absurd (true≢false (sym h))
+
+pub answers-2D : (k : ℕ) (fine : Bool) → fine ≡ (leb 1 k && leb k 65535) → (columns : ℕ) (changes ends out : List ℕ) {r : Answer} {out′ : List ℕ}
+    → Answers (writeGroup3 mostMakeup (mixed k) fine columns changes ends out) out r out′
+    → Answers (write2D mostMakeup k columns changes ends out) out r out′
+unfolding write2D
+answers-2D k fine e columns changes ends out {r} {out′} = subst (λ (b : Bool). Answers (writeGroup3 mostMakeup (mixed k) b columns changes ends out) out r out′) e
