@@ -1,4 +1,4 @@
-/* The fax decoder, the T.6 writers and the Group 3 writer for C. Link target/staticlib/libexports.a (rt staticlib exports).
+/* The fax decoder, the T.6 writers and the Group 3 writers for C. Link target/staticlib/libexports.a (rt staticlib exports).
    Every function tests for itself, takes any bytes, settings and arrays, and answers a number of the list below. */
 #ifndef CCITT_H
 #define CCITT_H
@@ -11,7 +11,7 @@
            its mark;
            6 columns 4294967295 (for one line or a writer also 0); 7 data or output above 4294967296 bytes;
            8 a row or reference that does not ascend strictly below the columns, or row ends that fall or pass the array, or a Group 3 page of no
-           rows to write; 9 the bits do not fit; 10 fill above 64;
+           rows to write; 9 the bits do not fit; 10 fill above 64, or a K of 0 or above 65535;
            14 an exact page that ends with fewer rows than it is to have; 15 a row was read, and there may be more.
    mark:    for a form that gives one row its mark: 0 clean, 1 cut to the width, 2 recovered; else 0.
    rows:    rows kept. Row n's changes lie in `changes` from ends[n - 1] (0 for the first) to ends[n].
@@ -85,5 +85,10 @@ ccitt_answer ccitt_write_page(uint32_t columns, const uint32_t *changes, size_t 
    zeros and six EOLs. Without: the lines alone, and a reader must be told how many rows there are. */
 ccitt_answer ccitt_write_group3_1d(uint32_t columns, const uint32_t *changes, size_t changes_len, const uint64_t *ends, size_t ends_len,
                                    bool eols, uint32_t fill, uint8_t *out, size_t out_len);
+
+/* Writes one Group 3 page of 1D and 2D lines from byte 0 of out on: an EOL and a tag bit before each line, a 1D line first, after each 1D line at
+   most k - 1 2D lines, and behind the last line six times EOL and a one. */
+ccitt_answer ccitt_write_group3_2d(uint32_t columns, const uint32_t *changes, size_t changes_len, const uint64_t *ends, size_t ends_len,
+                                   uint32_t k, uint8_t *out, size_t out_len);
 
 #endif
