@@ -1,26 +1,28 @@
--- A3 is met: the writer's answers by its tests, and reading back by the rules' law over the contracts of both functions. Assumes nothing.
+-- A3 and A10 are met: the writers' answers by their tests, and reading back by the rules' law over the contracts of both functions. Assumes nothing.
 use mathlib.Core.Path.{_≡_, refl, sym, ap, _∙_, subst}
 use mathlib.Core.Logic.{_⊎_, inl, inr, _↔_, ⊎-elim}
 use mathlib.Core.Bool.{Bool, true, false, _&&_, true≢false}
-use mathlib.Core.List.{List, [], _++_, append-nil}
+use mathlib.Core.List.{List, [], _∷_, _++_, append-nil}
 use Prim.Native.Nat.{ℕ, _+_, _*_, _≤_, _<_}
 use native.Mathlib.Omega.{arith}
 use lib.Dec.{leb, ltb}
 use lib.ListN.{length, getD, take, replicate, getD-replicate}
-use borrow.Author.Tests.{leb-true, leb-false, ltb-true, ltb-false}
+use borrow.Author.Tests.{leb-true, leb-false, le-leb, ltb-true, ltb-false}
+use Rattle.rules.specs.Lines.{one}
 use Rattle.rules.specs.Pages as Page
 use Rattle.rules.specs.Pages.{mostBytes, entries, decode, placesIn}
-use Rattle.rules.specs.Write.{mostMakeup, rowsIn, endsRise, allAscend, Written, unwritten}
-use Rattle.rules.specs.WriteGroup3.{Layout, layout1D, page3Bits, writeGroup3, write1D}
+use Rattle.rules.specs.Write.{mostMakeup, lineBits, eolBits, rowsIn, endsRise, allAscend, Written, unwritten}
+use Rattle.rules.specs.WriteGroup3.{Layout, mixed, codedLines, framed, layout1D, page3Bits, writeGroup3, write1D, write2D}
+use Rattle.rules.proofs.Bits.{both-true}
 use Rattle.rules.proofs.PageBack.{allClean}
 use Rattle.rules.proofs.Writes.{write3-cases}
-use Rattle.rules.proofs.Group3Trip.{Returns, Page3Written, page3-written, Told1D, write1D-returns}
+use Rattle.rules.proofs.Group3Trip.{Returns, Page3Written, page3-written, Told1D, Told2D, write1D-returns, write2D-returns}
 use Rattle.error.specs.Error.{answerOf}
 use Rattle.error.specs.declared.Answer.{Answer}
 use Rattle.rows.specs.declared.DecodeSettings.{DecodeSettings}
 use Rattle.rows.specs.Settings.{encodingOf, settingsOf}
 use Rattle.writer.specs.Outcome.{Answers}
-use Rattle.promises.specs.WriteGroup3.{Write3Listed, Write1DAnswers, For1D, GivesBack, Written1DReadsBack, Written1DBeforeZeros}
+use Rattle.promises.specs.WriteGroup3.{Write3Listed, Write1DAnswers, Write2DAnswers, For1D, For2D, GivesBack, Written1DReadsBack, Written1DBeforeZeros, Written2DReadsBack, Written2DBeforeZeros, tagged1D, KOneIsAll1D}
 use Rattle.promises.proofs.Demand1.{in-store}
 use Rattle.promises.proofs.Demand1Write.{none, some}
 use Rattle.promises.proofs.Marks.{mark-at}
@@ -165,6 +167,17 @@ unfolding write1D
 write-1d-answers columns changes ends out eols fill r out′ g =
     write3-answers (layout1D eols fill) (leb fill 64) (fill ≤ 64) (leb-true fill 64) (λ e h. let l = leb-false fill 64 e in omega arith) columns changes ends out r out′ g
 
+pub write-2d-answers : Write2DAnswers
+unfolding write2D
+write-2d-answers columns changes ends out k r out′ g =
+    write3-answers (mixed k) (leb 1 k && leb k 65535) ((1 ≤ k) × (k ≤ 65535)) granted denied columns changes ends out r out′ g
+  where
+    granted : (leb 1 k && leb k 65535) ≡ true → (1 ≤ k) × (k ≤ 65535)
+    granted e = let b = both-true (leb 1 k) (leb k 65535) e in (leb-true 1 k (b .0), leb-true k 65535 (b .1))
+
+    denied : (leb 1 k && leb k 65535) ≡ false → (1 ≤ k) × (k ≤ 65535) → ⊥
+    denied e (low, high) = true≢false (sym (rw (le-leb 1 k low, le-leb k 65535 high)) ∙ e)
+
 -- ---- Reading back
 
 -- what a writer wrote, of whose page the rules say that it returns
@@ -196,6 +209,16 @@ module _ (W : Written) (changes ends out : List ℕ) (w : Answer) (out′ : List
       a = called .answer ∙ ap answerOf is
 
 -- the settings of the rules
+told-2d : (columns rows : ℕ) (settings : DecodeSettings) → 0 < columns → columns ≤ 4294967295 → For2D columns rows settings → Told2D (settingsOf settings) rows
+told-2d columns rows settings wide narrow s = record {
+  encoded = ap encodingOf (s .group-3);
+  wide = omega (arith, s .same-columns);
+  narrow = omega (arith, s .same-columns);
+  blocked = s .blocked;
+  unaligned = s .unaligned;
+  counted = s .counted;
+}
+
 told : (columns : ℕ) (eols : Bool) (rows : ℕ) (settings : DecodeSettings) → 0 < columns → columns ≤ 4294967295 → For1D columns eols rows settings → Told1D (settingsOf settings) eols rows
 told columns eols rows settings wide narrow s = record {
   encoded = ap encodingOf (s .group-3);
@@ -234,3 +257,29 @@ written-1d-reads-back columns changes ends out eols fill w out′ narrow written
     subst (GivesBack changes ends w settings) (append-nil _)
     (written-1d-before-zeros columns changes ends out eols fill w out′ narrow written z settings s 0
     (in-limit (layout1D eols fill) (leb fill 64) columns changes ends out w out′ narrow written z))
+
+pub written-2d-before-zeros : Written2DBeforeZeros
+unfolding write2D
+written-2d-before-zeros columns changes ends out k w out′ narrow written z settings s zeros small =
+    gives-back (write2D mostMakeup k columns changes ends out) changes ends out w out′ written z settings
+    (subst (λ (n : ℕ). Returns (write2D mostMakeup k n changes ends out) (settingsOf settings) changes ends out) (s .same-columns)
+    (write2D-returns mostMakeup (omega arith) (omega arith) (settingsOf settings) changes ends out k
+    (told-2d columns (length ends) settings (wide (mixed k) (leb 1 k && leb k 65535) columns changes ends out w out′ narrow written z) narrow s)))
+    zeros small
+
+pub written-2d-reads-back : Written2DReadsBack
+unfolding write2D
+written-2d-reads-back columns changes ends out k w out′ narrow written z settings s =
+    subst (GivesBack changes ends w settings) (append-nil _)
+    (written-2d-before-zeros columns changes ends out k w out′ narrow written z settings s 0
+    (in-limit (mixed k) (leb 1 k && leb k 65535) columns changes ends out w out′ narrow written z))
+
+-- ---- K = 1
+
+pub k-one-is-all-1d : KOneIsAll1D
+unfolding page3Bits framed codedLines tagged1D
+k-one-is-all-1d columns rows = lines [] rows
+  where
+    lines : (reference : List ℕ) (rows : List (List ℕ)) → framed (mixed 1) (codedLines mostMakeup columns 1 0 reference rows) ≡ tagged1D columns rows
+    lines reference [] = refl
+    lines reference (r ∷ rs) = ap (λ (l : List Bool). (eolBits ++ true ∷ []) ++ (lineBits mostMakeup columns one r ++ l)) (lines r rs)
