@@ -30,6 +30,7 @@ struct Answer ccitt_read_line(const u8 *src, u64 src_len, u64 at, u32 columns, _
 struct Answer ccitt_write_line(u32 columns, const u32 *reference, u64 reference_len, const u32 *row, u64 row_len, u8 *out, u64 out_len, u64 at);
 struct Answer ccitt_write_page(u32 columns, const u32 *changes, u64 changes_len, const u64 *ends, u64 ends_len, u8 *out, u64 out_len);
 struct Answer ccitt_write_group3_1d(u32 columns, const u32 *changes, u64 changes_len, const u64 *ends, u64 ends_len, _Bool eols, u32 fill, u8 *out, u64 out_len);
+struct Answer ccitt_write_group3_2d(u32 columns, const u32 *changes, u64 changes_len, const u64 *ends, u64 ends_len, u32 k, u8 *out, u64 out_len);
 #define HAS_WRITERS 1
 #else
 #define HAS_WRITERS 0
@@ -134,7 +135,8 @@ static struct Answer write_to(const struct Call *c, const u32 *first, const u32 
     struct Answer answer;
     switch (c->form) {
     case 5: answer = ccitt_write_page(c->columns, first, c->first_len, ends, c->second_len, out, out_len); break;
-    default: answer = ccitt_write_group3_1d(c->columns, first, c->first_len, ends, c->second_len, c->flags >> 1 & 1, c->rows, out, out_len);
+    case 6: answer = ccitt_write_group3_1d(c->columns, first, c->first_len, ends, c->second_len, c->flags >> 1 & 1, c->rows, out, out_len); break;
+    default: answer = ccitt_write_group3_2d(c->columns, first, c->first_len, ends, c->second_len, c->rows, out, out_len);
     }
     free(ends);
     return answer;

@@ -44,10 +44,11 @@ struct Strip {
     size_t at, length;
 };
 
-// 4: Group 4; 1: Group 3, 1D lines, an EOL before each
+// 4: Group 4; 1: Group 3, 1D lines, an EOL before each; 2: Group 3, 1D and 2D lines in turn, an EOL and a tag bit before each
 static int set_scheme(TIFF *tiff, uint32_t scheme) {
     if (scheme == 4) return TIFFSetField(tiff, TIFFTAG_COMPRESSION, COMPRESSION_CCITTFAX4);
-    return TIFFSetField(tiff, TIFFTAG_COMPRESSION, COMPRESSION_CCITTFAX3) && TIFFSetField(tiff, TIFFTAG_GROUP3OPTIONS, 0);
+    return TIFFSetField(tiff, TIFFTAG_COMPRESSION, COMPRESSION_CCITTFAX3) &&
+           TIFFSetField(tiff, TIFFTAG_GROUP3OPTIONS, scheme == 2 ? GROUP3OPT_2DENCODING : 0);
 }
 
 static int write_strip(TIFF *tiff, uint32_t scheme, uint32_t columns, uint32_t rows, const uint8_t *packed, size_t packed_len) {

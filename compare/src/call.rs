@@ -36,13 +36,16 @@ pub enum Form {
 pub enum Layout {
     /// A3: 1D lines, with EOLs or without, and so many zeros of fill before each EOL.
     OneD { eols: bool, fill: u32 },
+    /// A10: an EOL and a tag bit before each line, a 1D line first, and after each at most K - 1 2D lines.
+    TwoD { k: u32 },
 }
 
 impl Layout {
-    /// The same without fill.
-    pub fn unfilled(self) -> Self {
+    /// As libtiff's encoder has it: without fill, or with K = 2.
+    pub fn as_libtiff(self) -> Self {
         match self {
             Layout::OneD { eols, .. } => Layout::OneD { eols, fill: 0 },
+            Layout::TwoD { .. } => Layout::TwoD { k: 2 },
         }
     }
 }

@@ -37,6 +37,9 @@ unsafe extern "C" {
     #[cfg(feature = "writers")]
     fn ccitt_write_group3_1d(answer: *mut Answer, columns: u32, changes: *const u32, changes_len: usize, ends: *const u64, ends_len: usize,
         eols: bool, fill: u32, out: *mut u8, out_len: usize) -> *mut Answer;
+    #[cfg(feature = "writers")]
+    fn ccitt_write_group3_2d(answer: *mut Answer, columns: u32, changes: *const u32, changes_len: usize, ends: *const u64, ends_len: usize,
+        k: u32, out: *mut u8, out_len: usize) -> *mut Answer;
 }
 
 pub struct Linked;
@@ -231,6 +234,8 @@ pub fn write_group3(layout: Layout, columns: u32, changes: &[u32], ends: &[u64],
         match layout {
             Layout::OneD { eols, fill } => ccitt_write_group3_1d(&mut answer, columns, changes.as_ptr(), changes.len(), ends.as_ptr(), ends.len(),
                 eols, fill, out.as_mut_ptr(), out.len()),
+            Layout::TwoD { k } => ccitt_write_group3_2d(&mut answer, columns, changes.as_ptr(), changes.len(), ends.as_ptr(), ends.len(),
+                k, out.as_mut_ptr(), out.len()),
         }
     };
     answer

@@ -26,9 +26,10 @@ pub enum List {
     Group4,
     /// A3's pages with EOLs: no other decoder at hand reads those without, unless each row begins a byte.
     Group3OneD,
+    Group3TwoD,
 }
 
-pub const LISTS: [List; 2] = [List::Group4, List::Group3OneD];
+pub const LISTS: [List; 3] = [List::Group4, List::Group3OneD, List::Group3TwoD];
 
 impl List {
     /// Part of each page's seed.
@@ -36,6 +37,7 @@ impl List {
         match self {
             List::Group4 => "listed pages",
             List::Group3OneD => "listed Group 3 1D pages",
+            List::Group3TwoD => "listed Group 3 2D pages",
         }
     }
 
@@ -43,13 +45,14 @@ impl List {
         match self {
             List::Group4 => "g4",
             List::Group3OneD => "g31",
+            List::Group3TwoD => "g32",
         }
     }
 
     /// Who read the pages, in the order of the recorded words.
     pub fn readers(self) -> &'static [&'static str] {
         match self {
-            List::Group4 => &["libtiff"],
+            List::Group4 | List::Group3TwoD => &["libtiff"],
             List::Group3OneD => &["libtiff", "netpbm"],
         }
     }
@@ -58,6 +61,7 @@ impl List {
         match self {
             List::Group4 => None,
             List::Group3OneD => Some(Layout::OneD { eols: true, fill: random.pick(&[0, 1, 3, 12, 13, 64]) }),
+            List::Group3TwoD => Some(Layout::TwoD { k: random.pick(&[1, 2, 2, 3, 4, 7, 65_535]) }),
         }
     }
 }
@@ -92,12 +96,12 @@ impl ListedPage {
         self.bits().into_bytes()
     }
 
-    /// What libtiff's encoder is to write for the rows: the page; of Group 3 without fill, and without its end,
-    /// which is no part of a TIFF file's strip.
+    /// What libtiff's encoder is to write for the rows: the page; of Group 3 without fill, with K = 2, and without
+    /// its end, which is no part of a TIFF file's strip.
     pub fn by_libtiff(&self) -> Vec<u8> {
         match self.layout {
             None => self.bytes(),
-            Some(layout) => group3::lines(layout.unfilled(), self.columns, &self.rows).into_bytes(),
+            Some(layout) => group3::lines(layout.as_libtiff(), self.columns, &self.rows).into_bytes(),
         }
     }
 

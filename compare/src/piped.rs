@@ -139,6 +139,7 @@ fn form_number(form: Form) -> u32 {
         Form::WriteLine => 4,
         Form::WritePage => 5,
         Form::WriteGroup3(Layout::OneD { .. }) => 6,
+        Form::WriteGroup3(Layout::TwoD { .. }) => 7,
     }
 }
 
@@ -146,6 +147,7 @@ fn form_number(form: Form) -> u32 {
 fn number(call: &Call) -> u32 {
     match call.ask.form {
         Form::WriteGroup3(Layout::OneD { fill, .. }) => fill,
+        Form::WriteGroup3(Layout::TwoD { k }) => k,
         _ => call.ask.settings.rows,
     }
 }

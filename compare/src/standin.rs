@@ -79,9 +79,13 @@ pub enum Fault {
     FirstEolMissing,
     FiveEols,
     FillBeforeEach,
+    TagsExchanged,
+    KLines,
+    RowBeforeLast,
+    RtcWithoutOnes,
 }
 
-pub const FAULTS: [Fault; 58] = [
+pub const FAULTS: [Fault; 62] = [
     Fault::Number,
     Fault::Rows,
     Fault::Entries,
@@ -140,11 +144,15 @@ pub const FAULTS: [Fault; 58] = [
     Fault::FirstEolMissing,
     Fault::FiveEols,
     Fault::FillBeforeEach,
+    Fault::TagsExchanged,
+    Fault::KLines,
+    Fault::RowBeforeLast,
+    Fault::RtcWithoutOnes,
 ];
 
 /// Whether the caller's number is the first that is refused.
 fn just_past(layout: Layout) -> bool {
-    matches!(layout, Layout::OneD { fill: 65, .. })
+    matches!(layout, Layout::OneD { fill: 65, .. } | Layout::TwoD { k: 65_536 })
 }
 
 pub struct Standin(pub Fault);
@@ -367,19 +375,28 @@ impl Standin {
         }
     }
 
-    /// A Group 3 page, with a fault in what stands between its lines.
+    /// A Group 3 page, with a fault in what stands between its lines, in their kinds or in their references.
     fn group3_page(&self, layout: Layout, columns: u32, rows: &[Vec<u32>]) -> Bits {
+        let layout = match layout {
+            Layout::TwoD { k } if self.0 == Fault::KLines => Layout::TwoD { k: k + 1 },
+            _ => layout,
+        };
         let mut bits = Bits::default();
         for (index, row) in rows.iter().enumerate() {
             if index > 0 || self.0 != Fault::FirstEolMissing {
-                group3::put_ahead(&mut bits, layout);
+                group3::put_ahead(&mut bits, layout, group3::is_1d(layout, index) != (self.0 == Fault::TagsExchanged));
             }
-            group3::put_line(&mut bits, columns, row);
+            let reference = group3::reference(layout, rows, index).map(|above| match (self.0, index) {
+                (Fault::RowBeforeLast, 2..) => rows[index - 2].as_slice(),
+                _ => above,
+            });
+            group3::put_line(&mut bits, columns, reference, row);
         }
-        match self.0 {
-            Fault::FiveEols => group3::put_eols(&mut bits, layout, 5),
-            Fault::FillBeforeEach => (0..6).for_each(|_| group3::put_ahead(&mut bits, layout)),
-            _ => group3::put_eols(&mut bits, layout, 6),
+        match (self.0, layout) {
+            (Fault::FiveEols, _) => group3::put_end(&mut bits, layout, 5),
+            (Fault::FillBeforeEach, _) => (0..6).for_each(|_| group3::put_ahead(&mut bits, layout, true)),
+            (Fault::RtcWithoutOnes, Layout::TwoD { .. }) => group3::put_end(&mut bits, Layout::OneD { eols: true, fill: 0 }, 6),
+            _ => group3::put_end(&mut bits, layout, 6),
         }
         bits.align();
         bits
@@ -482,7 +499,9 @@ mod tests {
     use super::{FAULTS, Fault, Standin};
     use crate::check::{self, Source};
     use crate::checks::random_pages::{Kind, RandomPages};
-    use crate::checks::{codes::Codes, group3_writers, limits, lines::Lines, listed_pages::ListedPages, long_runs::LongRuns, sheets::Sheets, writers};
+    use crate::checks::{
+        codes::Codes, group3_writers, limits, lines::Lines, listed_pages::ListedPages, long_runs::LongRuns, sheets::Sheets, writers,
+    };
     use crate::ours::Ours;
 
     /// Every check but the exhaustive one, with fewer inputs.

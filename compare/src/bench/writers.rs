@@ -16,7 +16,7 @@ const ROOM: usize = 1 << 18;
 #[derive(Clone, Copy)]
 enum Kind {
     Group4,
-    /// With EOLs, and no fill, as libtiff writes it. It leaves out the EOLs at the end.
+    /// With EOLs, and no fill, or with K = 2, as libtiff writes it. It leaves out the EOLs at the end.
     Group3(Layout),
 }
 
@@ -32,6 +32,7 @@ impl Kind {
         match self {
             Kind::Group4 => libtiff::Scheme::Group4,
             Kind::Group3(Layout::OneD { .. }) => libtiff::Scheme::Group3OneD,
+            Kind::Group3(Layout::TwoD { .. }) => libtiff::Scheme::Group3TwoD,
         }
     }
 
@@ -40,6 +41,7 @@ impl Kind {
         let encoding = match self {
             Kind::Group4 => Encoding::Group4,
             Kind::Group3(Layout::OneD { .. }) => Encoding::Group3OneD,
+            Kind::Group3(Layout::TwoD { .. }) => Encoding::Group3TwoD,
         };
         Settings { encoding, columns, rows, end_of_block, end_of_line: encoding != Encoding::Group4, aligned: false, strict: true }
     }
@@ -74,7 +76,11 @@ pub fn run(texts: &[Text]) {
         "writing, likewise: ours is given changes and row ends, libtiff packed rows, made before the clock starts; \
          libtiff's time is from open to close in memory"
     );
-    let kinds = [("Group 4", Kind::Group4), ("Group 3 1D", Kind::Group3(Layout::OneD { eols: true, fill: 0 }))];
+    let kinds = [
+        ("Group 4", Kind::Group4),
+        ("Group 3 1D", Kind::Group3(Layout::OneD { eols: true, fill: 0 })),
+        ("Group 3 2D", Kind::Group3(Layout::TwoD { k: 2 })),
+    ];
     for (name, kind) in kinds {
         let ours = |out: &mut Vec<u8>| pages.iter().map(|page| time_ours(page, kind, out)).sum();
         let theirs = |out: &mut Vec<u8>| pages.iter().map(|page| time_libtiff(page, kind, out)).sum();

@@ -35,6 +35,9 @@ impl Source for Written {
 }
 
 fn random_layout(random: &mut Random) -> Layout {
+    if random.chance(50) {
+        return Layout::TwoD { k: random.pick(&[0, 1, 2, 2, 3, 4, 4, 5, 11, 65_535, 65_536, u32::MAX]) };
+    }
     let fill = random.pick(&[0, 0, 1, 3, 12, 13, 14, 63, 64, 65, u32::MAX]);
     Layout::OneD { eols: random.chance(70), fill }
 }
@@ -49,7 +52,14 @@ pub fn page_case(random: &mut Random, layout: Layout, columns: u32, rows: &[Vec<
     let ask = Ask::write_group3(layout, columns, changes, ends);
     if !allowed(layout) || rows.is_empty() {
         let number = if allowed(layout) { 8 } else { 10 };
-        let plan = Plan { exact: false, plain: false, lines: None, room: Room::Bytes(random.index(200)), fill: random.next() as u32, wanted: refused(number) };
+        let plan = Plan {
+            exact: false,
+            plain: false,
+            lines: None,
+            room: Room::Bytes(random.index(200)),
+            fill: random.next() as u32,
+            wanted: refused(number),
+        };
         return Case { ask, plans: vec![plan], complaint: None };
     }
     let page = encoded(layout, columns, rows);
@@ -64,7 +74,7 @@ pub fn page_case(random: &mut Random, layout: Layout, columns: u32, rows: &[Vec<
     Case { ask, plans: plans.into(), complaint }
 }
 
-/// A3 on the crate: the page gives back its rows, all clean, and its length, with nothing but zeros behind it.
+/// A3 and A10 on the crate: the page gives back its rows, all clean, and its length, with nothing but zeros behind it.
 fn misread(random: &mut Random, layout: Layout, columns: u32, rows: &[Vec<u32>], page: &Bits) -> Option<String> {
     let mut src = page.clone().into_bytes();
     let (changes, ends) = flattened(rows);
@@ -77,10 +87,12 @@ fn misread(random: &mut Random, layout: Layout, columns: u32, rows: &[Vec<u32>],
 
 /// Settings under which the page is promised to read back.
 fn random_settings(random: &mut Random, layout: Layout, columns: u32, rows: u32) -> Settings {
-    let Layout::OneD { eols, .. } = layout;
-    let number = if eols { random.pick(&[0, rows]) } else { rows };
-    let strict = random.chance(70);
-    Settings { encoding: Encoding::Group3OneD, columns, rows: number, end_of_block: eols, end_of_line: eols, aligned: false, strict }
+    let (encoding, end_of_block, end_of_line) = match layout {
+        Layout::OneD { eols, .. } => (Encoding::Group3OneD, eols, eols),
+        Layout::TwoD { .. } => (Encoding::Group3TwoD, true, random.chance(50)),
+    };
+    let number = if end_of_block { random.pick(&[0, rows]) } else { rows };
+    Settings { encoding, columns, rows: number, end_of_block, end_of_line, aligned: false, strict: random.chance(70) }
 }
 
 pub struct Limits;
@@ -92,7 +104,11 @@ const fn one_d(eols: bool, fill: u32) -> Layout {
     Layout::OneD { eols, fill }
 }
 
-const REFUSALS: [Refusal; 18] = [
+const fn two_d(k: u32) -> Layout {
+    Layout::TwoD { k }
+}
+
+const REFUSALS: [Refusal; 29] = [
     (6, 0, 0, one_d(true, 0), &[], &[0]),
     (6, 0, LONG, one_d(true, 65), &[3, 3], &[]),
     (6, u32::MAX, LONG, one_d(false, 65), &[3, 3], &[2]),
@@ -111,6 +127,17 @@ const REFUSALS: [Refusal; 18] = [
     (9, 8, 0, one_d(true, 0), &[], &[0]),
     (9, 8, 0, one_d(true, 64), &[], &[0]),
     (9, 8, 0, one_d(false, 0), &[0, 1, 2, 3, 4, 5, 6, 7], &[8]),
+    (6, 0, LONG, two_d(0), &[3, 3], &[]),
+    (6, u32::MAX, LONG, two_d(65_536), &[3, 3], &[2]),
+    (7, 8, LONG, two_d(0), &[3, 3], &[2]),
+    (10, 8, 0, two_d(0), &[], &[0]),
+    (10, 8, 0, two_d(65_536), &[3, 3], &[2]),
+    (10, 8, 0, two_d(u32::MAX), &[], &[]),
+    (8, 8, 0, two_d(1), &[], &[]),
+    (8, 8, 0, two_d(65_535), &[], &[1]),
+    (8, 8, 0, two_d(2), &[3, 5], &[2, 1]),
+    (8, 8, 0, two_d(2), &[3, 8], &[1, 2]),
+    (9, 8, 0, two_d(2), &[], &[0]),
 ];
 
 impl Source for Limits {
@@ -126,7 +153,14 @@ impl Source for Limits {
         let (number, columns, tail, layout, changes, ends) = REFUSALS[index as usize];
         let mut ask = Ask::write_group3(layout, columns, changes.to_vec(), ends.to_vec());
         ask.tail = tail;
-        let plans = vec![Plan { exact: false, plain: false, lines: None, room: Room::Bytes(4), fill: random.next() as u32, wanted: refused(number) }];
+        let plans = vec![Plan {
+            exact: false,
+            plain: false,
+            lines: None,
+            room: Room::Bytes(4),
+            fill: random.next() as u32,
+            wanted: refused(number),
+        }];
         Case { ask, plans, complaint: None }
     }
 

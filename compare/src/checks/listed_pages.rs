@@ -1,5 +1,5 @@
 //! Written pages, against what other fax programs read from them and write for their rows
-//! (recorded/written.txt, recorded/group3_1d.txt).
+//! (recorded/written.txt, recorded/group3_1d.txt, recorded/group3_2d.txt).
 
 use crate::check::{Case, Source};
 use crate::listed::{COUNT, LISTS, List, ListedPage};
@@ -20,6 +20,7 @@ impl ListedPages {
         let text = match list {
             List::Group4 => include_str!("../../recorded/written.txt"),
             List::Group3OneD => include_str!("../../recorded/group3_1d.txt"),
+            List::Group3TwoD => include_str!("../../recorded/group3_2d.txt"),
         };
         let lines = text.lines().filter(|line| !line.starts_with('#'));
         ListedPages { list, lines: lines.map(str::to_string).collect() }
@@ -35,6 +36,7 @@ impl Source for ListedPages {
         match self.list {
             List::Group4 => "written pages by another decoder and encoder",
             List::Group3OneD => "written Group 3 1D pages by two other decoders and an encoder",
+            List::Group3TwoD => "written Group 3 2D pages by another decoder and encoder",
         }
         .to_string()
     }

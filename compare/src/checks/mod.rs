@@ -3,8 +3,8 @@
 pub mod codes;
 pub mod exhaustive;
 pub mod far;
-pub mod group3_writers;
 pub mod fill;
+pub mod group3_writers;
 pub mod limits;
 pub mod lines;
 pub mod listed_pages;

@@ -13,6 +13,7 @@ struct Strip {
 #[derive(Clone, Copy)]
 pub enum Scheme {
     Group3OneD = 1,
+    Group3TwoD = 2,
     Group4 = 4,
 }
 
