@@ -66,12 +66,14 @@ module _ (bs : List Bool) where
   pub after-bit : (a : ℕ) (b : Bool) (l : List Bool) → drop a bs ≡ b ∷ l → drop (suc a) bs ≡ l
   after-bit a b l e = ap (λ (n : ℕ). drop n bs) (let q : suc a ≡ a + 1 = omega arith in q) ∙ drop-after bs (b ∷ []) l a e
 
-  -- fill and an EOL, and the EOLs that follow
+  -- fill and an EOL
   module _ (fill at : ℕ) (rest : List Bool) (there : drop at bs ≡ replicate fill false ++ (eolBits ++ rest)) where
+    abbrev pub fill-eol : EolAt bs at
+    fill-eol = record { zeros = fill + 11; run = ap zeroRun there ∙ zeros-then fill (eolBits ++ rest) 11 (eol-zeros rest); many = omega arith }
+
+    -- and the EOLs that follow
     pub fill-then : {j e : ℕ} → Chain bs j (at + (fill + 12)) e → Chain bs (suc j) at e
-    fill-then {j} {e} c =
-        eol-then (record { zeros = fill + 11; run = ap zeroRun there ∙ zeros-then fill (eolBits ++ rest) 11 (eol-zeros rest); many = omega arith })
-        (subst (λ (a : ℕ). Chain bs j a e) (let q : at + (fill + 12) ≡ at + suc (fill + 11) = omega arith in q) c)
+    fill-then {j} {e} c = eol-then fill-eol (subst (λ (a : ℕ). Chain bs j a e) (let q : at + (fill + 12) ≡ at + suc (fill + 11) = omega arith in q) c)
 
     pub fill-after : drop (at + (fill + 12)) bs ≡ rest
     unfolding eolBits

@@ -1,20 +1,23 @@
--- Small Group 3 pages, computed over the definitions: their bits, the writers' answers in their order, and why a page of no rows is not written. Assumes nothing.
+-- Small Group 3 pages, computed over the definitions: their bits, the writers' answers in their order, why a page of no rows is not written, and why A13 asks
+-- for three fill zeros. Assumes nothing.
 use mathlib.Core.Path.{_≡_, refl}
 use mathlib.Core.Bool.{true, false}
 use mathlib.Core.List.{[], _∷_, _++_}
+use lib.ListN.{replicate}
 use Rattle.rules.specs.Machine.{run, ends}
 use Rattle.rules.specs.Bits.{bit, bitsFor, bitsOf, window}
 use Rattle.rules.specs.Codes.{codeBits, whiteTerminating, whiteMakeup, blackTerminating, blackMakeup, commonMakeup, terminatingOf, makeupOf, codesOf}
 use Rattle.rules.specs.Lookup.{begins, shared, codeIn, longestShared, lookup}
 use Rattle.rules.specs.Runs.{runTake, runStep, readRun}
 use Rattle.rules.specs.Modes.{modeBits}
-use Rattle.rules.specs.Lines.{pushRun, rightOfA0, fromB1, lineStep, lineEnd, readLine}
-use Rattle.rules.specs.Eols.{zeroRun, readEols}
+use Rattle.rules.specs.Lines.{lastColour, recorded, add, push, pushRun, rightOfA0, fromB1, lineStep, lineEnd, readLine}
+use Rattle.rules.specs.Eols.{zeroRun, readEols, skip}
 use Rattle.rules.specs.Rows.{Settings, group3-1D}
 use Rattle.rules.specs.Group3.{row3}
 use Rattle.rules.specs.Pages.{entries, pageStep, rowOf, readPage, ascendsFrom}
 use Rattle.rules.specs.Write.{mostMakeup, runCodes, codesBits, runBits, bits1D, bits2D, lineBits, eolBits, toByte, writtenAt, rowsIn, endsRise, allAscend, writes}
 use Rattle.rules.specs.WriteGroup3.{bare, filled, mixed, codedLines, times, framed, page3Bits, writeGroup3, write1D, write2D}
+use Rattle.rules.specs.Damage.{own, other, arrivedLines, arrivedPage}
 
 -- Four columns, the middle two black: white 1 (000111), black 2 (11), white 1. Two zeros of fill before the EOL, and before the first of the six alone;
 -- the same row twice without EOLs; three times with K = 2, which is 1D, 2D (three times V0), 1D, with EOL and a tag before each and six times EOL and a
@@ -51,3 +54,17 @@ strictly = record { columns = 4; rows = 0; endOfBlock = true; endOfLine = true; 
 six-alone : readPage strictly (page3Bits mostMakeup 4 (filled 0) []) 9 9 .number ≡ 2
 unfolding strictly run ends bit bitsFor window codeBits whiteTerminating whiteMakeup blackTerminating blackMakeup commonMakeup terminatingOf makeupOf codesOf begins shared codeIn longestShared lookup runTake runStep readRun pushRun lineStep lineEnd readLine zeroRun readEols row3 entries pageStep rowOf readPage eolBits times codedLines framed page3Bits
 six-alone = refl
+
+-- A13, on one column and two white rows, the first line's code bits being others. Two fill zeros are too few: with the zeros behind it the bit 1 is read as white 3
+-- (1000), cut to the width; of the thirteen zeros ten are left, which is no EOL; the next EOL found is the first of the six, and the second row is lost. With
+-- three it is kept, and clean, and the first is marked cut. A bad line may be marked clean: white 1 (000111) and a one, which is skipped.
+lenient : Settings
+lenient = record { columns = 1; rows = 2; endOfBlock = true; endOfLine = true; aligned = false; encoding = group3-1D; strict = false; exact = false }
+
+bad-lines-sheet :
+    (readPage lenient (arrivedPage mostMakeup 1 2 (other (true ∷ []) ∷ own [] ∷ []) ++ replicate 6 false) 9 9 .rows ≡ [] ∷ [])
+    × (readPage lenient (arrivedPage mostMakeup 1 3 (other (true ∷ []) ∷ own [] ∷ []) ++ replicate 2 false) 9 9 .rows ≡ [] ∷ [] ∷ [])
+    × (readPage lenient (arrivedPage mostMakeup 1 3 (other (true ∷ []) ∷ own [] ∷ []) ++ replicate 2 false) 9 9 .marks ≡ 1 ∷ 0 ∷ [])
+    × (readPage lenient (arrivedPage mostMakeup 1 3 (other (bitsFor 7 0b0001111) ∷ own [] ∷ [])) 9 9 .marks ≡ 0 ∷ 0 ∷ [])
+unfolding lenient run ends bit bitsFor window codeBits whiteTerminating whiteMakeup blackTerminating blackMakeup commonMakeup terminatingOf makeupOf codesOf begins shared codeIn longestShared lookup runTake runStep readRun lastColour recorded add push pushRun lineStep lineEnd readLine zeroRun readEols skip row3 entries pageStep rowOf readPage runCodes codesBits runBits bits1D lineBits eolBits times framed arrivedLines arrivedPage
+bad-lines-sheet = (refl, refl, refl, refl)

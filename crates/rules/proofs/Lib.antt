@@ -47,3 +47,7 @@ pub mod EolChains
 pub mod Group3Back
 pub mod Group3Trip
 pub mod Group3Sheets
+pub mod Roomy
+pub mod NextEol
+pub mod BadLines
+pub mod OneBadLine

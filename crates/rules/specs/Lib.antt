@@ -17,4 +17,5 @@ pub mod InSteps
 pub mod ByRow
 pub mod Write
 pub mod WriteGroup3
+pub mod Damage
 pub mod Sheets

@@ -1,0 +1,78 @@
+-- A page that arrives with bad lines (02 A13): what may stand in a line's place, the page then, and which of its rows must be read all the same, and clean.
+use mathlib.Core.Bool.{Bool, true, false, _&&_}
+use mathlib.Core.List.{List, [], _∷_, _++_}
+use mathlib.Core.Option.{Option, none, some}
+use Prim.Native.Nat.{ℕ, suc}
+use lib.Dec.{ltb}
+use lib.ListN.{replicate}
+use Rattle.rules.specs.Lines.{one}
+use Rattle.rules.specs.Eols.{zeroRun}
+use Rattle.rules.specs.Pages.{ascends}
+use Rattle.rules.specs.Write.{lineBits, eolBits}
+use Rattle.rules.specs.WriteGroup3.{filled, CodedLine, framed}
+
+-- ---- What may stand in a line's place
+
+-- "at least one one": the first was found
+abbrev pub found : Option ℕ → Bool
+found none = false
+found (some z) = true
+
+-- "no run of eleven or more zeros before a one", where so many zeros were just seen
+unfoldable pub noEol : ℕ → List Bool → Bool
+noEol zeros [] = true
+noEol zeros (false ∷ bits) = noEol (suc zeros) bits
+noEol zeros (true ∷ bits) = ltb zeros 11 && noEol 0 bits
+
+-- "any others .. holding at least one one and no run of eleven or more zeros before a one"
+abbrev pub stray : List Bool → Bool
+stray bits = found (zeroRun bits) && noEol 0 bits
+
+-- ---- The page as it arrives
+
+-- a 1D line: a row's own code bits, or others
+pub data Arrived : Type 0 where
+  own : List ℕ → Arrived
+  other : List Bool → Arrived
+
+-- rows whose lines are all their own
+unfoldable pub owns : List (List ℕ) → List Arrived
+owns [] = []
+owns (r ∷ rs) = own r ∷ owns rs
+
+module _ (most width : ℕ) where
+  abbrev pub arrivedBits : Arrived → List Bool
+  arrivedBits (own row) = lineBits most width one row
+  arrivedBits (other bits) = bits
+
+  unfoldable pub arrivedLines : List Arrived → List CodedLine
+  arrivedLines [] = []
+  arrivedLines (l ∷ ls) = record { kind = one; bits = arrivedBits l } ∷ arrivedLines ls
+
+  -- the page of these lines, by A3's writer with EOLs
+  unfoldable pub arrivedPage : ℕ → List Arrived → List Bool
+  arrivedPage fill ls = framed (filled fill) (arrivedLines ls)
+
+  -- its bits up to the code bits of the line after these
+  unfoldable pub upTo : ℕ → List Arrived → List Bool
+  upTo fill [] = replicate fill false ++ eolBits
+  upTo fill (l ∷ ls) = (replicate fill false ++ eolBits) ++ (arrivedBits l ++ upTo fill ls)
+
+-- the rows were written, and the other bits may stand there
+abbrev pub mayArrive : ℕ → Arrived → Bool
+mayArrive width (own row) = ascends width row
+mayArrive width (other bits) = stray bits
+
+unfoldable pub mayAll : ℕ → List Arrived → Bool
+mayAll width [] = true
+mayAll width (l ∷ ls) = mayArrive width l && mayAll width ls
+
+-- ---- What it costs
+
+-- "the same number of rows, and every row but that one is unchanged"; an unchanged row is marked clean (A5). A bad line's row may be any, with any mark:
+-- the other bits may be a row's own, or begin with it.
+pub data Spared : List Arrived → List (List ℕ) → List ℕ → Type 0 where
+  no-lines : Spared [] [] []
+  unchanged : {row : List ℕ} {ls : List Arrived} {rows : List (List ℕ)} {marks : List ℕ} → Spared ls rows marks → Spared (own row ∷ ls) (row ∷ rows) (0 ∷ marks)
+  any-row : {bits : List Bool} {row : List ℕ} {mark : ℕ} {ls : List Arrived} {rows : List (List ℕ)} {marks : List ℕ}
+      → Spared ls rows marks → Spared (other bits ∷ ls) (row ∷ rows) (mark ∷ marks)
