@@ -17,3 +17,4 @@ pub mod Exact
 pub mod EnginesAgree
 pub mod ByRow
 pub mod WriteGroup3
+pub mod BadLines

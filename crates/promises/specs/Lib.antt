@@ -15,3 +15,4 @@ pub mod Marks
 pub mod Exact
 pub mod EnginesAgree
 pub mod ByRow
+pub mod BadLines
