@@ -39,7 +39,7 @@ use check::{Source, Tally};
 use checks::other_decoder::{self, OtherDecoder};
 use checks::random_pages::{Kind, RandomPages};
 use checks::{
-    codes::Codes, exhaustive::Exhaustive, far::Far, fill::Fill, group3_writers, limits, lines::Lines, listed_pages::ListedPages,
+    bad_lines::BadLines, codes::Codes, exhaustive::Exhaustive, far::Far, fill::Fill, group3_writers, limits, lines::Lines, listed_pages::ListedPages,
     long_runs::LongRuns, sheets::Sheets, writers,
 };
 use ours::Ours;
@@ -120,6 +120,7 @@ fn sources(more: u64, writes: bool) -> Vec<Box<dyn Source>> {
         Box::new(random(Kind::Words, 150_000)),
         Box::new(random(Kind::Encoded, 100_000)),
         Box::new(random(Kind::Damaged, 200_000)),
+        Box::new(BadLines { count: 50_000 * more }),
         Box::new(Lines { count: 150_000 * more }),
     ];
     // under the emulator a call takes microseconds, so the third row number is left to --more there

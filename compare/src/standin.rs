@@ -500,7 +500,7 @@ mod tests {
     use crate::check::{self, Source};
     use crate::checks::random_pages::{Kind, RandomPages};
     use crate::checks::{
-        codes::Codes, group3_writers, limits, lines::Lines, listed_pages::ListedPages, long_runs::LongRuns, sheets::Sheets, writers,
+        bad_lines::BadLines, codes::Codes, group3_writers, limits, lines::Lines, listed_pages::ListedPages, long_runs::LongRuns, sheets::Sheets, writers,
     };
     use crate::ours::Ours;
 
@@ -516,6 +516,7 @@ mod tests {
             random(Kind::Words),
             random(Kind::Encoded),
             random(Kind::Damaged),
+            Box::new(BadLines { count }),
             Box::new(Lines { count }),
             Box::new(writers::WriterLimits),
             Box::new(writers::WrittenLines { count }),

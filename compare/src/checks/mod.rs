@@ -1,5 +1,6 @@
 //! The checks, one file each.
 
+pub mod bad_lines;
 pub mod codes;
 pub mod exhaustive;
 pub mod far;
