@@ -1,7 +1,8 @@
 // The sheets on the wall that are run (the others are proved), the inputs where the crate, and so this work, parts from the standard
-// (docs/DIFFERENCES.md), and one input for each clause of A7 (places.rt) and of A12 (exact.rt), and pages by both engines (engines.rt): what reading each of them answers. A line has the sheet's name;
+// (docs/DIFFERENCES.md), and one input for each clause of A7 (places.rt) and of A12 (exact.rt), pages by both engines (engines.rt), and pages with a bad line (bad_lines.rt): what reading each of them answers. A line has the sheet's name;
 // number, rows, entries, loose entries, bytes and place; the mark of the first row, or 3 where none was stored; and the changes, those of
 // kept rows first.
+mod bad_lines;
 mod engines;
 mod exact;
 mod places;
@@ -338,4 +339,5 @@ fn main() {
     exact::short_pages();
     exact::strict_implied();
     engines::pages();
+    bad_lines::pages();
 }
