@@ -39,8 +39,8 @@ use check::{Source, Tally};
 use checks::other_decoder::{self, OtherDecoder};
 use checks::random_pages::{Kind, RandomPages};
 use checks::{
-    bad_lines::BadLines, codes::Codes, exhaustive::Exhaustive, far::Far, fill::Fill, group3_writers, limits, lines::Lines, listed_pages::ListedPages,
-    long_runs::LongRuns, sheets::Sheets, writers,
+    bad_lines::BadLines, codes::Codes, exhaustive::Exhaustive, far::Far, fill::Fill, group3_writers, limits, lines::Lines,
+    listed_pages::ListedPages, long_runs::LongRuns, sheets::Sheets, writers,
 };
 use ours::Ours;
 use settings::{ENCODINGS, Encoding};

@@ -129,5 +129,8 @@ pub fn line_room(changes: usize) -> Room {
 }
 
 fn planned(rooms: Vec<Room>, random: &mut Random, wanted: impl Fn(Room) -> Wanted) -> Vec<Plan> {
-    rooms.into_iter().map(|room| Plan { exact: false, plain: false, lines: None, room, fill: random.next() as u32, wanted: wanted(room) }).collect()
+    rooms
+        .into_iter()
+        .map(|room| Plan { exact: false, plain: false, lines: None, room, fill: random.next() as u32, wanted: wanted(room) })
+        .collect()
 }

@@ -500,7 +500,8 @@ mod tests {
     use crate::check::{self, Source};
     use crate::checks::random_pages::{Kind, RandomPages};
     use crate::checks::{
-        bad_lines::BadLines, codes::Codes, group3_writers, limits, lines::Lines, listed_pages::ListedPages, long_runs::LongRuns, sheets::Sheets, writers,
+        bad_lines::BadLines, codes::Codes, group3_writers, limits, lines::Lines, listed_pages::ListedPages, long_runs::LongRuns,
+        sheets::Sheets, writers,
     };
     use crate::ours::Ours;
 

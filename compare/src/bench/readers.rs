@@ -111,7 +111,13 @@ fn compare_forms(name: &str, pages: &[&Page], store: &mut Store) {
 fn time_by_row(page: &Page, store: &mut Store) -> Duration {
     let (first, second) = store.cleared().changes.split_at_mut(CHANGES / 2);
     let columns = page.settings.columns as usize;
-    let call = by_row::Page { settings: &page.settings, exact: false, plain: false, src: &page.src, encoding: by_row::encoding_number(page.settings.encoding) };
+    let call = by_row::Page {
+        settings: &page.settings,
+        exact: false,
+        plain: false,
+        src: &page.src,
+        encoding: by_row::encoding_number(page.settings.encoding),
+    };
     let mut state = [0; STATE];
     let began = Instant::now();
     let answer = loop {

@@ -220,7 +220,14 @@ impl Source for WriterLimits {
             Ask::write_page(columns, first.to_vec(), second.to_vec())
         };
         ask.tail = tail;
-        let plans = vec![Plan { exact: false, plain: false, lines: None, room: Room::Bytes(4), fill: random.next() as u32, wanted: refused(number) }];
+        let plans = vec![Plan {
+            exact: false,
+            plain: false,
+            lines: None,
+            room: Room::Bytes(4),
+            fill: random.next() as u32,
+            wanted: refused(number),
+        }];
         Case { ask, plans, complaint: None }
     }
 

@@ -18,7 +18,15 @@ pub enum Scheme {
 }
 
 unsafe extern "C" {
-    fn libtiff_write_page(scheme: u32, columns: u32, rows: u32, packed: *const u8, packed_len: usize, out: *mut u8, out_len: usize) -> Strip;
+    fn libtiff_write_page(
+        scheme: u32,
+        columns: u32,
+        rows: u32,
+        packed: *const u8,
+        packed_len: usize,
+        out: *mut u8,
+        out_len: usize,
+    ) -> Strip;
 }
 
 /// Writes packed rows as a TIFF file of one strip, and says where in the output the strip lies.
