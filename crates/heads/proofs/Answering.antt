@@ -6,11 +6,12 @@ use Prim.Native.Nat.{ℕ, _≤_}
 use lib.Dec.{leb, ltb}
 use lib.IntN.{ℤ}
 use lib.ListN.{length, take}
-use borrow.Author.Tests.{leb-true}
+use borrow.Author.Tests.{leb-true, eq-eqb, ne-eqb}
 use Rattle.rules.specs.Write.{rowsIn}
 use Rattle.writer.specs.Paging.{goodRows}
-use Rattle.heads.specs.Form.{all, ordered, marked, sound, given, quotaGiven, clean, pageIn, tickTable, headsIn, headsOn, heads, told, refusal}
+use Rattle.heads.specs.Form.{all, ordered, marked, sound, given, Page, quotaGiven, clean, pageIn, tickTable, headsIn, headsOn, heads, told, refusal}
 use Rattle.heads.specs.Steps.{only, toldBy}
+use Rattle.heads.specs.Numbers.{formIn, headsFrom}
 use Rattle.heads.specs.declared.Box.{Box}
 use Rattle.heads.specs.declared.HeadsAnswer.{HeadsAnswer}
 use Rattle.heads.specs.declared.reading.Digit.{Digit}
@@ -24,64 +25,76 @@ told-held {quota = quota} tens units e f g = rw (e, f, g) (told-by quota tens un
 pub read-held : (least : ℕ) {q quota : ℤ} {t table : List (List ℕ)} → q ≡ quota → t ≡ table → headsIn t least q ≡ headsIn table least quota
 read-held least e f = rw (e, f)
 
--- ---- What passed tests tell
+pub on-held : (page : Page) (marks : List ℕ) (form : List (List Box)) (least : ℕ) {q quota : ℤ} → q ≡ quota → headsOn page marks form least q ≡ headsOn page marks form least quota
+on-held page marks form least e = rw e
 
-pub marked-enough : (rows : ℕ) (marks : List ℕ) → marked rows marks ≡ true → rows ≤ length marks
-unfolding marked
-marked-enough rows marks e = leb-true rows (length marks) (both (leb rows (length marks)) (all (λ m. leb m 2) (take rows marks)) e .0)
+-- ---- What passed tests tell
 
 pub given-quota : (form : List (List Box)) (least : ℕ) (quota : ℤ) → given form least quota ≡ true → quotaGiven quota ≡ true
 unfolding given
 given-quota form least quota e = both (ltb 0 least) (quotaGiven quota) (both (all (all ordered) form) (ltb 0 least && quotaGiven quota) e .1) .1
 
+module _ (columns : ℕ) (changes ends marks : List ℕ) where
+  pub sound-not : goodRows columns changes 0 ends ≡ false → false ≡ sound columns changes ends marks
+  unfolding sound
+  sound-not e = sym (rw e)
+
+  pub sound-marks : goodRows columns changes 0 ends ≡ true → marked (length ends) marks ≡ sound columns changes ends marks
+  unfolding sound
+  sound-marks e = sym (rw e)
+
+  module _ (s : sound columns changes ends marks ≡ true) where
+    pub sound-rows : goodRows columns changes 0 ends ≡ true
+    unfolding sound
+    sound-rows = both (goodRows columns changes 0 ends) (marked (length ends) marks) s .0
+
+    pub sound-enough : length ends ≤ length marks
+    unfolding sound marked
+    sound-enough =
+        leb-true (length ends) (length marks)
+        (both (leb (length ends) (length marks)) (all (λ m. leb m 2) (take (length ends) marks)) (both (goodRows columns changes 0 ends) (marked (length ends) marks) s .1) .0)
+
 -- ---- The order of the tests
 
-module _ (columns : ℕ) (changes ends marks : List ℕ) where
-  unsound-store : goodRows columns changes 0 ends ≡ false → sound columns changes ends marks ≡ false
-  unfolding sound
-  unsound-store e = ap (λ b. b && marked (length ends) marks) e
-
-  unsound-marks : marked (length ends) marks ≡ false → sound columns changes ends marks ≡ false
-  unfolding sound
-  unsound-marks e = by (goodRows columns changes 0 ends) (marked (length ends) marks) e
-    where
-      by : (a b : Bool) → b ≡ false → (a && b) ≡ false
-      by true b e = e
-      by false b e = refl
-
-  is-sound : goodRows columns changes 0 ends ≡ true → marked (length ends) marks ≡ true → sound columns changes ends marks ≡ true
-  unfolding sound
-  is-sound e f = ap (λ b. b && marked (length ends) marks) e ∙ f
-
 module _ (columns : ℕ) (changes ends marks : List ℕ) (form : List (List Box)) (least : ℕ) (quota : ℤ) where
-  refused-8 : sound columns changes ends marks ≡ false → refusal 8 ≡ heads columns changes ends marks form least quota
+  abbrev onPage : HeadsAnswer
+  onPage = headsOn (pageIn columns changes ends) marks form least quota
+
+  pub heads-8 : sound columns changes ends marks ≡ false → refusal 8 ≡ heads columns changes ends marks form least quota
   unfolding heads
-  refused-8 e = sym (rw (heads, e))
+  heads-8 e = sym (rw (heads, e))
 
-  pub heads-store : goodRows columns changes 0 ends ≡ false → refusal 8 ≡ heads columns changes ends marks form least quota
-  heads-store e = refused-8 (unsound-store columns changes ends marks e)
+  pub heads-on : sound columns changes ends marks ≡ true → onPage ≡ heads columns changes ends marks form least quota
+  unfolding heads
+  heads-on e = sym (rw (heads, e))
 
-  pub heads-marks : marked (length ends) marks ≡ false → refusal 8 ≡ heads columns changes ends marks form least quota
-  heads-marks e = refused-8 (unsound-marks columns changes ends marks e)
+  pub on-11 : given form least quota ≡ false → refusal 11 ≡ onPage
+  unfolding headsOn
+  on-11 e = sym (rw (headsOn, e))
 
-  module _ (good : goodRows columns changes 0 ends ≡ true) (m : marked (length ends) marks ≡ true) where
-    on-page : headsOn (pageIn columns changes ends) marks form least quota ≡ heads columns changes ends marks form least quota
-    unfolding heads
-    on-page = sym (rw (heads, is-sound columns changes ends marks good m))
-
-    pub heads-given : given form least quota ≡ false → refusal 11 ≡ heads columns changes ends marks form least quota
+  module _ (g : given form least quota ≡ true) where
+    pub on-13 : clean columns (length ends) marks form ≡ false → refusal 13 ≡ onPage
     unfolding headsOn
-    heads-given e = sym (rw (headsOn, e)) ∙ on-page
+    on-13 e = sym (rw (headsOn, g, rows-length 0 changes ends, e))
 
-    module _ (g : given form least quota ≡ true) where
-      pub heads-mended : clean columns (length ends) marks form ≡ false → refusal 13 ≡ heads columns changes ends marks form least quota
-      unfolding headsOn
-      heads-mended e = sym (rw (headsOn, g, rows-length 0 changes ends, e)) ∙ on-page
+    pub on-read : clean columns (length ends) marks form ≡ true → headsIn (tickTable (pageIn columns changes ends) form) least quota ≡ onPage
+    unfolding headsOn
+    on-read e = sym (rw (headsOn, g, rows-length 0 changes ends, e))
 
-      pub heads-read : clean columns (length ends) marks form ≡ true
-          → headsIn (tickTable (pageIn columns changes ends) form) least quota ≡ heads columns changes ends marks form least quota
-      unfolding headsOn
-      heads-read e = sym (rw (headsOn, g, rows-length 0 changes ends, e)) ∙ on-page
+-- the same of a form in numbers
+module _ (columns : ℕ) (changes ends marks boxes : List ℕ) (least : ℕ) (quota : ℤ) where
+  pub from-8 : sound columns changes ends marks ≡ false → refusal 8 ≡ headsFrom columns changes ends marks boxes least quota
+  unfolding headsFrom
+  from-8 e = sym (rw (headsFrom, e))
+
+  module _ (s : sound columns changes ends marks ≡ true) where
+    pub from-11 : (length boxes ≡ 80 → ⊥) → refusal 11 ≡ headsFrom columns changes ends marks boxes least quota
+    unfolding headsFrom
+    from-11 e = sym (rw (headsFrom, s, ne-eqb (length boxes) 80 e))
+
+    pub from-on : length boxes ≡ 80 → headsOn (pageIn columns changes ends) marks (formIn boxes) least quota ≡ headsFrom columns changes ends marks boxes least quota
+    unfolding headsFrom
+    from-on e = sym (rw (headsFrom, s, eq-eqb (length boxes) 80 e))
 
 -- One case principle for the answer: each case is handed the outcome of the tests.
 module _ (columns : ℕ) (changes ends marks : List ℕ) (form : List (List Box)) (least : ℕ) (quota : ℤ) (P : HeadsAnswer → Type 0) where

@@ -10,5 +10,6 @@ pub mod OneTick
 pub mod Marks
 pub mod Quota
 pub mod Lengths
+pub mod Numbered
 pub mod Answering
 pub mod Sheets

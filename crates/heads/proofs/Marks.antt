@@ -1,17 +1,18 @@
 -- The tests of marks, row by row, and which rows a box touches. Assumes nothing.
 use mathlib.Core.Path.{_≡_, refl, sym, _∙_}
 use mathlib.Core.Bool.{Bool, true, false, not, _&&_, _||_}
-use mathlib.Core.List.{List}
+use mathlib.Core.List.{List, []}
 use Prim.Native.Nat.{ℕ, suc, _+_, _-_, _≤_, _<_}
 use native.Mathlib.Omega.{arith}
 use lib.Dec.{leb, ltb, eqb}
 use lib.ListN.{length, getD, take, drop}
 use lib.Seq.{length-take-le, getD-take}
 use borrow.Author.Tests.{leb-true, ltb-true, ltb-false, le-leb, lt-leb, lt-ltb, eq-eqb, ne-eqb}
-use Rattle.heads.specs.Form.{every, all, marked, touches, cleanUnder}
+use Rattle.heads.specs.Form.{every, all, marked, touches, cleanUnder, clean}
 use Rattle.heads.specs.Steps.{cleanRows}
 use Rattle.heads.specs.declared.Box.{Box}
-use Rattle.heads.proofs.Tests.{same-truth, all-past, all-here, every-at, every-all}
+use Rattle.heads.proofs.Tests.{same-truth, all-past, all-here, all-all, every-at, every-all}
+use Rattle.heads.proofs.Twos.{noBox}
 
 -- ---- A mark for each row
 
@@ -110,3 +111,24 @@ module _ (columns rows : ℕ) (marks : List ℕ) (b : Box) where
           rw (lt-leb rows x (f refl))
           (rw (le-leb (b .top) x l, lt-ltb x (b .bottom) m, lt-ltb (b .left) (b .right) h, lt-ltb (b .left) columns k) at (r (f refl)))
       out x l m false f g r = rw (le-leb rows x (g refl))
+
+-- ---- Marks that pass
+
+pub all-marked : (rows : ℕ) (marks : List ℕ) → rows ≤ length marks → ((n : ℕ) → n < rows → getD marks n 0 ≤ 2) → marked rows marks ≡ true
+unfolding marked
+all-marked rows marks h f =
+    rw (le-leb rows (length marks) h)
+    (all-all (λ m. leb m 2) (take rows marks) 0
+    (λ i k. let l : i < rows = omega (arith, length-take-le rows marks h) in rw (getD-take rows marks i 0 l) (le-leb (getD marks i 0) 2 (f i l))))
+
+-- a page of clean rows passes 13 with any form
+pub all-clean : (columns rows : ℕ) (marks : List ℕ) (form : List (List Box)) → ((n : ℕ) → n < rows → getD marks n 0 ≡ 0) → clean columns rows marks form ≡ true
+unfolding clean cleanUnder
+all-clean columns rows marks form f =
+    all-all (all (cleanUnder columns rows marks)) form [] (λ i h. all-all (cleanUnder columns rows marks) (getD form i []) noBox (λ j k.
+    every-all (tested columns rows marks (getD (getD form i []) j noBox)) rows 0
+    (λ y p q. rw (eq-eqb (getD marks y 0) 0 (f y (omega arith))) (either (not (touches columns (getD (getD form i []) j noBox) y))))))
+  where
+    either : (b : Bool) → (b || true) ≡ true
+    either true = refl
+    either false = refl

@@ -33,12 +33,17 @@ module _ {A : Type 0} (test : A → Bool) (l : List A) (k : ℕ) where
   unfolding all
   all-here d h = ap (all test) (drop-cons l k d h) ∙ rw (add-one k)
 
--- what one test of all tells, and what tells that they do not all pass
+-- what it tells of each, what tells it, and what tells that they do not all pass
 pub all-get : {A : Type 0} (test : A → Bool) (l : List A) (i : ℕ) (d : A) → all test l ≡ true → i < length l → test (getD l i d) ≡ true
 unfolding all
 all-get test [] i d e h = absurd (omega arith)
 all-get test (x ∷ xs) zero d e h = both (test x) (all test xs) e .0
 all-get test (x ∷ xs) (suc i) d e h = all-get test xs i d (both (test x) (all test xs) e .1) (omega arith)
+
+pub all-all : {A : Type 0} (test : A → Bool) (l : List A) (d : A) → ((i : ℕ) → i < length l → test (getD l i d) ≡ true) → all test l ≡ true
+unfolding all
+all-all test [] d f = refl
+all-all test (x ∷ xs) d f = rw (f 0 (omega arith)) (all-all test xs d (λ i h. f (suc i) (omega arith)))
 
 pub all-not : {A : Type 0} (test : A → Bool) (l : List A) (d : A) → all test l ≡ false → (i : ℕ) × (i < length l) × (test (getD l i d) ≡ false)
 unfolding all

@@ -1,3 +1,4 @@
 -- What the contracts cite.
 pub mod Form
 pub mod Steps
+pub mod Numbers

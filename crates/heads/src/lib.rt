@@ -1,11 +1,12 @@
 // Heads on the form (02 A11): the boxes that are ticked on a page, the heads that they say, and the quota left.
-use writer::page;
 ghost use mathlib.Core.Path.{_≡_};
 ghost use Rattle.heads.specs.Form as Form;
-ghost use Rattle.heads.specs.Form.{refusal};
+ghost use Rattle.heads.specs.Form.{pageIn, refusal, headsOn};
+ghost use Rattle.heads.specs.Steps.{Sound};
 
 mod boxes;
 mod count;
+pub mod numbers;
 mod reading;
 mod store;
 
@@ -34,6 +35,29 @@ pub(crate) fn refused(number: u32) -> HeadsAnswer
     }
 }
 
+// On a page that passed test 8: 11, then 13, and then what is ticked says 0 or 12.
+pub(crate) fn on_page(
+    columns: u32,
+    changes: &[u32],
+    ends: &[u64],
+    marks: &[u8],
+    form: [[Box; 2]; 10],
+    least: u64,
+    quota: i32,
+) -> HeadsAnswer
+    requires { ⌜ Sound columns (now changes) (now ends) (now marks) ⌝ }
+    ensures { λ r. ⌜ r ≡ headsOn (pageIn columns (now (changes .entry)) (now (ends .entry))) (now (marks .entry)) form least quota ⌝ }
+{
+    if !boxes::given(form, least, quota) {
+        return refused(11);
+    }
+    if !boxes::clean(columns, ends.len(), marks, form) {
+        return refused(13);
+    }
+    let table = boxes::tick_table(columns, changes, ends, form);
+    reading::heads_in(table, least, quota)
+}
+
 // A page as the decoder left it in its store, a form of ten rows of a tens box and a units box, the count from which a cell is ticked, and a quota.
 pub fn heads(
     columns: u32,
@@ -46,18 +70,8 @@ pub fn heads(
 ) -> HeadsAnswer
     ensures { λ r. ⌜ r ≡ Form.heads columns (now (changes .entry)) (now (ends .entry)) (now (marks .entry)) form least quota ⌝ }
 {
-    if !page::ascend(columns, changes, ends) {
+    if !store::sound(columns, changes, ends, marks) {
         return refused(8);
     }
-    if !store::marked(ends.len(), marks) {
-        return refused(8);
-    }
-    if !boxes::given(form, least, quota) {
-        return refused(11);
-    }
-    if !boxes::clean(columns, ends.len(), marks, form) {
-        return refused(13);
-    }
-    let table = boxes::tick_table(columns, changes, ends, form);
-    reading::heads_in(table, least, quota)
+    on_page(columns, changes, ends, marks, form, least, quota)
 }

@@ -1,4 +1,5 @@
-// The marks of a store, and where its rows lie.
+// Test 8 of a store with its marks, and where its rows lie.
+use writer::page;
 ghost use mathlib.Core.Path.{_≡_};
 ghost use Prim.Native.Nat.{_≤_};
 ghost use lib.ListN.{length};
@@ -6,7 +7,7 @@ ghost use Rattle.heads.specs.Form as Form;
 ghost use Rattle.heads.specs.Steps.{endAfter};
 
 // Whether each of so many rows has a mark of the three.
-pub(crate) fn marked(rows: usize, marks: &[u8]) -> bool
+fn marked(rows: usize, marks: &[u8]) -> bool
     ensures { λ r. ⌜ r ≡ Form.marked rows (now (marks .entry)) ⌝ }
 {
     if marks.len() < rows {
@@ -20,6 +21,15 @@ pub(crate) fn marked(rows: usize, marks: &[u8]) -> bool
         k += 1;
     }
     true
+}
+
+pub(crate) fn sound(columns: u32, changes: &[u32], ends: &[u64], marks: &[u8]) -> bool
+    ensures { λ r. ⌜ r ≡ Form.sound columns (now (changes .entry)) (now (ends .entry)) (now (marks .entry)) ⌝ }
+{
+    if !page::ascend(columns, changes, ends) {
+        return false;
+    }
+    marked(ends.len(), marks)
 }
 
 // Where the first `rows` rows end.
