@@ -19,6 +19,7 @@ pub struct Box {
 }
 
 // The number of the list of answers; where it is 0, the heads, and the quota left, which may be below zero.
+#[repr(C)]
 pub struct HeadsAnswer {
     pub number: u32,
     pub heads: u32,
