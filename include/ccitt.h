@@ -1,4 +1,4 @@
-/* The fax decoder, the T.6 writers and the Group 3 writers for C. Link target/staticlib/libexports.a (rt staticlib exports).
+/* The fax decoder, the T.6 writers, the Group 3 writers and the heads on the form for C. Link target/staticlib/libexports.a (rt staticlib exports).
    Every function tests for itself, takes any bytes, settings and arrays, and answers a number of the list below. */
 #ifndef CCITT_H
 #define CCITT_H
@@ -90,5 +90,23 @@ ccitt_answer ccitt_write_group3_1d(uint32_t columns, const uint32_t *changes, si
    most k - 1 2D lines, and behind the last line six times EOL and a one. */
 ccitt_answer ccitt_write_group3_2d(uint32_t columns, const uint32_t *changes, size_t changes_len, const uint64_t *ends, size_t ends_len,
                                    uint32_t k, uint8_t *out, size_t out_len);
+
+/* number: 0 done; 8 a row that does not ascend strictly below the columns, row ends that fall or pass the array, or a row without a mark of 0, 1 or 2;
+           11 an edge pair out of order, a least of 0, a quota outside -1000000 to 1000000, or not eighty numbers for the boxes;
+           13 a box holds a pixel of a row that was not read clean; 12 not exactly one tick in a column. They are tested in this order.
+   heads:  after 0 ten times the ticked tens digit and the ticked units digit; else 0.
+   left:   after 0 the quota less the heads, which may be below zero; else 0. */
+typedef struct {
+    uint32_t number;
+    uint32_t heads;
+    int32_t left;
+} ccitt_heads_answer;
+
+/* The heads on a form: `changes`, `ends` and `marks` as a decoder left them, `ends_len` the rows that it kept, `marks_len` at least as many. boxes is a
+   uint32_t[10][2][4], boxes_len 80: for each digit from 0 to 9 its tens box and its units box, each as left, right, top and bottom in pixels, right and
+   bottom not included; a part of a box outside the page is white. A box is ticked where at least `least` of its pixels are black. */
+ccitt_heads_answer ccitt_heads(uint32_t columns, const uint32_t *changes, size_t changes_len, const uint64_t *ends, size_t ends_len,
+                               const uint8_t *marks, size_t marks_len, const uint32_t *boxes, size_t boxes_len, uint64_t least,
+                               int32_t quota);
 
 #endif
