@@ -41,7 +41,7 @@ decode-held S bytes store places = record { placed = fits .0; as-many = came-as-
         short-cases S (readPage (strictIfExact S) (bitsOf bytes) store places) Fits (λ l. (a .placed, a .roomy)) (λ n. (a .placed, a .roomy)))
 
 -- ends of rows that the store holds do not fall or pass it
-ends-rise : (store base : ℕ) (rows : List (List ℕ)) → base + entries rows ≤ store → endsRise store base (endsFrom base rows) ≡ true
+pub ends-rise : (store base : ℕ) (rows : List (List ℕ)) → base + entries rows ≤ store → endsRise store base (endsFrom base rows) ≡ true
 unfolding entries endsRise endsFrom
 ends-rise store base [] h = refl
 ends-rise store base (r ∷ rows) h =
