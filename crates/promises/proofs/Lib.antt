@@ -18,3 +18,6 @@ pub mod EnginesAgree
 pub mod ByRow
 pub mod WriteGroup3
 pub mod BadLines
+pub mod Heads
+pub mod HeadRuns
+pub mod HeadsOfPage

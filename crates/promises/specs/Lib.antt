@@ -16,3 +16,5 @@ pub mod Exact
 pub mod EnginesAgree
 pub mod ByRow
 pub mod BadLines
+pub mod Heads
+pub mod HeadsOfPage
