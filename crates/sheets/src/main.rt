@@ -1,10 +1,11 @@
 // The sheets on the wall that are run (the others are proved), the inputs where the crate, and so this work, parts from the standard
 // (docs/DIFFERENCES.md), and one input for each clause of A7 (places.rt) and of A12 (exact.rt), pages by both engines (engines.rt), and pages with a bad line (bad_lines.rt): what reading each of them answers. A line has the sheet's name;
 // number, rows, entries, loose entries, bytes and place; the mark of the first row, or 3 where none was stored; and the changes, those of
-// kept rows first.
+// kept rows first. Behind them the booking forms of examples/ (parties.rt).
 mod bad_lines;
 mod engines;
 mod exact;
+mod parties;
 mod places;
 
 use error::Answer;
@@ -12,7 +13,7 @@ use libc::STDOUT_FILENO;
 use rows::DecodeSettings;
 use rows::EncodingMode;
 
-fn field(n: u64) {
+pub(crate) fn field(n: u64) {
     io::write_all(STDOUT_FILENO, b"\t");
     io::print_decimal(STDOUT_FILENO, n);
 }
@@ -340,4 +341,5 @@ fn main() {
     exact::strict_implied();
     engines::pages();
     bad_lines::pages();
+    parties::forms();
 }
