@@ -10,6 +10,7 @@ use crate::settings::{Encoding, Settings};
 use repeated::Repeated;
 use std::io;
 
+pub mod heads;
 #[cfg(feature = "libtiff")]
 pub mod libtiff;
 pub mod repeated;

@@ -14,6 +14,7 @@ mod codes;
 mod damage;
 mod encoder;
 mod group3;
+mod heads;
 mod huge;
 #[cfg(feature = "linked")]
 mod linked;
@@ -83,6 +84,13 @@ fn compare(arguments: &Arguments) -> std::io::Result<bool> {
         calls += tally.calls;
         if tally.passed() { passed += 1 } else { failed += 1 }
     }
+    if heads::NAME.contains(&arguments.only)
+        && let Some(tally) = run_heads(arguments)
+    {
+        inputs += tally.inputs;
+        calls += tally.calls;
+        if tally.passed() { passed += 1 } else { failed += 1 }
+    }
     println!("{inputs} inputs, {calls} calls; the line below counts checks");
     println!("{passed} passed, {failed} failed");
     Ok(failed == 0)
@@ -90,15 +98,24 @@ fn compare(arguments: &Arguments) -> std::io::Result<bool> {
 
 fn run_one(source: &dyn Source, seed: u64, ours: &mut [Box<dyn Ours>]) -> Tally {
     let began = Instant::now();
-    let tally = check::run(source, seed, ours);
-    println!(
-        "{}: {} inputs, {} calls, {} differ ({:.1} s)",
-        source.name(),
-        tally.inputs,
-        tally.calls,
-        tally.differing,
-        began.elapsed().as_secs_f64()
-    );
+    told(&source.name(), began, check::run(source, seed, ours))
+}
+
+/// The heads on the form, where the library is linked in.
+#[cfg(feature = "linked")]
+fn run_heads(arguments: &Arguments) -> Option<Tally> {
+    let began = Instant::now();
+    Some(told(heads::NAME, began, heads::run(&linked::heads::LinkedHeads, arguments.seed, 300_000 * arguments.more)))
+}
+
+#[cfg(not(feature = "linked"))]
+fn run_heads(_: &Arguments) -> Option<Tally> {
+    println!("{}: skipped, the library is not linked in", heads::NAME);
+    None
+}
+
+fn told(name: &str, began: Instant, tally: Tally) -> Tally {
+    println!("{name}: {} inputs, {} calls, {} differ ({:.1} s)", tally.inputs, tally.calls, tally.differing, began.elapsed().as_secs_f64());
     if let Some((_, text)) = &tally.smallest {
         println!("{text}");
     }

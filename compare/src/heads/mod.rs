@@ -1,0 +1,90 @@
+//! The heads on a form: the library against a plain reader of pixels, over the rows that the crate reads.
+//! Only a library that is linked in is asked.
+#![cfg_attr(not(feature = "linked"), allow(dead_code))]
+
+pub mod forms;
+pub mod plain;
+#[cfg(test)]
+mod standin;
+
+use crate::check::Tally;
+use crate::random::Random;
+use plain::plain;
+use std::fmt::Write as _;
+
+/// What is asked: a store as the decoder left it, the eighty numbers of a form, and the caller's mark and quota.
+#[derive(Clone, Debug)]
+pub struct Ask {
+    pub columns: u32,
+    pub changes: Vec<u32>,
+    pub ends: Vec<u64>,
+    pub marks: Vec<u8>,
+    pub boxes: Vec<u32>,
+    pub least: u64,
+    pub quota: i32,
+}
+
+/// The answer as C has it.
+#[repr(C)]
+#[derive(Clone, Copy, Debug, Default, PartialEq, Eq)]
+pub struct HeadsAnswer {
+    pub number: u32,
+    pub heads: u32,
+    pub left: i32,
+}
+
+/// The library, or who stands in for it.
+pub trait Reader {
+    /// Answers every one, in order.
+    fn heads(&self, asks: &[Ask]) -> Vec<HeadsAnswer>;
+}
+
+pub const NAME: &str = "heads on the form";
+
+/// How many are asked at a time.
+const BATCH: usize = 256;
+
+/// The answers of the list, each of which so many of a thousand inputs must give, so that a check that no longer reaches one says so.
+const REACHED: [(u32, u64); 5] = [(0, 50), (8, 20), (11, 20), (12, 20), (13, 20)];
+
+/// Asks about random forms on random pages.
+pub fn run(reader: &dyn Reader, seed: u64, count: u64) -> Tally {
+    let mut tally = Tally::default();
+    let mut given = [0; 14];
+    for start in (0..count).step_by(BATCH) {
+        let asks: Vec<Ask> =
+            (start..count.min(start + BATCH as u64)).map(|index| forms::random_ask(&mut Random::of(seed, NAME, index))).collect();
+        let answers = reader.heads(&asks);
+        assert_eq!(answers.len(), asks.len(), "every one is answered");
+        for (index, (ask, got)) in (start..).zip(asks.iter().zip(answers)) {
+            let wanted = plain(ask);
+            given[wanted.number as usize] += 1;
+            if got != wanted {
+                tally.differs(size(ask), || describe(index, ask, &wanted, &got));
+            }
+        }
+    }
+    tally.inputs = count;
+    tally.calls = count;
+    for (number, least) in REACHED {
+        if given[number as usize] * 1000 < least * count {
+            tally.differs(usize::MAX, || format!("  answer {number} is wanted only {} times", given[number as usize]));
+        }
+    }
+    tally
+}
+
+fn size(ask: &Ask) -> usize {
+    4 * ask.changes.len() + 9 * ask.ends.len()
+}
+
+fn describe(index: u64, ask: &Ask, wanted: &HeadsAnswer, got: &HeadsAnswer) -> String {
+    let mut out =
+        format!("  input {index}: columns {}, changes {:?}, ends {:?}, marks {:?}\n", ask.columns, ask.changes, ask.ends, ask.marks);
+    for (digit, edges) in ask.boxes.chunks(8).enumerate() {
+        let _ = writeln!(out, "  boxes of {digit}: {edges:?}");
+    }
+    let _ = writeln!(out, "  least {}, quota {}", ask.least, ask.quota);
+    let _ = write!(out, "  it must answer {wanted:?}\n  it answers {got:?}");
+    out
+}

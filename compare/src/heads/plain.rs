@@ -1,0 +1,89 @@
+//! What must come back, as A11 says it, pixel by pixel where there are not too many of them.
+
+use super::{Ask, HeadsAnswer};
+use crate::truth::ascends_below;
+
+/// A box, as it stands in four of the eighty numbers.
+pub struct Edges {
+    pub left: u32,
+    pub right: u32,
+    pub top: u32,
+    pub bottom: u32,
+}
+
+impl Edges {
+    pub fn of(four: &[u32]) -> Self {
+        Edges { left: four[0], right: four[1], top: four[2], bottom: four[3] }
+    }
+}
+
+pub fn plain(ask: &Ask) -> HeadsAnswer {
+    let bare = |number| HeadsAnswer { number, ..HeadsAnswer::default() };
+    let Some(rows) = rows_of(ask) else { return bare(8) };
+    if ask.boxes.len() != 80 {
+        return bare(11);
+    }
+    let boxes: Vec<Edges> = ask.boxes.chunks(4).map(Edges::of).collect();
+    if boxes.iter().any(|b| b.left > b.right || b.top > b.bottom) || ask.least == 0 || !(-1_000_000..=1_000_000).contains(&ask.quota) {
+        return bare(11);
+    }
+    if boxes.iter().any(|b| rows_under(b, &rows).any(|y| b.left < b.right.min(ask.columns) && ask.marks[y] != 0)) {
+        return bare(13);
+    }
+    // the boxes of a digit are neighbours: tens, units
+    let ticked = |column: usize| -> Vec<usize> {
+        (0..10).filter(|digit| black_in(ask.columns, &rows, &boxes[2 * digit + column]) >= ask.least).collect()
+    };
+    match (&ticked(0)[..], &ticked(1)[..]) {
+        (&[tens], &[units]) => {
+            let heads = 10 * tens + units;
+            HeadsAnswer { number: 0, heads: heads as u32, left: ask.quota - heads as i32 }
+        }
+        _ => bare(12),
+    }
+}
+
+/// The rows of a store, unless 8 refuses it.
+pub fn rows_of(ask: &Ask) -> Option<Vec<&[u32]>> {
+    let mut rows = Vec::new();
+    let mut start = 0;
+    for (y, &end) in ask.ends.iter().enumerate() {
+        let row = ask.changes.get(start..usize::try_from(end).ok()?)?;
+        if !ascends_below(row, ask.columns) || *ask.marks.get(y)? > 2 {
+            return None;
+        }
+        rows.push(row);
+        start = end as usize;
+    }
+    Some(rows)
+}
+
+fn rows_under(b: &Edges, rows: &[&[u32]]) -> std::ops::Range<usize> {
+    let last = rows.len().min(b.bottom as usize);
+    last.min(b.top as usize)..last
+}
+
+/// More pixels than these are not looked at one by one.
+const FEW: u64 = 20_000;
+
+/// The black pixels of a box. By its runs, and one by one where they are few: both must be the same.
+fn black_in(columns: u32, rows: &[&[u32]], b: &Edges) -> u64 {
+    let right = b.right.min(columns);
+    let under = || rows_under(b, rows).map(|y| rows[y]);
+    let by_runs = under().map(|row| black_between(row, b.left, right)).sum();
+    let width = u64::from(right.saturating_sub(b.left));
+    if width * under().len() as u64 <= FEW {
+        let is_black = |row: &[u32], x: u32| row.iter().filter(|&&change| change <= x).count() % 2 == 1;
+        let by_pixels: usize = under().map(|row| (b.left..right).filter(|&x| is_black(row, x)).count()).sum();
+        assert_eq!(by_runs, by_pixels as u64, "a box has one count");
+    }
+    by_runs
+}
+
+fn black_between(row: &[u32], left: u32, right: u32) -> u64 {
+    let run = |pair: &[u32]| {
+        let (from, to) = (pair[0].max(left), pair.get(1).map_or(right, |&end| end.min(right)));
+        u64::from(to.saturating_sub(from))
+    };
+    row.chunks(2).map(run).sum()
+}

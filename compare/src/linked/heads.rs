@@ -1,0 +1,31 @@
+//! The heads on a form, asked of the library that is linked in.
+
+use super::STACK;
+use crate::heads::{Ask, HeadsAnswer, Reader};
+
+#[rustfmt::skip]
+unsafe extern "C" {
+    fn ccitt_heads(columns: u32, changes: *const u32, changes_len: usize, ends: *const u64, ends_len: usize, marks: *const u8, marks_len: usize,
+        boxes: *const u32, boxes_len: usize, least: u64, quota: i32) -> HeadsAnswer;
+}
+
+pub struct LinkedHeads;
+
+impl Reader for LinkedHeads {
+    /// In a thread that has no more stack than the library may use.
+    fn heads(&self, asks: &[Ask]) -> Vec<HeadsAnswer> {
+        std::thread::scope(|scope| {
+            let thread = std::thread::Builder::new().stack_size(STACK).spawn_scoped(scope, || asks.iter().map(one).collect());
+            thread.expect("a thread can be started").join().expect("no call ends in a panic")
+        })
+    }
+}
+
+#[rustfmt::skip]
+fn one(ask: &Ask) -> HeadsAnswer {
+    // SAFETY: each pointer stands with the length of its slice, and nothing is written.
+    unsafe {
+        ccitt_heads(ask.columns, ask.changes.as_ptr(), ask.changes.len(), ask.ends.as_ptr(), ask.ends.len(), ask.marks.as_ptr(), ask.marks.len(),
+            ask.boxes.as_ptr(), ask.boxes.len(), ask.least, ask.quota)
+    }
+}
