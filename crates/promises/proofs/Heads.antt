@@ -115,6 +115,10 @@ zero-of a r shape =
     by p (says t u o) e = record { passes = p; tens = t; units = u; one-each = o; heads-are = refl; left-is = refl }
     by p neither e = absurd (omega arith)
 
+-- and so it passed the tests
+pub zero-passes : (a : Asked) (r : HeadsAnswer) → Shaped (a .form) → Answers a r → r .number ≡ 0 → Passes a
+zero-passes a r shape c e = zero-of a r shape c e .passes
+
 pub heads-are-ticked : HeadsAreTicked
 heads-are-ticked a r shape c e = let z = zero-of a r shape c e in (z .tens, z .units, z .one-each, z .heads-are)
 

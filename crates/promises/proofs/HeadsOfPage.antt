@@ -1,15 +1,16 @@
 -- Heads of a page that `decode` handed over. Assumes nothing.
 use mathlib.Core.Path.{_≡_, refl, sym, ap, ap₂, _∙_, subst}
-use mathlib.Core.Bool.{Bool, true, false, _&&_, true≢false}
+use mathlib.Core.Bool.{Bool, true, false, cond, _&&_, true≢false}
 use mathlib.Core.List.{List, [], _∷_, _++_}
-use mathlib.Core.Logic.{_⊎_}
-use Prim.Native.Nat.{ℕ, suc, _+_, _≤_, _<_}
+use mathlib.Core.Logic.{_⊎_, inl, inr}
+use Prim.Native.Nat.{ℕ, zero, suc, _+_, _≤_, _<_}
 use native.Mathlib.Omega.{arith}
 use lib.Dec.{ltb}
 use lib.ListN.{length, getD, take, replicate, length-append, length-take, length-replicate, getD-replicate, List·getD-append}
 use lib.Seq.{getD-take, take-append-le, take-append-seam, getD-append-seam}
 use borrow.Author.Tests.{ltb-true, ltb-false}
 use Rattle.rules.specs.Bits.{bitsOf}
+use Rattle.rules.specs.Codes.{white}
 use Rattle.rules.specs.Lines.{Went, went, failed}
 use Rattle.rules.specs.Rows.{Encoding, group4, group3-1D, group3-2D, Settings, State, recoveredMark, RowOut, row, stop, rulesOf}
 use Rattle.rules.specs.Group4.{afterLine4}
@@ -17,10 +18,13 @@ use Rattle.rules.specs.Group3.{Tagging, untagged, tagged, kept, afterLine3, row
 use Rattle.rules.specs.Pages as Page
 use Rattle.rules.specs.Pages.{rowOf, joined, endsFrom, placesIn, strictIfExact, decode}
 use Rattle.rules.specs.Write.{mostMakeup, pageBits, endsRise, allAscend, rowsIn, writePage}
+use Rattle.rules.specs.WriteGroup3.{layout1D, page3Bits, write1D}
+use Rattle.rules.specs.Damage.{Arrived, own, other, Spared, no-lines, unchanged, any-row}
+use Rattle.rules.specs.Pixels.{pixelsOf}
 use Rattle.rules.proofs.Ascending.{rises-ascends}
 use Rattle.rules.proofs.PageBack.{Rows, no-rows, row-then}
 use Rattle.rules.proofs.Rows.{row4-cases, row3-cases, mended-cases}
-use Rattle.rules.proofs.Store.{length-joined, length-ends}
+use Rattle.rules.proofs.Store.{length-joined, length-ends, length-rowsIn}
 use Rattle.rules.proofs.Marks.{Came, none-yet, and-row, Told, came-as-many}
 use Rattle.error.specs.declared.Answer.{Answer}
 use Rattle.rows.specs.declared.DecodeSettings.{DecodeSettings}
@@ -28,18 +32,23 @@ use Rattle.rows.specs.Settings.{settingsOf}
 use Rattle.desk.proofs.Stored.{ends-rise}
 use Rattle.writer.specs.Paging.{goodRows}
 use Rattle.writer.specs.Outcome as Writer
-use Rattle.heads.specs.Form.{pixel, marked, sound}
+use Rattle.heads.specs.Form.{Page, pixel, marked, sound}
+use Rattle.heads.specs.declared.Box.{Box}
 use Rattle.heads.proofs.RowsAt.{rows-length}
 use Rattle.heads.proofs.Marks as Mark
 use Rattle.promises.specs.Demand1Write.{WriteListed}
 use Rattle.promises.specs.Rooms.{Call, rowsOf, marksOf, Reading}
-use Rattle.promises.specs.Heads.{Touched}
-use Rattle.promises.specs.HeadsOfPage.{askedOf, DecodedPagePasses, ByItsLine, HeadsOfPage, WrittenFormKeepsHeads}
+use Rattle.promises.specs.Heads.{In, boxAt, Touched}
+use Rattle.promises.specs.WriteGroup3.{Write3Listed}
+use Rattle.promises.specs.BadLines.{Arrival}
+use Rattle.promises.specs.HeadsOfPage.{askedOf, DecodedPagePasses, ByItsLine, HeadsOfPage, WrittenFormKeepsHeads, LinesOf, BadLinesKeepHeads}
 use Rattle.promises.proofs.Demand1.{decode-answers, changes-front, ends-front, marks-front, all-marked}
 use Rattle.promises.proofs.Demand1Write.{write-page-answers}
 use Rattle.promises.proofs.Demand3.{written-page-reads-back}
 use Rattle.promises.proofs.Marks.{decode-marks, marks-tell, written-page-is-clean}
-use Rattle.promises.proofs.Heads.{heads-are-ticked, quota-left, heads-refused, only-clean-rows, same-pixels-same-heads}
+use Rattle.promises.proofs.WriteGroup3.{write-1d-answers}
+use Rattle.promises.proofs.BadLines.{k-bad-lines}
+use Rattle.promises.proofs.Heads.{zero-passes, heads-are-ticked, quota-left, heads-refused, only-clean-rows, same-pixels-same-heads}
 
 -- ---- How each row came
 
@@ -210,11 +219,10 @@ written-good columns changes ends out w out′ written z = by (goodRows columns 
         let no-line : (columns ≡ 0) ⊎ (columns ≡ 4294967295) → ⊥ = λ n. absurd (omega (arith, z, l .six .1 n)) in
         absurd (omega (arith, z, l .eight .1 (no-line, (λ t. absurd (omega (arith, z, l .seven .1 (no-line, t)))), e)))
 
-written-sound : (columns : ℕ) (changes ends out : List ℕ) (w : Answer) (out′ : List ℕ) → Writer.Answers (writePage mostMakeup columns changes ends out) out w out′ → w .number ≡ 0
-    → sound columns changes ends (replicate (length ends) 0) ≡ true
+good-sound : (columns : ℕ) (changes ends : List ℕ) → goodRows columns changes 0 ends ≡ true → sound columns changes ends (replicate (length ends) 0) ≡ true
 unfolding sound
-written-sound columns changes ends out w out′ written z =
-    ap₂ _&&_ (written-good columns changes ends out w out′ written z)
+good-sound columns changes ends good =
+    ap₂ _&&_ good
     (Mark.all-marked (length ends) (replicate (length ends) 0) (omega (arith, length-replicate {A = ℕ} (length ends) 0))
     (λ n h. omega (arith, getD-replicate {A = ℕ} (length ends) n 0 0 h)))
 
@@ -223,7 +231,7 @@ written-form-keeps-heads columns changes ends out w out′ narrow written z byte
     same-pixels-same-heads (askedOf settings c count form least quota) (record { columns = columns; changes = changes; ends = ends; marks = replicate (length ends) 0; form = form; least = least; quota = quota })
     r s shape answers answers′ refl refl refl
     (is-sound bytes settings c fits read count enough)
-    (written-sound columns changes ends out w out′ written z)
+    (good-sound columns changes ends (written-good columns changes ends out w out′ written z))
     (Mark.all-clean (settings .columns) (length (take (c .answer .rows) (c .ends′))) (take count (c .marks′)) form (λ n h. clean-after n (omega (arith, ends-kept bytes settings c fits read))))
     (Mark.all-clean columns (length ends) (replicate (length ends) 0) form (λ n h. getD-replicate (length ends) n 0 0 h))
     (λ digit column y x hd hc inside. ap₂ (λ n rows. pixel (record { columns = n; rows = rows }) y x) (plain .same-columns) back)
@@ -238,3 +246,111 @@ written-form-keeps-heads columns changes ends out w out′ narrow written z byte
     clean-after n h =
         mark-at bytes settings c fits read count enough n h
         ∙ written-page-is-clean columns changes ends out w out′ narrow written z bytes small same settings plain counted (c .changes) (c .ends) (c .marks) (c .answer) (c .changes′) (c .ends′) (c .marks′) roomy placed marked′ read n h
+
+-- ---- A form with bad lines
+
+written-1d-good : (columns : ℕ) (changes ends out : List ℕ) (fill : ℕ) (w : Answer) (out′ : List ℕ) → Writer.Answers (write1D mostMakeup true fill columns changes ends out) out w out′ → w .number ≡ 0
+    → goodRows columns changes 0 ends ≡ true
+written-1d-good columns changes ends out fill w out′ written z = by (goodRows columns changes 0 ends) refl
+  where
+    l : Write3Listed (fill ≤ 64) columns changes ends out (length (page3Bits mostMakeup columns (layout1D true fill) (rowsIn 0 changes ends))) w out′
+    l = write-1d-answers columns changes ends out true fill w out′ written
+
+    no-line : (columns ≡ 0) ⊎ (columns ≡ 4294967295) → ⊥
+    no-line n = absurd (omega (arith, z, l .six .1 n))
+
+    by : (b : Bool) → goodRows columns changes 0 ends ≡ b → goodRows columns changes 0 ends ≡ true
+    by true e = e
+    by false e = absurd (allowed-or (ltb 64 fill) (ltb-true 64 fill) (ltb-false 64 fill))
+      where
+        short : Page.mostBytes < length out → ⊥
+        short t = absurd (omega (arith, z, l .seven .1 (no-line, t)))
+
+        allowed-or : (b : Bool) → (b ≡ true → 64 < fill) → (b ≡ false → fill ≤ 64) → ⊥
+        allowed-or true f g = let h = f refl in omega (arith, z, l .ten .1 (no-line, short, λ k. omega arith))
+        allowed-or false f g = omega (arith, z, l .eight .1 (no-line, short, g refl, inr e))
+
+-- a row whose line is its own is that row
+spared-own : (lines : List Arrived) (rows : List (List ℕ)) (marks : List ℕ) → Spared lines rows marks
+    → (n : ℕ) (r : List ℕ) → n < length lines → getD lines n (own []) ≡ own r → getD rows n [] ≡ r
+spared-own lines rows marks no-lines n r h e = absurd (omega arith)
+spared-own lines rows marks (unchanged s) zero r h e = same-own e
+  where
+    rowOfLine : Arrived → List ℕ
+    rowOfLine (own xs) = xs
+    rowOfLine (other bits) = []
+
+    same-own : {a b : List ℕ} → own a ≡ own b → a ≡ b
+    same-own q = ap rowOfLine q
+spared-own lines rows marks (unchanged s) (suc n) r h e = spared-own _ _ _ s n r (omega arith) e
+spared-own lines rows marks (any-row s) zero r h e = absurd (not-own e)
+  where
+    isOwn : Arrived → Bool
+    isOwn (own xs) = true
+    isOwn (other bits) = false
+
+    not-own : {bits : List Bool} {r : List ℕ} → other bits ≡ own r → ⊥
+    not-own q = true≢false (sym (ap isOwn q))
+spared-own lines rows marks (any-row s) (suc n) r h e = spared-own _ _ _ s n r (omega arith) e
+
+-- behind a list there is nothing
+past : (rows : List (List ℕ)) (n : ℕ) → length rows ≤ n → getD rows n [] ≡ []
+past [] n h = refl
+past (r ∷ rs) zero h = absurd (omega arith)
+past (r ∷ rs) (suc n) h = past rs n (omega arith)
+
+-- two pages with the same row there
+same-pixel : (columns : ℕ) (rows rows′ : List (List ℕ)) (y x : ℕ) → (x < columns → getD rows y [] ≡ getD rows′ y []) → pixel (record { columns = columns; rows = rows }) y x ≡ pixel (record { columns = columns; rows = rows′ }) y x
+unfolding pixel
+same-pixel columns rows rows′ y x f = by (ltb x columns) (ltb-true x columns)
+  where
+    by : (b : Bool) → (b ≡ true → x < columns) → cond b (pixelsOf (getD rows y []) x) white ≡ cond b (pixelsOf (getD rows′ y []) x) white
+    by true g = ap (λ (r : List ℕ). pixelsOf r x) (f (g refl))
+    by false g = refl
+
+pub bad-lines-keep-heads : BadLinesKeepHeads
+bad-lines-keep-heads columns changes ends out fill w out′ written z lines of bytes settings c a count enough form least quota r s shape answers nought answers′ untouched =
+    same-pixels-same-heads (askedOf settings c count form least quota) (record { columns = columns; changes = changes; ends = ends; marks = replicate (length ends) 0; form = form; least = least; quota = quota })
+    r s shape answers answers′ refl refl refl
+    (is-sound bytes settings c fits (a .reading) count enough)
+    (good-sound columns changes ends (written-1d-good columns changes ends out fill w out′ written z))
+    (zero-passes (askedOf settings c count form least quota) r shape answers nought .clean)
+    (Mark.all-clean columns (length ends) (replicate (length ends) 0) form (λ n h. getD-replicate (length ends) n 0 0 h))
+    (λ digit column y x hd hc inside.
+    ap (λ n. pixel (record { columns = n; rows = rowsOf c }) y x) (a .set .same-columns)
+    ∙ same-pixel columns (rowsOf c) (rowsIn 0 changes ends) y x (λ k. same-row digit column y x hd hc inside k (ltb y (length ends)) (ltb-true y (length ends)) (ltb-false y (length ends))))
+  where
+    fits : settings .columns ≤ 4294967295
+    fits = omega (arith, a .set .same-columns, a .narrow)
+
+    saved : (c .answer .number ≡ 0) × (c .answer .rows ≡ length lines) × Spared lines (rowsOf c) (marksOf c)
+    saved = k-bad-lines columns fill lines bytes settings c a
+
+    as-many : length lines ≡ length ends
+    as-many = of .as-many ∙ length-rowsIn 0 changes ends
+
+    -- a line under a box is its row's own
+    by-line : (y x : ℕ) → y < length ends → Touched (askedOf settings c count form least quota) y x → (l : Arrived) → getD lines y (own []) ≡ l → getD (rowsOf c) y [] ≡ getD (rowsIn 0 changes ends) y []
+    by-line y x h touched (own r′) e =
+        spared-own lines (rowsOf c) (marksOf c) (saved .2) y r′ (omega (arith, as-many)) e
+        ∙ sym (of .owned y r′ (omega (arith, length-rowsIn 0 changes ends)) e)
+    by-line y x h touched (other bits) e = absurd (untouched y x touched bits e)
+
+    same-row : (digit column y x : ℕ) → digit < 10 → column < 2 → In (boxAt form digit column) y x → x < columns
+        → (b : Bool) → (b ≡ true → y < length ends) → (b ≡ false → length ends ≤ y) → getD (rowsOf c) y [] ≡ getD (rowsIn 0 changes ends) y []
+    same-row digit column y x hd hc inside k true f g =
+        by-line y x (f refl)
+        (record {
+          digit = digit;
+          column = column;
+          of-ten = hd;
+          of-two = hc;
+          inside = inside;
+          row = omega (arith, f refl, ends-kept bytes settings c fits (a .reading), saved .1, as-many);
+          place = omega (arith, k, a .set .same-columns);
+        })
+        (getD lines y (own [])) refl
+    same-row digit column y x hd hc inside k false f g =
+        let h = g refl in
+        past (rowsOf c) y (omega (arith, h, rows-length 0 (c .changes′) (take (c .answer .rows) (c .ends′)), ends-kept bytes settings c fits (a .reading), saved .1, as-many))
+        ∙ sym (past (rowsIn 0 changes ends) y (omega (arith, h, length-rowsIn 0 changes ends)))

@@ -2,15 +2,17 @@
 -- are ticked in pixels that the page's lines say, each of them read clean; and a form that we wrote has the heads that it had before.
 use mathlib.Core.Path.{_≡_}
 use mathlib.Core.Logic.{_⊎_}
-use mathlib.Core.Bool.{Bool}
+use mathlib.Core.Bool.{Bool, true}
 use mathlib.Core.List.{List, [], _∷_}
-use Prim.Native.Nat.{ℕ, _+_, _*_, _≤_}
+use Prim.Native.Nat.{ℕ, _+_, _*_, _≤_, _<_}
 use lib.IntN.{ℤ, pos, _-ℤ_}
 use lib.ListN.{length, getD, take, replicate}
 use Rattle.rules.specs.Bits.{bitsOf}
 use Rattle.rules.specs.Rows.{Settings, State}
 use Rattle.rules.specs.Pages.{mostBytes, entries, strictIfExact}
 use Rattle.rules.specs.Write.{mostMakeup, rowsIn, writePage}
+use Rattle.rules.specs.WriteGroup3.{write1D}
+use Rattle.rules.specs.Damage.{Arrived, own, other}
 use Rattle.rules.proofs.Marks.{Came, Told}
 use Rattle.error.specs.declared.Answer.{Answer}
 use Rattle.rows.specs.declared.DecodeSettings.{DecodeSettings}
@@ -20,6 +22,7 @@ use Rattle.heads.specs.declared.Box.{Box}
 use Rattle.heads.specs.declared.HeadsAnswer.{HeadsAnswer}
 use Rattle.promises.specs.Demand3.{Plainly}
 use Rattle.promises.specs.Rooms.{Call, rowsOf, marksOf, Reading}
+use Rattle.promises.specs.BadLines.{Arrival}
 use Rattle.promises.specs.Heads.{Asked, Answers, Shaped, Touched, OneEach}
 
 -- What `heads` is asked of a page that a call of `decode` left: the array of changes, the ends of the rows that were kept, and the first of the marks, one for each
@@ -81,4 +84,24 @@ WrittenFormKeepsHeads =
     → (count : ℕ) → c .answer .rows ≤ count
     → (form : List (List Box)) (least : ℕ) (quota : ℤ) (r s : HeadsAnswer) → Shaped form → Answers (askedOf settings c count form least quota) r
     → Answers (record { columns = columns; changes = changes; ends = ends; marks = replicate (length ends) 0; form = form; least = least; quota = quota }) s
+    → r ≡ s
+
+-- ---- A form with bad lines (A13)
+
+-- the lines of a page that was written: each is its row's own, or others
+pub record LinesOf (rows : List (List ℕ)) (lines : List Arrived) : Type 0 where
+  pub as-many : length lines ≡ length rows
+  pub owned : (n : ℕ) (row : List ℕ) → n < length rows → getD lines n (own []) ≡ own row → getD rows n [] ≡ row
+
+-- A form that `write_group3_1d` wrote with EOLs and three zeros of fill or more, and of which any lines arrived as other bits: where heads are answered and no box holds a pixel of a row whose line was bad,
+-- they are those of the rows that were written, each of them clean. So a bad line changes no heads unless a box touches its row; and there a row that is not marked clean is 13.
+abbrev pub BadLinesKeepHeads : Type 0
+BadLinesKeepHeads =
+    (columns : ℕ) (changes ends out : List ℕ) (fill : ℕ) (w : Answer) (out′ : List ℕ) → Writer.Answers (write1D mostMakeup true fill columns changes ends out) out w out′ → w .number ≡ 0
+    → (lines : List Arrived) → LinesOf (rowsIn 0 changes ends) lines
+    → (bytes : List ℕ) (settings : DecodeSettings) (c : Call) → Arrival columns fill lines bytes settings c
+    → (count : ℕ) → c .answer .rows ≤ count
+    → (form : List (List Box)) (least : ℕ) (quota : ℤ) (r s : HeadsAnswer) → Shaped form → Answers (askedOf settings c count form least quota) r → r .number ≡ 0
+    → Answers (record { columns = columns; changes = changes; ends = ends; marks = replicate (length ends) 0; form = form; least = least; quota = quota }) s
+    → ((y x : ℕ) → Touched (askedOf settings c count form least quota) y x → (bits : List Bool) → getD lines y (own []) ≡ other bits → ⊥)
     → r ≡ s
