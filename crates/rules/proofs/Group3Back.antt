@@ -33,7 +33,7 @@ use Rattle.rules.proofs.EolChains.{Quiet, soon-quiet, none-quiet, chain
 -- ---- What a line begins with
 
 -- a word with a one, whatever follows
-word-zeros : (xs rest : List Bool) → T (hasOne xs) → zeroRun (xs ++ rest) ≡ some (zerosBefore xs)
+pub word-zeros : (xs rest : List Bool) → T (hasOne xs) → zeroRun (xs ++ rest) ≡ some (zerosBefore xs)
 unfolding zeroRun hasOne zerosBefore
 word-zeros [] rest t = absurd t
 word-zeros (true ∷ xs) rest t = refl

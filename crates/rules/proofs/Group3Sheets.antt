@@ -1,9 +1,9 @@
--- Small Group 3 pages, computed over the definitions: their bits, the writers' answers in their order, why a page of no rows is not written, and why A13 asks
--- for three fill zeros. Assumes nothing.
+-- Small Group 3 pages, computed over the definitions: their bits, the writers' answers in their order, why a page of no rows is not written, why A13 asks
+-- for three fill zeros, what a bad line with a tag bit must hold, and a cut that nothing tells. Assumes nothing.
 use mathlib.Core.Path.{_≡_, refl}
 use mathlib.Core.Bool.{true, false}
 use mathlib.Core.List.{[], _∷_, _++_}
-use lib.ListN.{replicate}
+use lib.ListN.{take, replicate}
 use Rattle.rules.specs.Machine.{run, ends}
 use Rattle.rules.specs.Bits.{bit, bitsFor, bitsOf, window}
 use Rattle.rules.specs.Codes.{codeBits, whiteTerminating, whiteMakeup, blackTerminating, blackMakeup, commonMakeup, terminatingOf, makeupOf, codesOf}
@@ -12,12 +12,13 @@ use Rattle.rules.specs.Runs.{runTake, runStep, readRun}
 use Rattle.rules.specs.Modes.{modeBits}
 use Rattle.rules.specs.Lines.{lastColour, recorded, add, push, pushRun, rightOfA0, fromB1, lineStep, lineEnd, readLine}
 use Rattle.rules.specs.Eols.{zeroRun, readEols, skip}
-use Rattle.rules.specs.Rows.{Settings, group3-1D}
-use Rattle.rules.specs.Group3.{row3}
+use Rattle.rules.specs.Rows.{Settings, group3-1D, group3-2D}
+use Rattle.rules.specs.Group3.{betweenTags, row3}
 use Rattle.rules.specs.Pages.{entries, pageStep, rowOf, readPage, ascendsFrom}
 use Rattle.rules.specs.Write.{mostMakeup, runCodes, codesBits, runBits, bits1D, bits2D, lineBits, eolBits, toByte, writtenAt, rowsIn, endsRise, allAscend, writes}
 use Rattle.rules.specs.WriteGroup3.{bare, filled, mixed, codedLines, times, framed, page3Bits, writeGroup3, write1D, write2D}
 use Rattle.rules.specs.Damage.{own, other, arrivedLines, arrivedPage}
+use Rattle.rules.specs.Damage2D.{whole, bad, comingPage}
 
 -- Four columns, the middle two black: white 1 (000111), black 2 (11), white 1. Two zeros of fill before the EOL, and before the first of the six alone;
 -- the same row twice without EOLs; three times with K = 2, which is 1D, 2D (three times V0), 1D, with EOL and a tag before each and six times EOL and a
@@ -68,3 +69,27 @@ bad-lines-sheet :
     × (readPage lenient (arrivedPage mostMakeup 1 3 (other (bitsFor 7 0b0001111) ∷ own [] ∷ [])) 9 9 .marks ≡ 0 ∷ 0 ∷ [])
 unfolding lenient run ends bit bitsFor window codeBits whiteTerminating whiteMakeup blackTerminating blackMakeup commonMakeup terminatingOf makeupOf codesOf begins shared codeIn longestShared lookup runTake runStep readRun lastColour recorded add push pushRun lineStep lineEnd readLine zeroRun readEols skip row3 entries pageStep rowOf readPage runCodes codesBits runBits bits1D lineBits eolBits times framed arrivedLines arrivedPage
 bad-lines-sheet = (refl, refl, refl, refl)
+
+-- The same with tag bits, and what the other bits must be then: two fill zeros are too few, three are enough; a tag bit 1 with no one behind it stands between two EOLs as in an RTC, and its row is
+-- lost; and so is the row of a tag bit 0 with ten zeros and a one behind it, which are an EOL.
+lenient-2d : Settings
+lenient-2d = record { columns = 1; rows = 2; endOfBlock = true; endOfLine = true; aligned = false; encoding = group3-2D; strict = false; exact = false }
+
+bad-lines-2d-sheet :
+    (readPage lenient-2d (comingPage mostMakeup 1 2 [] (bad [] true (true ∷ []) ∷ whole true [] ∷ [])) 9 9 .rows ≡ [] ∷ [])
+    × (readPage lenient-2d (comingPage mostMakeup 1 3 [] (bad [] true (true ∷ []) ∷ whole true [] ∷ [])) 9 9 .marks ≡ 1 ∷ 0 ∷ [])
+    × (readPage lenient-2d (comingPage mostMakeup 1 3 [] (whole true [] ∷ bad [] true [] ∷ [])) 9 9 .rows ≡ [] ∷ [])
+    × (readPage lenient-2d (comingPage mostMakeup 1 3 [] (bad [] false (bitsFor 11 1) ∷ whole true [] ∷ [])) 9 9 .rows ≡ [] ∷ [])
+unfolding lenient-2d run ends bit bitsFor window codeBits whiteTerminating whiteMakeup blackTerminating blackMakeup commonMakeup terminatingOf makeupOf codesOf begins shared codeIn longestShared lookup runTake runStep readRun lastColour recorded add push pushRun lineStep lineEnd readLine zeroRun readEols skip betweenTags row3 entries pageStep rowOf readPage runCodes codesBits runBits bits1D lineBits eolBits times comingPage
+bad-lines-2d-sheet = (refl, refl, refl, refl)
+
+-- A cut between two lines tells nothing but by the number of rows: of two white rows on two columns the first two bytes are the first line, and are answered with 0 and one clean row, by a strict reading
+-- too, and with the true number of rows.
+two-rows : Settings
+two-rows = record { columns = 2; rows = 2; endOfBlock = true; endOfLine = true; aligned = false; encoding = group3-1D; strict = true; exact = false }
+
+cut-sheet :
+    (take 16 (page3Bits mostMakeup 2 (filled 0) ([] ∷ [] ∷ [])) ≡ bitsOf (0x00 ∷ 0x17 ∷ []))
+    × (readPage two-rows (bitsOf (0x00 ∷ 0x17 ∷ [])) 9 9 ≡ record { number = 0; place = 0; bytes = 2; rows = [] ∷ []; marks = 0 ∷ []; loose = [] })
+unfolding two-rows run ends bit bitsOf bitsFor window codeBits whiteTerminating whiteMakeup blackTerminating blackMakeup commonMakeup terminatingOf makeupOf codesOf begins shared codeIn longestShared lookup runTake runStep readRun lastColour recorded add push pushRun lineStep lineEnd readLine zeroRun readEols row3 entries pageStep rowOf readPage runCodes codesBits runBits bits1D lineBits eolBits times codedLines framed page3Bits
+cut-sheet = (refl, refl)

@@ -49,5 +49,13 @@ pub mod Group3Trip
 pub mod Group3Sheets
 pub mod Roomy
 pub mod NextEol
+pub mod NoEolInside
+pub mod NoLine
+pub mod Mending
+pub mod MendedPage
 pub mod BadLines
 pub mod OneBadLine
+pub mod BadLines2D
+pub mod LostRow
+pub mod CutRow3
+pub mod CutPage3

@@ -54,7 +54,7 @@ own-lines most width left reference [] z = refl
 own-lines most width zero reference (r ∷ rs) z = ap (λ (l : List CodedLine). record { kind = one; bits = lineBits most width one r } ∷ l) (own-lines most width 0 r rs refl)
 own-lines most width (suc left) reference (r ∷ rs) z = absurd (omega arith)
 
-own-page : (most width fill : ℕ) (rows : List (List ℕ)) → page3Bits most width (filled fill) rows ≡ arrivedPage most width fill (owns rows)
+pub own-page : (most width fill : ℕ) (rows : List (List ℕ)) → page3Bits most width (filled fill) rows ≡ arrivedPage most width fill (owns rows)
 unfolding page3Bits arrivedPage
 own-page most width fill rows = ap (framed (filled fill)) (own-lines most width 0 [] rows refl)
 

@@ -18,4 +18,6 @@ pub mod ByRow
 pub mod Write
 pub mod WriteGroup3
 pub mod Damage
+pub mod Damage2D
+pub mod Cut
 pub mod Sheets

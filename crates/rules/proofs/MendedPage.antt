@@ -1,0 +1,292 @@
+-- A page whose lines may be bad, 1D or tagged (02 A13): a row for each line; and where a line arrived whole, its own row, if it is 1D or the row before it is the one that was sent.
+-- Assumes nothing.
+use mathlib.Core.Path.{_≡_, refl, sym, ap, _∙_, subst}
+use mathlib.Core.Bool.{Bool, true, false, true≢false}
+use mathlib.Core.List.{List, [], _∷_, _++_, append-assoc}
+use mathlib.Core.Option.{none}
+use Prim.Native.Nat.{ℕ, suc, _+_, _-_, _*_, _≤_, _<_}
+use native.Mathlib.Omega.{arith}
+use native.Mathlib.Nat.{suc-mul}
+use lib.Dec.{eqb}
+use lib.ListN.{length, drop, replicate, length-append}
+use borrow.Author.Tests.{ne-eqb, eqb-true, eqb-false}
+use Rattle.rules.specs.Lines.{Rules, Line, went, Kind, one, two, readLine}
+use Rattle.rules.specs.Eols.{zeroRun, eolsTo}
+use Rattle.rules.specs.Group3.{Tagging, untagged, tagged, withTags, eols3, end-at, before, rowFrom, row3}
+use Rattle.rules.specs.Rows.{Settings, State, pageStart, readMark, RowOut, rulesOf, finished}
+use Rattle.rules.specs.Pages.{Answer, readPage}
+use Rattle.rules.specs.Write.{lineBits, eolBits}
+use Rattle.rules.specs.WriteGroup3.{times}
+use Rattle.rules.specs.Damage2D.{Coming, whole, bad, sentRow, tagCome, codeCome, SparedTo1D, no-lines, whole-1D, whole-2D, under-lost, bad-line}
+use Rattle.rules.proofs.Bits.{drop-after}
+use Rattle.rules.proofs.Ascending.{Rising, none as no-changes, rises-length}
+use Rattle.rules.proofs.ReadBack.{Proper, read-line}
+use Rattle.rules.proofs.MoreRoom.{page-stays}
+use Rattle.rules.proofs.Eols.{eol-inside}
+use Rattle.rules.proofs.PageBack.{Soon, Given, page-ends, row-given, given-page}
+use Rattle.rules.proofs.EolChains.{Chain, no-more, eol-then, soon-quiet, chain-all, eol-long, after-bit, fill-eol, fill-after, eols-chain, tags-chain}
+use Rattle.rules.proofs.Group3Back.{rows-are}
+use Rattle.rules.proofs.NextEol.{here, Facing}
+use Rattle.rules.proofs.Mending.{Mends, tagBits, codesFrom, kindRead, Told, Fit, May, MayAll, none-left, and-then, sent-rises, to-line, to-end, may-fit, Rowed, read-piece}
+
+-- what a row, with its mark, must be, read under a reference, where the line was coded under the row sent before it
+abbrev Fits : (reference above : List ℕ) → Coming → List ℕ → ℕ → Type 0
+Fits reference above (whole true r) x mark = (x ≡ r) × (mark ≡ 0)
+Fits reference above (whole false r) x mark = reference ≡ above → (x ≡ r) × (mark ≡ 0)
+Fits reference above (bad r tag bits) x mark = Unit {0}
+
+-- what stands behind the first EOL of the page's end
+abbrev pub endBits : Tagging → List Bool
+endBits untagged = times 5 eolBits
+endBits tagged = true ∷ times 5 (eolBits ++ true ∷ [])
+
+-- the row before the next line is the one that was sent, unless it is lost
+abbrev pub lostAfter : Bool → Coming → Bool
+lostAfter lost (whole true r) = false
+lostAfter lost (whole false r) = lost
+lostAfter lost (bad r tag bits) = true
+
+-- one line more before a page
+pub front-on : (fill : ℕ) (bits page rest later : List Bool) → page ++ rest ≡ later
+    → (replicate fill false ++ (eolBits ++ (bits ++ page))) ++ rest ≡ replicate fill false ++ (eolBits ++ (bits ++ later))
+front-on fill bits page rest later q =
+    let r : (replicate fill false ++ (eolBits ++ (bits ++ page))) ++ rest ≡ replicate fill false ++ (eolBits ++ (bits ++ (page ++ rest))) = simp append-assoc in
+    r ∙ ap (λ (l : List Bool). replicate fill false ++ (eolBits ++ (bits ++ l))) q
+
+-- what stands behind the next EOL, under the row that was sent last
+module _ (most width : ℕ) (t : Tagging) (fill : ℕ) where
+  unfoldable pub Behind : List ℕ → List Coming → List Bool → List Bool
+  Behind above [] rest = endBits t ++ rest
+  Behind above (l ∷ ls) rest = (tagBits t (tagCome l) ++ codeCome most width above l) ++ (replicate fill false ++ (eolBits ++ Behind (sentRow l) ls rest))
+
+  -- a page has no more lines than bits
+  lines-few : (above : List ℕ) (ls : List Coming) (rest : List Bool) → length ls ≤ length (Behind above ls rest)
+  unfolding Behind
+  lines-few above [] rest = omega arith
+  lines-few above (l ∷ ls) rest =
+      let P = tagBits t (tagCome l) ++ codeCome most width above l in
+      let later = Behind (sentRow l) ls rest in
+      omega (arith, length-append P (replicate fill false ++ (eolBits ++ later)), length-append (replicate fill false) (eolBits ++ later), length-append eolBits later, eol-long, lines-few (sentRow l) ls rest)
+
+module _ (most : ℕ) (some-most : 1 ≤ most) (most-fits : most ≤ 40) (t : Tagging) (S : Settings) (n : ℕ) (mending : Mends t S n) (fill : ℕ) (three : 3 ≤ fill) where
+  abbrev W : ℕ
+  W = S .columns
+
+  module _ (bs : List Bool) where
+    -- what holds between rows, of which these are to come
+    record Stands (lost : Bool) (st : State) (e : ℕ) (above : List ℕ) (ls : List Coming) (rest : List Bool) : Type 0 where
+      facing : Facing bs (st .at) e
+      first : st .count ≡ 0 → facing .start ≡ st .at
+      expected : 0 < st .count → st .eols ≡ true
+      counted : st .count + length ls ≡ n
+      there : drop e bs ≡ Behind most W t fill above ls rest
+      closed : S .rows ≡ 0 → zeroRun rest ≡ none
+      rises : Rising W 0 above
+      known : lost ≡ false → st .reference ≡ above
+
+    -- the six EOLs of the end
+    six-read : (st : State) (e : ℕ) (rest : List Bool) (f : Facing bs (st .at) e) → drop e bs ≡ endBits t ++ rest → zeroRun rest ≡ none
+        → (e′ : ℕ) × (eols3 bs t (f .start) ≡ eolsTo 6 e′)
+    unfolding zeroRun
+    six-read st e rest f there closed = by t there
+      where
+        by : (t : Tagging) → drop e bs ≡ endBits t ++ rest → (e′ : ℕ) × (eols3 bs t (f .start) ≡ eolsTo 6 e′)
+        by untagged there =
+            (_, chain-all (eol-then (f .eol) (subst (λ (a : ℕ). Chain bs 5 a (e + length (times 5 eolBits))) (sym (f .to)) (eols-chain bs 5 e rest there closed))))
+        by tagged there =
+            let one-eol : Chain bs 1 (f .start) e = subst (Chain bs 1 (f .start)) (f .to) (eol-then (f .eol) (no-more (soon-quiet bs _ (subst (λ (a : ℕ). Soon 10 (drop a bs)) (sym (f .to)) (0, ap zeroRun there, omega arith))))) in
+            (_, ap (withTags bs tagged) (chain-all one-eol) ∙ tags-chain bs (length bs) 5 1 e rest there closed (omega (arith, eol-inside bs (f .start) (f .eol))) (omega arith))
+
+    -- the end of the page
+    row-ends : (room : ℕ) (lost : Bool) (st : State) (e : ℕ) (above : List ℕ) (rest : List Bool) → 0 < n → Stands lost st e above [] rest → (a : ℕ) × (row3 S t bs room st ≡ finished a)
+    unfolding Behind row3
+    row-ends room lost st e above rest some-rows h =
+        (r .0, ap (λ (b : Bool). rowFrom S t bs room st (before S t bs st b)) (ne-eqb (st .count) 0 (λ z. omega arith)) ∙ ap (rowFrom S t bs room st) (r .1))
+      where
+        some-read : 0 < st .count
+        some-read = omega (arith, h .counted)
+
+        blocks : (b : Bool) → eqb (S .rows) 0 ≡ b → (e′ : ℕ) × (S .rows ≡ 0 → eols3 bs t (h .facing .start) ≡ eolsTo 6 e′)
+        blocks true q = let s = six-read st e rest (h .facing) (h .there) (h .closed (eqb-true (S .rows) 0 q)) in (s .0, λ _. s .1)
+        blocks false q = (0, λ z. absurd (eqb-false (S .rows) 0 q z))
+
+        r : (a : ℕ) × (before S t bs st false ≡ end-at a)
+        r =
+            let s = blocks (eqb (S .rows) 0) refl in
+            to-end t S n mending bs st (s .0) (h .facing) (h .expected some-read) some-read (omega (arith, h .counted)) (s .1)
+
+    module _ (room : ℕ) (roomy : W ≤ room) (lost : Bool) (st : State) (e : ℕ) (above : List ℕ) (l : Coming) (ls : List Coming) (rest : List Bool)
+        (may : May t W l) (h : Stands lost st e above (l ∷ ls) rest) where
+      abbrev later : List Bool
+      later = Behind most W t fill (sentRow l) ls rest
+
+      abbrev R : Rules
+      R = rulesOf S room
+
+      -- the bit behind the next EOL
+      abbrev e′ : ℕ
+      e′ = e + length (tagBits t (tagCome l) ++ codeCome most W above l) + (fill + 12)
+
+      fit : Fit t (tagCome l) (codeCome most W above l)
+      fit = may-fit most some-most most-fits t S n mending bs fill three above (h .rises) l may
+
+      stands-there : drop e bs ≡ (tagBits t (tagCome l) ++ codeCome most W above l) ++ (replicate fill false ++ (eolBits ++ later))
+      unfolding Behind
+      stands-there = h .there
+
+      -- a row
+      row-goes : Rowed most some-most most-fits t S n mending bs fill three R st (kindRead t (tagCome l) (st .reference)) (codesFrom t e) e′ (row3 S t bs room st)
+      unfolding row3
+      row-goes =
+          subst (Rowed most some-most most-fits t S n mending bs fill three R st (kindRead t (tagCome l) (st .reference)) (codesFrom t e) e′)
+          (sym (ap (rowFrom S t bs room st) (to-line t S n mending bs st (h .facing) (h .first) (h .expected) (omega (arith, h .counted)) (tagCome l) (codeCome most W above l) _ fit stands-there)))
+          (read-piece most some-most most-fits t S n mending bs fill three room roomy st e later (tagCome l) (codeCome most W above l) fit stands-there)
+
+      -- its own, where the line is whole and its reference the one that was sent
+      row-fits : Fits (st .reference) above l (row-goes .given) (row-goes .mark)
+      row-fits = by l may _ stands-there (row-goes .same)
+        where
+          x : List ℕ
+          x = row-goes .given
+
+          m : ℕ
+          m = row-goes .mark
+
+          -- a whole line of a kind is read
+          reads : (kind : Kind) → Proper W kind → (r : List ℕ) → Rising W 0 r → (rest : List Bool) (at : ℕ) → drop at bs ≡ lineBits most W kind r ++ rest
+              → ((u : Line) → readLine R kind bs at ≡ went u → (x ≡ u .changes) × (m ≡ readMark u)) → (x ≡ r) × (m ≡ 0)
+          reads kind proper r up rest at there same =
+              same _ (read-line most some-most most-fits R (mending .wide) (mending .narrow) kind proper r up (omega (arith, rises-length {width = W} (omega arith) up)) bs rest at there .1)
+
+          by : (l : Coming) → May t W l → (rest : List Bool) → drop e bs ≡ (tagBits t (tagCome l) ++ codeCome most W above l) ++ rest
+              → ((u : Line) → readLine R (kindRead t (tagCome l) (st .reference)) bs (codesFrom t e) ≡ went u → (x ≡ u .changes) × (m ≡ readMark u)) → Fits (st .reference) above l x m
+          by (whole true r) (told, up) rest there same = tagging t there same
+            where
+              tagging : (t : Tagging) → drop e bs ≡ (tagBits t true ++ lineBits most W one r) ++ rest
+                  → ((u : Line) → readLine R (kindRead t true (st .reference)) bs (codesFrom t e) ≡ went u → (x ≡ u .changes) × (m ≡ readMark u)) → (x ≡ r) × (m ≡ 0)
+              tagging untagged there same = reads one tt r up rest e there same
+              tagging tagged there same = reads one tt r up rest (suc e) (after-bit bs e true _ there) same
+          by (whole false r) (told, up) rest there same = tagging t told there same
+            where
+              tagging : (t : Tagging) → Told t false → drop e bs ≡ (tagBits t false ++ lineBits most W (two above) r) ++ rest
+                  → ((u : Line) → readLine R (kindRead t false (st .reference)) bs (codesFrom t e) ≡ went u → (x ≡ u .changes) × (m ≡ readMark u)) → st .reference ≡ above → (x ≡ r) × (m ≡ 0)
+              tagging untagged told there same q = absurd (true≢false (sym told))
+              tagging tagged told there same q =
+                  reads (two (st .reference)) (subst (Rising W 0) (sym q) (h .rises)) r up rest (suc e)
+                  (after-bit bs e false _ there ∙ ap (λ (a : List ℕ). lineBits most W (two a) r ++ rest) (sym q)) same
+          by (bad r tag bits) may rest there same = tt
+
+    -- a row for each line, its own where the line is, and the end
+    record Mended (room : ℕ) (lost : Bool) (st : State) (ls : List Coming) : Type 0 where
+      rows : List (List ℕ)
+      marks : List ℕ
+      at : ℕ
+      given : Given (row3 S t bs) room st rows marks at
+      spared : SparedTo1D lost ls rows marks
+
+    -- whether the row is the one that was sent
+    spared-on : (lost : Bool) {reference above x : List ℕ} {m : ℕ} (l : Coming) {ls : List Coming} {xs : List (List ℕ)} {ms : List ℕ} → Fits reference above l x m → (lost ≡ false → reference ≡ above)
+        → SparedTo1D (lostAfter lost l) ls xs ms → SparedTo1D lost (l ∷ ls) (x ∷ xs) (m ∷ ms)
+    spared-on lost (whole true r) f k s = rw (f .0, f .1) (whole-1D s)
+    spared-on false (whole false r) f k s = rw (f (k refl) .0, f (k refl) .1) (whole-2D s)
+    spared-on true (whole false r) f k s = under-lost s
+    spared-on lost (bad r tag bits) f k s = bad-line s
+
+    known-on : (lost : Bool) {reference above x : List ℕ} (m : ℕ) (l : Coming) → Fits reference above l x m → (lost ≡ false → reference ≡ above) → lostAfter lost l ≡ false → x ≡ sentRow l
+    known-on lost m (whole true r) f k q = f .0
+    known-on lost m (whole false r) f k q = f (k q) .0
+    known-on lost m (bad r tag bits) f k q = absurd (true≢false q)
+
+    arrived-rows : (ls : List Coming) (room : ℕ) (lost : Bool) (st : State) (e : ℕ) (above : List ℕ) (rest : List Bool) → 0 < n → MayAll t W ls → length ls * W ≤ room
+        → Stands lost st e above ls rest → Mended room lost st ls
+    unfolding Behind
+    arrived-rows [] room lost st e above rest some-rows none-left roomy h =
+        let r = row-ends room lost st e above rest some-rows h in
+        record { rows = []; marks = []; at = r .0; given = page-ends (r .1); spared = no-lines }
+    arrived-rows (l ∷ ls) room lost st e above rest some-rows (and-then may mays) roomy h =
+        let m = arrived-rows ls (room - length (r .given)) (lostAfter lost l) (r .after) e″ (sentRow l) rest some-rows mays (omega (arith, enough, r .short)) stands in
+        record {
+          rows = r .given ∷ m .rows;
+          marks = r .mark ∷ m .marks;
+          at = m .at;
+          given = row-given (r .is) (m .given);
+          spared = spared-on lost l fits (h .known) (m .spared);
+        }
+      where
+        e″ : ℕ
+        e″ = e + length (tagBits t (tagCome l) ++ codeCome most W above l) + (fill + 12)
+
+        enough : W + length ls * W ≤ room
+        enough = omega (arith, suc-mul (length ls) W)
+
+        r : Rowed most some-most most-fits t S n mending bs fill three (rulesOf S room) st (kindRead t (tagCome l) (st .reference)) (codesFrom t e) e″ (row3 S t bs room st)
+        r = row-goes room (omega (arith, enough)) lost st e above l ls rest may h
+
+        fits : Fits (st .reference) above l (r .given) (r .mark)
+        fits = row-fits room (omega (arith, enough)) lost st e above l ls rest may h
+
+        stands : Stands (lostAfter lost l) (r .after) e″ (sentRow l) ls rest
+        stands = record {
+          facing = r .facing;
+          first = λ z. absurd (omega (arith, r .counted));
+          expected = λ _. r .expected;
+          counted = omega (arith, h .counted, r .counted);
+          there = fill-after bs fill (e + length (tagBits t (tagCome l) ++ codeCome most W above l)) (Behind most W t fill (sentRow l) ls rest)
+              (drop-after bs (tagBits t (tagCome l) ++ codeCome most W above l) (replicate fill false ++ (eolBits ++ Behind most W t fill (sentRow l) ls rest)) e (h .there));
+          closed = h .closed;
+          rises = sent-rises t W l may;
+          known = λ q. r .reference ∙ known-on lost (r .mark) l fits (h .known) q;
+        }
+
+-- ---- The page
+
+-- a row for each line
+pub spared-count : {lost : Bool} {ls : List Coming} {rows : List (List ℕ)} {marks : List ℕ} → SparedTo1D lost ls rows marks → length rows ≡ length ls
+spared-count no-lines = refl
+spared-count (whole-1D s) = ap suc (spared-count s)
+spared-count (whole-2D s) = ap suc (spared-count s)
+spared-count (under-lost s) = ap suc (spared-count s)
+spared-count (bad-line s) = ap suc (spared-count s)
+
+module _ (most : ℕ) (some-most : 1 ≤ most) (most-fits : most ≤ 40) (t : Tagging) (S : Settings) (fill : ℕ) (three : 3 ≤ fill)
+    (ls : List Coming) (some-lines : 0 < length ls) (mays : MayAll t (S .columns) ls) (mending : Mends t S (length ls))
+    (rest : List Bool) (closed : S .rows ≡ 0 → zeroRun rest ≡ none)
+    (bs : List Bool) (page : bs ≡ replicate fill false ++ (eolBits ++ Behind most (S .columns) t fill [] ls rest)) where
+  abbrev pub Done : Answer → Type 0
+  Done a = (a .number ≡ 0) × SparedTo1D false ls (a .rows) (a .marks)
+
+  -- Any lines of a page may be bad: with room for its lines it gives a row for each.
+  pub mended-page : (store places : ℕ) → length ls * S .columns ≤ store → length ls ≤ places → Done (readPage S bs store places)
+  mended-page store places roomy placed =
+      subst Done
+      (sym (given-page S bs store places (subst (λ (f : ℕ → State → RowOut). Given f store pageStart (m .rows) (m .marks) (m .at)) (sym (rows-are S t (mending .encoded) bs)) (m .given))
+      (omega (arith, as-many)) (omega (arith, as-many, few))))
+      (refl, m .spared)
+    where
+      tail′ : List Bool
+      tail′ = Behind most (S .columns) t fill [] ls rest
+
+      m : Mended most some-most most-fits t S (length ls) mending fill three bs store false pageStart ls
+      m = arrived-rows most some-most most-fits t S (length ls) mending fill three bs ls store false pageStart (0 + (fill + 12)) [] rest some-lines mays roomy (record {
+        facing = record { start = 0; past = here; eol = fill-eol bs fill 0 tail′ page; to = omega arith };
+        first = λ _. refl;
+        expected = λ h. absurd (omega arith);
+        counted = omega arith;
+        there = fill-after bs fill 0 tail′ page;
+        closed = closed;
+        rises = no-changes;
+        known = λ _. refl;
+      })
+
+      as-many : length (m .rows) ≡ length ls
+      as-many = spared-count (m .spared)
+
+      few : length ls ≤ length bs
+      few = omega (arith, ap length page, length-append (replicate fill false) (eolBits ++ tail′), length-append eolBits tail′, lines-few most (S .columns) t fill [] ls rest)
+
+  -- and so with any room that was enough, where the answer is neither 4 nor 5
+  pub mended-page-room : (store places : ℕ) → readPage S bs store places .number ≤ 3 → Done (readPage S bs store places)
+  mended-page-room store places h =
+      subst Done
+      (page-stays S store (store + length ls * S .columns) places (places + length ls) (omega arith) (omega arith) bs h)
+      (mended-page (store + length ls * S .columns) (places + length ls) (omega arith) (omega arith))
