@@ -1,17 +1,14 @@
 -- A13 is met: what the rules say of pages with bad lines, over the contracts of the writer and of `decode`. Assumes nothing.
 use mathlib.Core.Path.{_≡_, refl, sym, ap, _∙_, subst}
-use mathlib.Core.Logic.{_⊎_, inl, inr}
-use mathlib.Core.Bool.{Bool, true, false}
+use mathlib.Core.Logic.{inl}
+use mathlib.Core.Bool.{Bool, true}
 use mathlib.Core.List.{List, [], _∷_, _++_, append-assoc}
-use mathlib.Core.Option.{none}
 use Prim.Native.Nat.{ℕ, zero, suc, _≤_, _<_}
 use native.Mathlib.Omega.{arith}
 use lib.Dec.{leb}
-use lib.ListN.{length, getD, take, length-append}
+use lib.ListN.{length, getD, take}
 use Rattle.rules.specs.Bits.{bitsOf}
 use Rattle.rules.specs.Lines.{one}
-use Rattle.rules.specs.Eols.{zeroRun}
-use Rattle.rules.specs.Rows.{bytesTo}
 use Rattle.rules.specs.Pages as Page
 use Rattle.rules.specs.Pages.{mostBytes}
 use Rattle.rules.specs.Write.{mostMakeup, lineBits, toByte, rowsIn}
@@ -25,9 +22,8 @@ use Rattle.rules.proofs.OneBadLine.{RoomFor, AllButOne, bad-lines-decode, writt
 use Rattle.error.specs.declared.Answer.{Answer}
 use Rattle.rows.specs.declared.DecodeSettings.{DecodeSettings}
 use Rattle.rows.specs.Settings.{encodingOf, settingsOf}
-use Rattle.writer.specs.Outcome.{Answers}
 use Rattle.promises.specs.Rooms.{Call, places, rowsOf, marksOf, Reading}
-use Rattle.promises.specs.BadLines.{ForBadLines, Roomy, Arrival, KBadLinesCostKRows, MarkedAreBad, frontOf, backOf, OneBadLineCostsOneRow}
+use Rattle.promises.specs.BadLines.{ForBadLines, Roomy, KBadLinesCostKRows, MarkedAreBad, frontOf, backOf, OneBadLineCostsOneRow}
 use Rattle.promises.proofs.Rooms.{answerIn, rows-are, marks-are, as-many}
 
 -- the settings of the rules
@@ -45,16 +41,16 @@ module _ (bytes : List ℕ) (settings : DecodeSettings) (c : Call) (reading : Re
   abbrev answer : Page.Answer
   answer = answerIn bytes settings c
 
-  number-is : c .answer .number ≡ answer .number
+  pub number-is : c .answer .number ≡ answer .number
   number-is = ap (λ (x : Answer). x .number) (reading .answer)
 
   -- what is said of the rules' rows and marks is said of those that lie in the store
-  handed-over : (C : List (List ℕ) → List ℕ → Type 0) → C (answer .rows) (answer .marks) → C (rowsOf c) (marksOf c)
+  pub handed-over : (C : List (List ℕ) → List ℕ → Type 0) → C (answer .rows) (answer .marks) → C (rowsOf c) (marksOf c)
   handed-over C h =
       subst (C (rowsOf c)) (sym (marks-are answer c reading (as-many bytes settings c)))
       (subst (λ (rows : List (List ℕ)). C rows (answer .marks)) (sym (rows-are answer c reading)) h)
 
-  room-is : (rows columns : ℕ) → settings .columns ≡ columns → Roomy rows columns c → RoomFor rows (settings .columns) (length (c .changes)) (places c) (answer .number)
+  pub room-is : (rows columns : ℕ) → settings .columns ≡ columns → Roomy rows columns c → RoomFor rows (settings .columns) (length (c .changes)) (places c) (answer .number)
   room-is rows columns e room =
       subst (λ (n : ℕ). RoomFor rows n (length (c .changes)) (places c) (answer .number)) (sym e)
       (subst (RoomFor rows columns (length (c .changes)) (places c)) number-is room)

@@ -18,6 +18,8 @@ pub mod EnginesAgree
 pub mod ByRow
 pub mod WriteGroup3
 pub mod BadLines
+pub mod BadLines2D
+pub mod CutGroup3
 pub mod Heads
 pub mod HeadRuns
 pub mod HeadsOfPage

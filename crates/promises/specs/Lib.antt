@@ -16,5 +16,7 @@ pub mod Exact
 pub mod EnginesAgree
 pub mod ByRow
 pub mod BadLines
+pub mod BadLines2D
+pub mod CutGroup3
 pub mod Heads
 pub mod HeadsOfPage
