@@ -137,7 +137,7 @@ fn sources(more: u64, writes: bool) -> Vec<Box<dyn Source>> {
         Box::new(random(Kind::Words, 150_000)),
         Box::new(random(Kind::Encoded, 100_000)),
         Box::new(random(Kind::Damaged, 200_000)),
-        Box::new(BadLines { count: 50_000 * more }),
+        Box::new(BadLines { count: 100_000 * more }),
         Box::new(Lines { count: 150_000 * more }),
     ];
     // under the emulator a call takes microseconds, so the third row number is left to --more there
