@@ -6,7 +6,7 @@ use Prim.Native.Nat.{ℕ, _≤_, _<_}
 use native.Mathlib.Omega.{arith}
 use lib.Dec.{eqb, ltb}
 use lib.ListN.{length}
-use borrow.Author.Tests.{eqb-true, eqb-false, ltb-true, ltb-false}
+use borrow.Author.Tests.{eqb-true, eqb-false, ne-eqb, ltb-true, ltb-false, le-ltb}
 use Rattle.rules.specs.Bits.{bitsOf}
 use Rattle.rules.specs.Rows.{Settings}
 use Rattle.rules.specs.Pages.{Answer, refusal, readPage, strictIfExact, shortOf, unlessShort, mostBytes, tooWide, decode}
@@ -40,6 +40,9 @@ module _ (S : Settings) (a : Answer) where
   pub short-marks : unlessShort S a .marks ≡ a .marks
   short-marks = short-cases (λ x. x .marks ≡ a .marks) (λ l. refl) (λ n. refl)
 
+  pub short-loose : unlessShort S a .loose ≡ a .loose
+  short-loose = short-cases (λ x. x .loose ≡ a .loose) (λ l. refl) (λ n. refl)
+
 -- ---- The tests before any reading
 
 -- what is refused, and with which number; "Columns 0 .. gives 0, no rows, 0 bytes"
@@ -66,3 +69,10 @@ decode-cases S bytes C refuses reads = tests (tooWide (S .columns)) refl (ltb mo
         rw (e, f, g, decode)
         (let z : S .columns ≡ 0 → ⊥ = eqb-false (S .columns) 0 g in
         reads (record { wide = omega arith; narrow = eqb-false (S .columns) 4294967295 e; small = ltb-false mostBytes (length bytes) f }))
+
+-- the page in bytes that are not too many is the page in their bits; it may be short of rows (A12)
+pub decode-reads : (S : Settings) → 0 < S .columns → S .columns < 4294967295 → (bytes : List ℕ) → length bytes ≤ mostBytes → (store places : ℕ)
+    → decode S bytes store places ≡ unlessShort S (readPage (strictIfExact S) (bitsOf bytes) store places)
+unfolding decode
+decode-reads S wide narrow bytes small store places =
+    rw (ne-eqb (S .columns) 4294967295 (λ q. omega arith), le-ltb mostBytes (length bytes) small, ne-eqb (S .columns) 0 (λ q. omega arith), decode)

@@ -17,9 +17,10 @@ use Rattle.rules.specs.Pages.{entries, strictIfExact, unlessShort, mostB
 use Rattle.rules.specs.Write.{toByte, writtenAt, Written, rowsIn, endsRise, allAscend}
 use Rattle.rules.specs.WriteGroup3.{Layout, mixed, page3Bits, writeGroup3, layout1D, write1D, write2D}
 use Rattle.rules.proofs.Bits.{both-true, length-bitsOf}
+use Rattle.rules.proofs.Answers.{decode-reads}
 use Rattle.rules.proofs.PageBack.{Rows, ascend-rows, whole, allClean}
 use Rattle.rules.proofs.Writes.{bits3, write3-cases}
-use Rattle.rules.proofs.RoundTrip.{bits-split, bits-append, decode-reads, all-there, allowed}
+use Rattle.rules.proofs.RoundTrip.{bits-split, bits-append, all-there, allowed}
 use Rattle.rules.proofs.Store.{length-rowsIn}
 use Rattle.rules.proofs.Group3Back.{hasEols, Says, Told, true-rows, read-page3}
 

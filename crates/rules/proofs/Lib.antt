@@ -59,3 +59,13 @@ pub mod BadLines2D
 pub mod LostRow
 pub mod CutRow3
 pub mod CutPage3
+pub mod Paced
+pub mod Units
+pub mod Calls
+pub mod Frame
+pub mod Fair
+pub mod Turns
+pub mod Handed
+pub mod UnitSheets
+pub mod ByUnit
+pub mod ByUnitSheets

@@ -60,6 +60,25 @@ ends-snoc base (x ∷ rows) r =
     ap (λ (l : List ℕ). (base + length x) ∷ l)
     (ends-snoc (base + length x) rows r ∙ ap (λ (n : ℕ). endsFrom (base + length x) rows ++ n ∷ []) (let q : base + length x + entries rows + length r ≡ base + (length x + entries rows) + length r = omega arith in q))
 
+-- ---- Rows behind rows
+
+pub entries-append : (rs qs : List (List ℕ)) → entries (rs ++ qs) ≡ entries rs + entries qs
+unfolding entries
+entries-append [] qs = let z : entries qs ≡ 0 + entries qs = omega arith in z
+entries-append (r ∷ rs) qs = ap (λ (n : ℕ). length r + n) (entries-append rs qs) ∙ (let z : length r + (entries rs + entries qs) ≡ length r + entries rs + entries qs = omega arith in z)
+
+pub joined-append : (rs qs : List (List ℕ)) → joined (rs ++ qs) ≡ joined rs ++ joined qs
+unfolding joined
+joined-append [] qs = refl
+joined-append (r ∷ rs) qs = ap (λ (l : List ℕ). r ++ l) (joined-append rs qs) ∙ sym (append-assoc r (joined rs) (joined qs))
+
+pub ends-append : (base : ℕ) (rs qs : List (List ℕ)) → endsFrom base (rs ++ qs) ≡ endsFrom base rs ++ endsFrom (base + entries rs) qs
+unfolding endsFrom entries
+ends-append base [] qs = ap (λ (n : ℕ). endsFrom n qs) (let z : base ≡ base + 0 = omega arith in z)
+ends-append base (r ∷ rs) qs =
+    ap (λ (l : List ℕ). (base + length r) ∷ l)
+    (ends-append (base + length r) rs qs ∙ ap (λ (n : ℕ). endsFrom (base + length r) rs ++ endsFrom n qs) (let z : base + length r + entries rs ≡ base + (length r + entries rs) = omega arith in z))
+
 -- ---- Rows that are read from a store by their ends
 
 -- the rows from a place on

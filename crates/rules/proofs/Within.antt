@@ -12,6 +12,7 @@ use borrow.Author.Tests.{leb-true, leb-false, ltb-true, ltb-false, le-leb, lt-le
 use Rattle.rules.specs.Rows.{Settings}
 use Rattle.rules.specs.Pages.{Answer, entries, unlessShort, joined, endsFrom}
 use Rattle.rules.proofs.PageBack.{entries-snoc}
+use Rattle.rules.proofs.Store.{entries-append}
 use Rattle.rules.proofs.Answers.{short-cases, never-short}
 
 -- ---- The rule
@@ -110,11 +111,6 @@ module _ (store places : ℕ) (a : Answer) where
   cuts = cuts-from [] (a .rows) refl (omega arith) (omega arith)
 
 -- ---- What is kept
-
-entries-append : (xs ys : List (List ℕ)) → entries (xs ++ ys) ≡ entries xs + entries ys
-unfolding entries
-entries-append [] ys = omega arith
-entries-append (x ∷ xs) ys = omega (arith, entries-append xs ys)
 
 next-few : (a : Answer) (rest : List (List ℕ)) → length (next a rest) ≤ entries rest + length (a .loose)
 unfolding entries

@@ -1,4 +1,4 @@
--- How many codes a 2D line has (02, A12), counted along its own steps: mode codes, and what is counted for a run.
+-- How many codes a 2D line has (02, A12 and A9), counted along its own steps: mode codes, and what is counted for a run.
 use mathlib.Core.Bool.{Bool, cond}
 use mathlib.Core.List.{List}
 use Prim.Native.Nat.{ℕ, suc, _+_, _-_}

@@ -15,9 +15,12 @@ pub mod Group3
 pub mod Pages
 pub mod InSteps
 pub mod ByRow
+pub mod Units
+pub mod ByUnit
 pub mod Write
 pub mod WriteGroup3
 pub mod Damage
 pub mod Damage2D
 pub mod Cut
 pub mod Sheets
+pub mod UnitSheets
