@@ -80,7 +80,7 @@ module _ (S : Settings) (bytes changes ends marks : List ℕ) (n : ℕ) where
 -- ---- The arrays, handed back as left
 
 -- an array that was begun with some loose entries, and is begun with no fewer
-overlaid-longer : (front loose later array : List ℕ) (n : ℕ) → length front ≡ n → length loose ≤ length later
+pub overlaid-longer : (front loose later array : List ℕ) (n : ℕ) → length front ≡ n → length loose ≤ length later
     → overlaidFrom n later (overlaid (front ++ loose) array) ≡ overlaid (front ++ later) array
 unfolding overlaid
 overlaid-longer front loose later array n e h =

@@ -96,7 +96,7 @@ module _ (S : Settings) (wide : 0 < S .columns) (bs : List Bool) (bytes : Bytes 
       cases none = over′ (overAt S bs store places k e)
 
   -- an EOL takes bits, in the data
-  eol-forward : (e : Eols) (a : ℕ) → nextEol S bs store places e ≡ some a → (e .at < a) × (a ≤ length bs)
+  pub eol-forward : (e : Eols) (a : ℕ) → nextEol S bs store places e ≡ some a → (e .at < a) × (a ≤ length bs)
   eol-forward e a = tests (ltb (e .count) (cond (S .endOfBlock) 2 (length bs))) (zeroRun (drop (e .at) bs)) refl
     where
       closed : (z : ℕ) → zeroRun (drop (e .at) bs) ≡ some z → (c : Bool) → ltb z 11 ≡ c → cond c none (some (e .at + suc z)) ≡ some a → (e .at < a) × (a ≤ length bs)

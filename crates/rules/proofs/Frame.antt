@@ -63,7 +63,7 @@ module _ (S : Settings) (bs : List Bool) (store places : ℕ) (rs : List (List �
   code-frame k (went l) = settle-frame k (inLine l)
   code-frame k (failed n p l) = refl
 
-  unit-frame : (k : Keeping) (s : Stand) → unit S bs store places (going (B k) s) ≡ F (unit S bs store places (going k s))
+  pub unit-frame : (k : Keeping) (s : Stand) → unit S bs store places (going (B k) s) ≡ F (unit S bs store places (going k s))
   unfolding unit
   unit-frame k (between e) = cases (nextEol S bs store places e)
     where

@@ -1,9 +1,9 @@
--- What every code makes of a line: no fewer changes, which keep to their room, and a position no further left, which keeps to the width; where the
--- position stays, so do the changes. Assumes nothing.
+-- What every code makes of a line: no fewer changes, which keep to their room and go on rising below the position, and a position no further left, which
+-- keeps to the width; where the position stays, so do the changes. Assumes nothing.
 use mathlib.Core.Path.{_≡_, refl, _∙_}
 use mathlib.Core.Bool.{Bool, true, false, cond, _&&_}
 use mathlib.Core.List.{List, [], _∷_, _++_}
-use Prim.Native.Nat.{ℕ, _+_, _-_, _≤_}
+use Prim.Native.Nat.{ℕ, _+_, _-_, _≤_, _<_}
 use native.Mathlib.Omega.{arith}
 use lib.Dec.{eqb, leb}
 use lib.ListN.{length, length-append}
@@ -12,6 +12,7 @@ use Rattle.rules.specs.Codes.{differ}
 use Rattle.rules.specs.Runs.{Res, ok, fault, Sum, readRun}
 use Rattle.rules.specs.Modes.{Mode, pass, horizontal, VR, VL, Moded, readMode}
 use Rattle.rules.specs.Lines.{Rules, Line, line, turned, movedTo, withCut, Went, went, failed, next, lastColour, recorded, add, push, pushTurn, afterRun, pushRun, b1, vertical, apply, afterMode, code2D, Kind, one, two, codeOf}
+use Rattle.rules.proofs.Ascending.{Rising, rises-wider, rises-snoc}
 use Rattle.rules.proofs.Lines.{unless-idle}
 
 -- the line that a code leaves, whole or not
@@ -25,6 +26,7 @@ pub record Grows (R : Rules) (s t : Line) : Type 0 where
   pub fits : s .position ≤ R .width → t .position ≤ R .width
   pub still : t .position ≡ s .position → t .changes ≡ s .changes
   pub roomy : length (s .changes) ≤ R .room → length (t .changes) ≤ R .room
+  pub rises : Rising (s .position) 0 (s .changes) → Rising (t .position) 0 (t .changes)
 
 abbrev pub GrowsTo : Rules → Line → Went → Type 0
 GrowsTo R s w = Grows R s (lineIn w)
@@ -32,7 +34,7 @@ GrowsTo R s w = Grows R s (lineIn w)
 module _ (R : Rules) where
   -- bits, colour and the flag have no part in it
   pub grows-here : (s : Line) (at : ℕ) → Grows R s (movedTo at s)
-  grows-here s at = record { longer = omega arith; further = omega arith; fits = λ h. h; still = λ e. refl; roomy = λ h. h }
+  grows-here s at = record { longer = omega arith; further = omega arith; fits = λ h. h; still = λ e. refl; roomy = λ h. h; rises = λ h. h }
 
   grows-then : (s t u : Line) → Grows R s t → Grows R t u → Grows R s u
   grows-then s t u g h = record {
@@ -41,6 +43,7 @@ module _ (R : Rules) where
     fits = λ p. h .fits (g .fits p);
     still = λ e. h .still (omega arith) ∙ g .still (omega arith);
     roomy = λ p. h .roomy (g .roomy p);
+    rises = λ p. h .rises (g .rises p);
   }
 
   next-grows : (s : Line) (w : Went) (f : Line → Went) → GrowsTo R s w → ((t : Line) → GrowsTo R t (f t)) → GrowsTo R s (next w f)
@@ -48,7 +51,7 @@ module _ (R : Rules) where
   next-grows s (failed n p t) f g h = g
 
   pub turned-grows : (t : Line) → Grows R t (turned t)
-  turned-grows t = record { longer = omega arith; further = omega arith; fits = λ h. h; still = λ e. refl; roomy = λ h. h }
+  turned-grows t = record { longer = omega arith; further = omega arith; fits = λ h. h; still = λ e. refl; roomy = λ h. h; rises = λ h. h }
 
   -- ---- Pixels
 
@@ -61,13 +64,23 @@ module _ (R : Rules) where
       tests false = omega arith
 
   add-grows : (count : ℕ) (s : Line) → count ≤ R .width - s .position → GrowsTo R s (add R count s)
-  unfolding add
+  unfolding add recorded
   add-grows count s h = tests (eqb count 0) (eqb-false count 0) (leb (length (recorded s)) (R .room)) (leb-true _ _)
     where
+      recorded-rises : (count ≡ 0 → ⊥) → Rising (s .position) 0 (s .changes) → Rising (s .position + count) 0 (recorded s)
+      recorded-rises z r = cases (differ (lastColour (s .changes)) (s .colour))
+        where
+          further′ : s .position < s .position + count
+          further′ = omega (arith, z)
+
+          cases : (b : Bool) → Rising (s .position + count) 0 (cond b (s .changes ++ s .position ∷ []) (s .changes))
+          cases true = rises-snoc (omega arith) further′ r
+          cases false = rises-wider (omega (arith, further′)) r
+
       tests : (b : Bool) → (b ≡ false → count ≡ 0 → ⊥) → (c : Bool) → (c ≡ true → length (recorded s) ≤ R .room)
           → GrowsTo R s (cond b (went s) (cond c (went (line (s .at) (s .position + count) (s .colour) (recorded s) (s .cut))) (failed 4 0 s)))
       tests true z c k = grows-here s (s .at)
-      tests false z true k = record { longer = recorded-longer s; further = omega arith; fits = λ q. omega arith; still = λ e. absurd (z refl (omega arith)); roomy = λ q. k refl }
+      tests false z true k = record { longer = recorded-longer s; further = omega arith; fits = λ q. omega arith; still = λ e. absurd (z refl (omega arith)); roomy = λ q. k refl; rises = recorded-rises (z refl) }
       tests false z false k = grows-here s (s .at)
 
   pub push-grows : (place count : ℕ) (s : Line) → GrowsTo R s (push R place count s)
@@ -75,7 +88,7 @@ module _ (R : Rules) where
   push-grows place count s = tests (leb count (R .width - s .position)) (leb-true _ _) (R .strict)
     where
       cut-grows : (t : Line) → Grows R (withCut s) t → Grows R s t
-      cut-grows t g = record { longer = g .longer; further = g .further; fits = g .fits; still = g .still; roomy = g .roomy }
+      cut-grows t g = record { longer = g .longer; further = g .further; fits = g .fits; still = g .still; roomy = g .roomy; rises = g .rises }
 
       tests : (b : Bool) → (b ≡ true → count ≤ R .width - s .position) → (c : Bool) → GrowsTo R s (cond b (add R count s) (cond c (failed 1 place s) (add R (R .width - s .position) (withCut s))))
       tests true h c = add-grows count s (h refl)

@@ -39,7 +39,7 @@ module _ (S : Settings) (bs : List Bool) (store places : ℕ) (Inv : Keeping →
       cases (some a) = i
       cases none = over′ (overAt S bs store places k e)
 
-  inv-settle : (k : Keeping) (s : Stand) → Inv k → InvOut (settle S bs store places (going k s))
+  pub inv-settle : (k : Keeping) (s : Stand) → Inv k → InvOut (settle S bs store places (going k s))
   unfolding settle
   inv-settle k (between e) i = inv-between k e i
   inv-settle k (inRun h l s) i = i
@@ -54,7 +54,7 @@ module _ (S : Settings) (bs : List Bool) (store places : ℕ) (Inv : Keeping →
   inv-code k (went l) i = inv-settle k (inLine l) i
   inv-code k (failed n p l) i = tt
 
-  inv-unit : (k : Keeping) (s : Stand) → Inv k → InvOut (unit S bs store places (going k s))
+  pub inv-unit : (k : Keeping) (s : Stand) → Inv k → InvOut (unit S bs store places (going k s))
   unfolding unit
   inv-unit k (between e) i = cases (nextEol S bs store places e)
     where
@@ -125,7 +125,7 @@ module _ (S : Settings) (bs : List Bool) (store places : ℕ) where
   size-code k (went l) = size-settle k (inLine l)
   size-code k (failed n p l) = omega arith
 
-  size-unit : (k : Keeping) (s : Stand) → sizeAt k s ≤ sizeOf (unit S bs store places (going k s))
+  pub size-unit : (k : Keeping) (s : Stand) → sizeAt k s ≤ sizeOf (unit S bs store places (going k s))
   unfolding unit
   size-unit k (between e) = cases (nextEol S bs store places e)
     where
