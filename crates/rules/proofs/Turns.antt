@@ -110,7 +110,7 @@ module _ (S : Settings) (bs : List Bool) (store places : ℕ) where
   abbrev sizeAt : Keeping → Stand → ℕ
   sizeAt k s = entries (k .rows) + length (looseOf s)
 
-  size-settle : (k : Keeping) (s : Stand) → sizeAt k s ≤ sizeOf (settle S bs store places (going k s))
+  pub size-settle : (k : Keeping) (s : Stand) → sizeAt k s ≤ sizeOf (settle S bs store places (going k s))
   unfolding settle
   size-settle k (between e) = omega (arith, size-between k e)
   size-settle k (inRun h l s) = omega arith
