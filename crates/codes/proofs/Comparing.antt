@@ -155,23 +155,18 @@ found-known colour bs run size e = entry (lookup colour (window 13 bs)) refl (e 
               small-run = omega (arith, s .small-run, v .run-is);
             }
 
--- the bit that a sum has come to lies in the data
-pub record Adding (colour : Colour) (bytes : List ℕ) (start at total : ℕ) : Type 0 where
-  pub inside : at ≤ 8 * length bytes
-  pub summing : Summing colour bytes start (sum at total)
-
-module _ {colour : Colour} {bytes : List ℕ} {start at total : ℕ} (g : Adding colour bytes start at total) where
+-- one code, at a bit that lies in the data, added to any sum
+module _ (colour : Colour) (bytes : List ℕ) (at : ℕ) (inside′ : at ≤ 8 * length bytes) (total : ℕ) where
   -- no code, or too few bits
-  pub add-lost : (n size : ℕ) → lost n size ≡ plain colour (drop at (bitsOf bytes)) → fault n at ≡ readRun colour (bitsOf bytes) start
-  add-lost n size e =
-      sum-stops (g .summing) (fault n at) (plain-step colour (bitsOf bytes) (sum at total) ∙ ap (foundTake (length (bitsOf bytes)) (sum at total)) (sym e))
+  pub lost-step : (n size : ℕ) → lost n size ≡ plain colour (drop at (bitsOf bytes)) → runStep colour (bitsOf bytes) (sum at total) ≡ done (fault n at)
+  lost-step n size e = plain-step colour (bitsOf bytes) (sum at total) ∙ ap (foundTake (length (bitsOf bytes)) (sum at total)) (sym e)
 
   module _ (run size : ℕ) (e : found run size ≡ plain colour (drop at (bitsOf bytes))) where
     known : Known (drop at (bitsOf bytes)) run size
     known = found-known colour (drop at (bitsOf bytes)) run size e
 
-    pub add-inside : (1 ≤ size) × (at + size ≤ 8 * length bytes) × (run ≤ 2560)
-    add-inside = omega (arith, known .some-bits, known .inside, known .small-run, length-drop at (bitsOf bytes), length-bitsOf bytes, g .inside)
+    pub found-inside : (1 ≤ size) × (at + size ≤ 8 * length bytes) × (run ≤ 2560)
+    found-inside = omega (arith, known .some-bits, known .inside, known .small-run, length-drop at (bitsOf bytes), length-bitsOf bytes)
 
     -- the code is added as an entry is
     added : runStep colour (bitsOf bytes) (sum at total)
@@ -182,17 +177,40 @@ module _ {colour : Colour} {bytes : List ℕ} {start at total : ℕ} (g : Adding
     added =
         plain-step colour (bitsOf bytes) (sum at total)
         ∙ ap (foundTake (length (bitsOf bytes)) (sum at total)) (sym e)
-        ∙ simp (le-leb (at + size) (length (bitsOf bytes)) (omega (arith, add-inside, length-bitsOf bytes)))
+        ∙ simp (le-leb (at + size) (length (bitsOf bytes)) (omega (arith, found-inside, length-bitsOf bytes)))
+
+    pub found-large : 4294967295 < total + run → runStep colour (bitsOf bytes) (sum at total) ≡ done (fault 3 at)
+    found-large h = added ∙ simp (lt-leb (total + run) 4294967295 h)
+
+    module _ (h : total + run ≤ 4294967295) where
+      pub found-last : run < 64 → runStep colour (bitsOf bytes) (sum at total) ≡ done (ok (sum (at + size) (total + run)))
+      found-last k = added ∙ simp (le-leb (total + run) 4294967295 h, lt-ltb run 64 k)
+
+      pub found-next : 64 ≤ run → runStep colour (bitsOf bytes) (sum at total) ≡ more (sum (at + size) (total + run))
+      found-next k = added ∙ simp (le-leb (total + run) 4294967295 h, le-ltb run 64 k)
+
+-- the bit that a sum has come to lies in the data
+pub record Adding (colour : Colour) (bytes : List ℕ) (start at total : ℕ) : Type 0 where
+  pub inside : at ≤ 8 * length bytes
+  pub summing : Summing colour bytes start (sum at total)
+
+module _ {colour : Colour} {bytes : List ℕ} {start at total : ℕ} (g : Adding colour bytes start at total) where
+  pub add-lost : (n size : ℕ) → lost n size ≡ plain colour (drop at (bitsOf bytes)) → fault n at ≡ readRun colour (bitsOf bytes) start
+  add-lost n size e = sum-stops (g .summing) (fault n at) (lost-step colour bytes at (g .inside) total n size e)
+
+  module _ (run size : ℕ) (e : found run size ≡ plain colour (drop at (bitsOf bytes))) where
+    pub add-inside : (1 ≤ size) × (at + size ≤ 8 * length bytes) × (run ≤ 2560)
+    add-inside = found-inside colour bytes at (g .inside) total run size e
 
     pub add-large : 4294967295 < total + run → fault 3 at ≡ readRun colour (bitsOf bytes) start
-    add-large h = sum-stops (g .summing) (fault 3 at) (added ∙ simp (lt-leb (total + run) 4294967295 h))
+    add-large h = sum-stops (g .summing) (fault 3 at) (found-large colour bytes at (g .inside) total run size e h)
 
     module _ (h : total + run ≤ 4294967295) where
       pub add-last : run < 64 → ok (sum (at + size) (total + run)) ≡ readRun colour (bitsOf bytes) start
-      add-last k = sum-stops (g .summing) (ok (sum (at + size) (total + run))) (added ∙ simp (le-leb (total + run) 4294967295 h, lt-ltb run 64 k))
+      add-last k = sum-stops (g .summing) (ok (sum (at + size) (total + run))) (found-last colour bytes at (g .inside) total run size e h k)
 
       pub add-next : 64 ≤ run → Adding colour bytes start (at + size) (total + run)
       add-next k = record {
         inside = omega (arith, add-inside);
-        summing = sum-goes (g .summing) (sum (at + size) (total + run)) (added ∙ simp (le-leb (total + run) 4294967295 h, le-ltb run 64 k)) h;
+        summing = sum-goes (g .summing) (sum (at + size) (total + run)) (found-next colour bytes at (g .inside) total run size e h k) h;
       }

@@ -5,14 +5,17 @@ use Prim.Native.Nat.{ℕ, _≤_}
 use lib.ListN.{length}
 use Rattle.rules.specs.Bits.{bitsOf}
 use Rattle.rules.specs.Codes.{Colour}
+use Rattle.rules.specs.Machine.{Out, more, done}
 use Rattle.rules.specs.Runs.{Res, ok, fault, Sum, sum, readRun}
 use Rattle.rules.specs.Pages.{mostBytes}
 use Rattle.tables.specs.Tables.{Lookups}
-use Rattle.bit_reader.specs.Loaded.{Loaded}
+use Rattle.bit_reader.specs.Loaded.{Loaded, Loading}
 use Rattle.bit_reader.specs.declared.buffer.Buffer.{Buffer}
 use Rattle.error.specs.Error.{numberOf}
 use Rattle.codes.specs.declared.run.Run.{Run}
 use Rattle.codes.specs.declared.run.Run.the-variants.{Length, Bad}
+use Rattle.codes.specs.declared.run.Code.{Code}
+use Rattle.codes.specs.declared.run.Code.the-variants as Code
 
 abbrev pub runOf : Run → Res Sum
 runOf (Length n b) = ok (sum (b .at) n)
@@ -32,3 +35,15 @@ pub record Reading (w b : List ℕ) (bytes : List ℕ) (start : Buffer) : Type 0
 pub record RunRead (colour : Colour) (bytes : List ℕ) (at : ℕ) (r : Run) : Type 0 where
   pub same : runOf r ≡ readRun colour (bitsOf bytes) at
   pub loaded : LoadedAfter bytes r
+
+-- ---- One code of a run
+
+abbrev pub codeOf : Code → Out Sum (Res Sum)
+codeOf (Code.Last total at) = done (ok (sum at total))
+codeOf (Code.More total at) = more (sum at total)
+codeOf (Code.Bad e place) = done (fault (numberOf e) place)
+
+-- what it asks: the tables, and a bit inside the data
+pub record CodeFrom (w b bytes : List ℕ) (at : ℕ) : Type 0 where
+  pub lookups : Lookups w b
+  pub loading : Loading bytes at

@@ -1,4 +1,5 @@
 // Runs of one colour by the plain engine (A14). It has no lookup: it compares one bit after another with the code tables.
+use crate::run::Code;
 use crate::run::Run;
 use bit_reader::buffer;
 use error::DecodeError;
@@ -10,10 +11,11 @@ ghost use Rattle.rules.specs.Bits.{bitsFor, bitsOf};
 ghost use Rattle.rules.specs.Codes.{commonMakeup, terminatingOf, makeupOf};
 ghost use Rattle.rules.specs.Lookup.{begins};
 ghost use Rattle.rules.specs.Plain.{candidates, plain, verdict};
+ghost use Rattle.rules.specs.Runs.{sum, runStep};
 ghost use Rattle.tables.specs.Tables.{colourOf, rows};
 ghost use Rattle.bit_reader.specs.Loaded.{Loading};
 ghost use Rattle.codes.specs.Plain.{Words, Asked, codesIn, agreed, verdictOf, foundOf};
-ghost use Rattle.codes.specs.Runs.{RunRead};
+ghost use Rattle.codes.specs.Runs.{RunRead, codeOf};
 
 // A colour's codes are the rows of three tables: its terminating codes, its own make-up codes, and the make-up codes of both colours.
 fn terminating_of(colour: usize) -> [[u16; 3]; 64]
@@ -165,4 +167,24 @@ pub fn read_run(colour: usize, src: &[u8], start: usize) -> Run
         }
     };
     Run::Length(total as u32, buffer::load(src, at))
+}
+
+// One step of it (A9).
+pub fn next_code(colour: usize, src: &[u8], at: usize, total: u32) -> Code
+    requires { ⌜ Loading (now src) at ⌝ }
+    ensures { λ r. ⌜ codeOf r ≡ runStep (colourOf colour) (bitsOf (now (src .entry))) (sum at total) ⌝ }
+{
+    match read_code(colour, src, at) {
+        Found::Lost(e, _) => Code::Bad(e, at),
+        Found::Code(run, taken) => {
+            let sum = total as usize + run;
+            if 4294967295 < sum {
+                return Code::Bad(DecodeError::Overflow, at);
+            }
+            if run < 64 {
+                return Code::Last(sum as u32, at + taken);
+            }
+            Code::More(sum as u32, at + taken)
+        }
+    }
 }

@@ -1,13 +1,16 @@
 // Runs of one colour, by its lookup table.
+use bit_reader::Moved;
 use bit_reader::buffer;
 use bit_reader::buffer::Buffer;
 use bit_reader::buffer::Fed;
 use error::DecodeError;
 ghost use mathlib.Core.Path.{_≡_};
 ghost use Prim.Native.Nat.{_/_, _%_, _≤_};
+ghost use Rattle.rules.specs.Bits.{bitsOf};
 ghost use Rattle.rules.specs.Lookup.{lookupTable};
+ghost use Rattle.rules.specs.Runs.{sum, runStep};
 ghost use Rattle.tables.specs.Tables.{colourOf, Lookups};
-ghost use Rattle.codes.specs.Runs.{Reading, RunRead};
+ghost use Rattle.codes.specs.Runs.{Reading, RunRead, CodeFrom, codeOf};
 
 // A run and the buffer behind it; or the error, and the bit at which the failing code began.
 pub enum Run {
@@ -71,4 +74,42 @@ pub fn read_run<'a>(
         }
     };
     Run::Length(total, b)
+}
+
+// One code of a run, with the sum so far: the last code, or a make-up code, each with the bit after it; or the error, and the code's first bit.
+pub enum Code {
+    Last(u32, usize),
+    More(u32, usize),
+    Bad(DecodeError, usize),
+}
+
+// One step of `read_run`, for a form that may stop between make-up codes (A9). The page form does not call it.
+pub fn read_code<'a>(
+    white: &'a [u16; 8192],
+    black: &'a [u16; 8192],
+    colour: usize,
+    src: &[u8],
+    at: usize,
+    total: u32,
+) -> Code
+    requires { ⌜ CodeFrom (now white) (now black) (now src) at ⌝ }
+    ensures { λ r. ⌜ codeOf r ≡ runStep (colourOf colour) (bitsOf (now (src .entry))) (sum at total) ⌝ }
+{
+    let table = table_of(white, black, colour);
+    let top = bit_reader::peek13(src, at);
+    let entry = table[top];
+    let run = run_in(entry);
+    let Moved::To(next) = bit_reader::consume(src.len(), at, size_in(entry)) else {
+        return Code::Bad(DecodeError::UnexpectedEof, at);
+    };
+    if run == 4095 {
+        return Code::Bad(DecodeError::InvalidCode, at);
+    }
+    if 4294967295 - run < total {
+        return Code::Bad(DecodeError::Overflow, at);
+    }
+    if run < 64 {
+        return Code::Last(total + run, next);
+    }
+    Code::More(total + run, next)
 }
