@@ -8,6 +8,7 @@ pub mod RowTest
 pub mod Search
 pub mod Signed
 pub mod ModeCode
+pub mod OneCode
 pub mod RowPart
 pub mod LineLoop
 pub mod OneLine

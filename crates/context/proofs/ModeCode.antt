@@ -54,7 +54,7 @@ comes-coloured width xs w (Push.On m) ys c =
 comes-coloured width xs w (Push.Stop n m) ys c = tt
 
 -- a count that is pushed on the line behind a code's bits
-pushed-steps : (R : Rules) (xs : List ℕ) (place count : ℕ) (s : Rule.Line) (turns : Bool) (r : Push) (ys : List ℕ)
+pub pushed-steps : (R : Rules) (xs : List ℕ) (place count : ℕ) (s : Rule.Line) (turns : Bool) (r : Push) (ys : List ℕ)
     → Comes (R .width) xs (push R place count s) r ys → Steps (R .width) xs (turnedBy turns (push R place count s)) (afterPush r place (s .at) turns) ys
 pushed-steps R xs place count s turns (Push.On m) ys c =
     let (t, e, same) = push-on (R .width) (push R place count s) m (c .answer) in

@@ -4,4 +4,5 @@ pub mod Outcome
 pub mod Offset
 pub mod Reference
 pub mod Coding
+pub mod OneCode
 pub mod OneLine

@@ -1,6 +1,7 @@
 // One line: its state, what codes do to it, and its reading to the width (context.rs).
 pub mod line;
 pub mod offset;
+pub mod once;
 pub mod read;
 pub mod reference;
 pub mod runs;

@@ -20,7 +20,7 @@ ghost use Rattle.context.specs.Reference.{Finds};
 ghost use Rattle.context.specs.Coding.{Coloured, afterPush, unmovedFor, unlessIdleFor, TwoRuns, Coding, Coded, referenceIn, Seeks, Lines, Lined};
 
 // What a push makes of the code that began at `at` and ends at `next`; vertical mode turns the colour, pass mode keeps it.
-fn after_push(push: Push, at: usize, next: usize, turns: bool) -> Step
+pub(crate) fn after_push(push: Push, at: usize, next: usize, turns: bool) -> Step
     requires { ⌜ Coloured push ⌝ }
     ensures { λ r. ⌜ r ≡ afterPush push at next turns ⌝ }
 {
@@ -36,7 +36,7 @@ fn after_push(push: Push, at: usize, next: usize, turns: bool) -> Step
 }
 
 // A vertical move of nothing turns the colour. An exact line refuses it as idle, other than its first code, which is read at position 0 in white.
-fn unmoved(line: Line, at: usize, next: usize, exact: bool) -> Step
+pub(crate) fn unmoved(line: Line, at: usize, next: usize, exact: bool) -> Step
     requires { ⌜ line .colour ≤ 1 ⌝ }
     ensures { λ r. ⌜ r ≡ unmovedFor line at next exact ⌝ }
 {
@@ -53,7 +53,7 @@ fn unmoved(line: Line, at: usize, next: usize, exact: bool) -> Step
 }
 
 // What two runs make of the code that began at `at`: an exact line refuses it as idle where both are zero, and is as it was before it.
-fn unless_idle(step: Step, line: Line, at: usize, exact: bool) -> Step
+pub(crate) fn unless_idle(step: Step, line: Line, at: usize, exact: bool) -> Step
     ensures { λ r. ⌜ r ≡ unlessIdleFor step line at exact ⌝ }
 {
     match step {
