@@ -51,7 +51,7 @@ fn is_full(settings: DecodeSettings, rows: usize) -> bool
     rows == settings.rows as usize
 }
 
-fn is_over(src: &[u8], settings: DecodeSettings, state: State, eols: Eols) -> bool
+pub fn is_over(src: &[u8], settings: DecodeSettings, state: State, eols: Eols) -> bool
     ensures { λ r. ⌜ r ≡ over (settingsOf settings) (bitsOf (now (src .entry))) (stateOf [] [] state) (eolsOf eols) ⌝ }
 {
     if is_eofb(settings, eols.count) {
