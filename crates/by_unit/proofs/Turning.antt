@@ -1,0 +1,198 @@
+-- A call, by the way it takes: what the code says, hands back and leaves is what the rules' `turn` says. Assumes nothing.
+use mathlib.Core.Path.{_≡_, refl, sym, ap, _∙_, subst}
+use mathlib.Core.Logic.{inl, inr}
+use mathlib.Core.Bool.{Bool, true, false, cond, _&&_, and-false}
+use mathlib.Core.List.{List, _++_}
+use Prim.Native.Nat.{ℕ, zero, suc, _+_, _-_, _*_, _≤_, _<_}
+use native.Mathlib.Omega.{arith}
+use lib.ListN.{length}
+use borrow.Author.Tests.{eq-eqb, ne-eqb, lt-ltb, le-ltb}
+use Rattle.rules.specs.Machine as Rule
+use Rattle.rules.specs.Machine.{more, done}
+use Rattle.rules.specs.Bits.{bitsOf}
+use Rattle.rules.specs.Rows.{Settings}
+use Rattle.rules.specs.Pages as Page
+use Rattle.rules.specs.Pages.{mostBytes, tooFew, strictIfExact, joined, endsFrom, placesIn}
+use Rattle.rules.specs.InSteps.{Said, says, saysOnly}
+use Rattle.rules.specs.Units as Units
+use Rattle.rules.specs.Units.{Going, soFar, call, taken}
+use Rattle.rules.specs.ByUnit as ByUnit
+use Rattle.rules.specs.ByUnit.{endOf, goingOf, sound, savedAt, saidBehind, unlessFewer, readingAfter, opened, ended, overlaidFrom, turnOf, asGroup4, still, readOn, turnOn, turn}
+use Rattle.error.specs.declared.Answer.{Answer}
+use Rattle.rows.specs.declared.DecodeSettings.{DecodeSettings}
+use Rattle.rows.specs.Settings.{settingsOf}
+use Rattle.by_unit.specs.declared.Saved.{Saved}
+use Rattle.by_unit.specs.declared.End.{End}
+use Rattle.by_unit.specs.declared.Counts.{Counts}
+use Rattle.by_unit.specs.declared.Reading.{Reading}
+use Rattle.by_unit.specs.declared.Reading.the-variants.{Open, Ended}
+use Rattle.by_unit.specs.declared.Turn.{Turn}
+use Rattle.by_unit.specs.declared.stand.Out.{Out}
+use Rattle.by_unit.specs.declared.stand.Out.the-variants.{More, Done}
+use Rattle.by_unit.specs.declared.take.Taken.{Taken}
+use Rattle.by_unit.specs.Standing.{goingAt, Asked, answerOf, Told, Comes}
+use Rattle.by_unit.specs.Taking.{TakeFrom, Takes}
+use Rattle.by_unit.specs.Reading.{savedOf, endNumber, Ending, saidOf, readingOf, TurnIs, ReadsUnits, TurnsOn, asReadFor, endFrom, answerFor, stillFor, endedFor, unlessFew, looseFor, savedFor, turnOut, turnFor, keptBy, standBy, soundFor}
+use Rattle.by_unit.proofs.States.{sound-is, Good, good, stands-so, kept-in, stand-in, back-so, loose-so, end-number}
+
+module _ (bytes : List ℕ) (settings : DecodeSettings) (xs es ms : List ℕ) where
+  abbrev S : Settings
+  S = asGroup4 (settingsOf settings)
+
+  -- ---- Before any other test
+
+  pub turn-none : (n : ℕ) (reading : Reading) → n ≡ 0 → ReadsUnits bytes settings xs es ms reading n (stillFor (answerOf (saysOnly 10)) reading) xs es ms
+  unfolding turn
+  turn-none n reading e =
+      subst (λ (i : ℕ). ReadsUnits bytes settings xs es ms reading i (stillFor (answerOf (saysOnly 10)) reading) xs es ms) (sym e)
+      (record { answer = refl; units = refl; reading = refl; changes = refl; ends = refl; marks = refl })
+
+  module _ (n : ℕ) (some′ : n ≡ 0 → ⊥) where
+    -- the end is repeated
+    pub turn-again : (e : End) (c : Counts) → ReadsUnits bytes settings xs es ms (Ended e c) n (stillFor (answerFor e c) (Ended e c)) xs es ms
+    unfolding turn
+    turn-again e c = cases n some′
+      where
+        cases : (n : ℕ) → (n ≡ 0 → ⊥) → ReadsUnits bytes settings xs es ms (Ended e c) n (stillFor (answerFor e c) (Ended e c)) xs es ms
+        cases zero z = absurd (z refl)
+        cases (suc n) z = record { answer = refl; units = refl; reading = refl; changes = refl; ends = refl; marks = refl }
+
+    -- or the page goes on to the tests
+    pub turn-opened : (s : Saved) (r : Turn) (ys fs ns : List ℕ) → TurnsOn bytes settings xs es ms s n r ys fs ns → ReadsUnits bytes settings xs es ms (Open s) n r ys fs ns
+    unfolding turn
+    turn-opened s r ys fs ns t = cases n some′ t
+      where
+        cases : (n : ℕ) → (n ≡ 0 → ⊥) → TurnsOn bytes settings xs es ms s n r ys fs ns → ReadsUnits bytes settings xs es ms (Open s) n r ys fs ns
+        cases zero z t = absurd (z refl)
+        cases (suc n) z t = t
+
+  -- ---- The tests
+
+  module _ (s : Saved) (n : ℕ) where
+    -- everything as found
+    refused : (c : Said) → TurnIs (still S bytes xs es ms c (opened (savedOf s))) (stillFor (answerOf c) (Open s)) xs es ms
+    refused c = record { answer = refl; units = refl; reading = refl; changes = refl; ends = refl; marks = refl }
+
+    pub turn-6 : settings .columns ≡ 4294967295 → TurnsOn bytes settings xs es ms s n (stillFor (answerOf (saysOnly 6)) (Open s)) xs es ms
+    unfolding turnOn
+    turn-6 e = subst (λ (t : ByUnit.Turn). TurnIs t (stillFor (answerOf (saysOnly 6)) (Open s)) xs es ms) (sym (rw (eq-eqb (settings .columns) 4294967295 e, turnOn))) (refused (saysOnly 6))
+
+    module _ (narrow : settings .columns ≡ 4294967295 → ⊥) where
+      pub turn-7 : mostBytes < length bytes → TurnsOn bytes settings xs es ms s n (stillFor (answerOf (saysOnly 7)) (Open s)) xs es ms
+      unfolding turnOn
+      turn-7 h =
+          subst (λ (t : ByUnit.Turn). TurnIs t (stillFor (answerOf (saysOnly 7)) (Open s)) xs es ms)
+          (sym (rw (ne-eqb (settings .columns) 4294967295 narrow, lt-ltb mostBytes (length bytes) h, turnOn))) (refused (saysOnly 7))
+
+      module _ (few : length bytes ≤ mostBytes) where
+        pub turn-8 : soundFor (length bytes) (settings .columns) xs es ms s ≡ false → TurnsOn bytes settings xs es ms s n (stillFor (answerOf (saysOnly 8)) (Open s)) xs es ms
+        unfolding turnOn
+        turn-8 e =
+            subst (λ (t : ByUnit.Turn). TurnIs t (stillFor (answerOf (saysOnly 8)) (Open s)) xs es ms)
+            (sym (rw (ne-eqb (settings .columns) 4294967295 narrow, le-ltb mostBytes (length bytes) few, sym (sound-is bytes (settings .columns) xs es ms s) ∙ e, turnOn))) (refused (saysOnly 8))
+
+        module _ (sound′ : soundFor (length bytes) (settings .columns) xs es ms s ≡ true) where
+          pub turn-no-columns : settings .columns ≡ 0 → TurnsOn bytes settings xs es ms s n (endedFor (answerOf (saysOnly 0)) 0) xs es ms
+          unfolding turnOn
+          turn-no-columns z =
+              subst (λ (t : ByUnit.Turn). TurnIs t (endedFor (answerOf (saysOnly 0)) 0) xs es ms)
+              (sym (rw (ne-eqb (settings .columns) 4294967295 narrow, le-ltb mostBytes (length bytes) few, sym (sound-is bytes (settings .columns) xs es ms s) ∙ sound′, eq-eqb (settings .columns) 0 z, turnOn)))
+              (record { answer = refl; units = refl; reading = refl; changes = refl; ends = refl; marks = refl })
+
+          -- ---- The reading
+
+          facts : Good bytes (settings .columns) xs es ms s
+          facts = good bytes (settings .columns) xs es ms s sound′
+
+          pub placed : s .rows ≤ placesIn es ms
+          placed = facts .placed
+
+          module _ (wide : settings .columns ≡ 0 → ⊥) (small : settings .columns ≤ 4294967295) where
+            asked : Asked bytes (asReadFor settings)
+            asked = record { size = few; wide = omega (arith, wide); narrow = omega (arith, narrow, small) }
+
+            pub turn-asks : TakeFrom bytes (asReadFor settings) xs es ms (keptBy es s) (standBy (settings .columns) s (s .phase))
+            turn-asks = record {
+              asked = asked;
+              kept = kept-in bytes (settings .columns) xs es ms s (asReadFor settings) asked refl facts;
+              stand = stand-in bytes (settings .columns) xs es ms s (asReadFor settings) asked refl facts;
+            }
+
+            abbrev places : ℕ
+            places = placesIn es ms
+
+            abbrev T : Settings
+            T = strictIfExact S
+
+            abbrev outcome : Rule.Out Going Page.Answer
+            outcome = call T (bitsOf bytes) (length xs) places n (more (goingOf xs es (savedOf s)))
+
+            abbrev base : ℕ
+            base = endOf es (s .rows)
+
+            on : turnOn S bytes xs es ms n (savedOf s) ≡ readOn S bytes xs es ms n (savedOf s)
+            unfolding turnOn
+            on = rw (ne-eqb (settings .columns) 4294967295 narrow, le-ltb mostBytes (length bytes) few, sym (sound-is bytes (settings .columns) xs es ms s) ∙ sound′, ne-eqb (settings .columns) 0 wide, turnOn)
+
+            -- what is said where the page goes on, or has ended
+            told-so : (units : ℕ) (ys fs ns : List ℕ) (o : Rule.Out Going Page.Answer) (r : Out) → Comes bytes (settings .columns) (s .rows) base xs es ms o r ys fs ns
+                → TurnIs (turnOf S (s .rows) base xs es ms units o) (turnOut settings units r) ys fs ns
+            told-so units ys fs ns (more g) (More k at seen) c =
+                let t = c .told in
+                record {
+                  answer =
+                      (λ i. answerOf (says 15 0 0 (t .rows-are i) (t .entries-are i) ((loose-so bytes (settings .columns) ys k seen at (t .stand) ∙ ap (λ (h : Going). length (Units.looseOf (h .stand))) (t .is)) i)))
+                      ∙ sym (rw (and-false (settings .exact)));
+                  units = refl;
+                  reading = ap opened (back-so bytes (settings .columns) ys k seen at (t .stand) ∙ ap (λ (h : Going). savedAt (h .keeping .count) (h .stand)) (t .is));
+                  changes = c .leaves .changes;
+                  ends = c .leaves .ends;
+                  marks = c .leaves .marks;
+                }
+            told-so units ys fs ns (done a) (Done r) c = record {
+              answer = said;
+              units = refl;
+              reading = reading-so;
+              changes = c .leaves .changes;
+              ends = c .leaves .ends;
+              marks = c .leaves .marks;
+            }
+              where
+                C : Said
+                C = saidBehind (s .rows) base a
+
+                said : unlessFew settings r ≡ answerOf (unlessFewer S C)
+                said = ap (unlessFew settings) (c .told .answer) ∙ cases (tooFew S (C .number) (C .rows))
+                  where
+                    cases : (b : Bool) → cond b (answerOf (says 14 0 0 (C .rows) (C .entries) (C .loose))) (answerOf C) ≡ answerOf (cond b (says 14 0 0 (C .rows) (C .entries) (C .loose)) C)
+                    cases true = refl
+                    cases false = refl
+
+                listed : (b : Bool) → Ending (cond b (says 14 0 0 (C .rows) (C .entries) (C .loose)) C .number)
+                listed true = inr refl
+                listed false = inl (c .told .listed)
+
+                plain-mark : (b : Bool) → cond b (says 14 0 0 (C .rows) (C .entries) (C .loose)) C .mark ≡ 0
+                plain-mark true = refl
+                plain-mark false = refl
+
+                again : (d : Said) → Ending (d .number) → d .mark ≡ 0 → readingOf (endedFor (answerOf d) units .reading) ≡ ended d
+                again d h m = λ i. ended (record { number = end-number (d .number) h i; mark = sym m i; rows = d .rows; entries = d .entries; loose = d .loose; bytes = d .bytes; place = d .place })
+
+                reading-so : readingOf (endedFor (unlessFew settings r) units .reading) ≡ ended (unlessFewer S C)
+                reading-so =
+                    ap (λ (x : Answer). readingOf (endedFor x units .reading)) said
+                    ∙ again (unlessFewer S C) (listed (tooFew S (C .number) (C .rows))) (plain-mark (tooFew S (C .number) (C .rows)))
+            told-so units ys fs ns (more g) (Done r) c = absurd (c .told)
+            told-so units ys fs ns (done a) (More k at seen) c = absurd (c .told)
+
+            pub turn-reads : (t : Taken) (ys fs ns : List ℕ) → Takes bytes (asReadFor settings) xs es ms (keptBy es s) (standBy (settings .columns) s (s .phase)) n t ys fs ns
+                → TurnsOn bytes settings xs es ms s n (turnFor settings t) ys fs ns
+            turn-reads t ys fs ns k =
+                let same = stands-so bytes (settings .columns) xs es ms s in
+                let c : Comes bytes (settings .columns) (s .rows) base xs es ms outcome (t .out) ys fs ns =
+                subst (λ (g : Going). Comes bytes (settings .columns) (s .rows) base xs es ms (call T (bitsOf bytes) (length xs) places n (more g)) (t .out) ys fs ns) same (k .comes) in
+                let u : t .units ≡ taken T (bitsOf bytes) (length xs) places n (more (goingOf xs es (savedOf s))) =
+                k .units ∙ ap (λ (g : Going). taken T (bitsOf bytes) (length xs) places n (more g)) same in
+                subst (λ (v : ByUnit.Turn). TurnIs v (turnFor settings t) ys fs ns) (sym on)
+                (subst (λ (i : ℕ). TurnIs (turnOf S (s .rows) base xs es ms i outcome) (turnFor settings t) ys fs ns) u (told-so (t .units) ys fs ns outcome (t .out) c))

@@ -1,0 +1,5 @@
+-- What the contracts cite.
+pub mod Standing
+pub mod OneUnit
+pub mod Taking
+pub mod Reading

@@ -1,0 +1,1 @@
+// One unit: an EOL, a mode code, or a code of a run; and what closes behind it.
