@@ -48,15 +48,53 @@ use Rattle.by_unit.specs.declared.stand.Stand.the-variants.{Between, InL
 use Rattle.by_unit.specs.declared.stand.Kept.{Kept}
 use Rattle.by_unit.specs.declared.stand.Out.{Out}
 use Rattle.by_unit.specs.declared.stand.Out.the-variants.{More}
-use Rattle.by_unit.specs.Standing.{KeptIn, LineIn, Asked, doneFor, nextOf, Closing}
-use Rattle.by_unit.specs.OneUnit.{rulesIn, eolUnitFor, CodeEnds, AfterCodes, AfterRuns, UnitFrom, UnitGives}
+use Rattle.by_unit.specs.Standing.{KeptIn, LineIn, Asked, doneFor, nextOf, Closing, Settles}
+use Rattle.by_unit.specs.OneUnit.{rulesIn, eolUnitFor, CodeEnds, AfterCodes, firstFor, AfterRuns, UnitFrom, UnitGives}
 use Rattle.by_unit.proofs.Parts.{next-inside}
 use Rattle.by_unit.proofs.Units.{Fair, R, rules-same, roomy, eol-comes, mode-comes, runs-come, run-fails, run-goes, ran, fair, run-ends}
 
--- an EOL
-pub eol-gives : (bytes : List ℕ) (settings : DecodeSettings) (xs es ms : List ℕ) (k : Kept) (e : Eols) (seen : ℕ) → UnitFrom bytes settings xs es ms k (Between e) seen
-    → UnitGives bytes settings xs es ms k (Between e) (eolUnitFor bytes settings k e (nextOf bytes settings e)) xs es ms
-eol-gives bytes settings xs es ms k e seen u = eol-comes bytes settings (u .asked) xs es ms k (u .kept) e (u .stand) (λ a q. next-inside bytes settings e a q .1)
+-- ---- By the way a unit takes
+
+module _ (bytes : List ℕ) (settings : DecodeSettings) (es ms : List ℕ) (k : Kept) (seen : ℕ) where
+  -- a code that failed, and one that did not
+  pub code-stopped : (step : Step) (n : ℕ) (l : Line) (place : ℕ) → step ≡ Step.Stop n l place → (r : Out) → r ≡ doneFor n place 0 k (l .changes) → AfterCodes bytes settings es ms k step seen r es ms
+  code-stopped step n l place q r a = subst (λ (t : Step). AfterCodes bytes settings es ms k t seen r es ms) (sym q) (record { answer = a; ends = refl; marks = refl })
+
+  pub code-on : (step : Step) (l : Line) (at : ℕ) → step ≡ Step.On l at → (r : Out) (fs ns : List ℕ) → Settles bytes settings es ms k (InLine l at) seen r fs ns → AfterCodes bytes settings es ms k step seen r fs ns
+  code-on step l at q r fs ns a = subst (λ (t : Step). AfterCodes bytes settings es ms k t seen r fs ns) (sym q) a
+
+  -- the same of a run, by its half
+  module _ (h : Half) (l : Line) (step : Step) where
+    module _ (mode : ℕ) (q : h ≡ First mode) where
+      by-first : (r : Out) → r ≡ firstFor k mode l step seen → AfterRuns bytes settings es ms k h l step seen r es ms
+      by-first r a = subst (λ (x : Half). AfterRuns bytes settings es ms k x l step seen r es ms) (sym q) (record { answer = a; ends = refl; marks = refl })
+
+      pub first-stopped : (n : ℕ) (m : Line) (place : ℕ) → step ≡ Step.Stop n m place → (r : Out) → r ≡ doneFor n place 0 k (m .changes) → AfterRuns bytes settings es ms k h l step seen r es ms
+      first-stopped n m place e r a = by-first r (a ∙ ap (λ (t : Step). firstFor k mode l t seen) (sym e))
+
+      pub first-on : (m : Line) (at : ℕ) → step ≡ Step.On m at
+          → AfterRuns bytes settings es ms k h l step seen (More k (InRun (Second mode (eqb (m .position) (l .position))) m at 0 at) seen) es ms
+      first-on m at e = by-first _ (ap (λ (t : Step). firstFor k mode l t seen) (sym e))
+
+    pub by-second : (mode : ℕ) (blank : Bool) → h ≡ Second mode blank → (t : Step) → t ≡ unlessIdleFor step l mode (blank && settings .exact)
+        → (r : Out) (fs ns : List ℕ) → AfterCodes bytes settings es ms k t seen r fs ns → AfterRuns bytes settings es ms k h l step seen r fs ns
+    by-second mode blank q t e r fs ns a =
+        subst (λ (x : Half). AfterRuns bytes settings es ms k x l step seen r fs ns) (sym q) (subst (λ (t : Step). AfterCodes bytes settings es ms k t seen r fs ns) e a)
+
+module _ (bytes : List ℕ) (settings : DecodeSettings) (xs es ms : List ℕ) (k : Kept) (s : Stand) (seen : ℕ) where
+  -- a unit of a stand that is known
+  pub asks-at : (t : Stand) → s ≡ t → UnitFrom bytes settings xs es ms k s seen → UnitFrom bytes settings xs es ms k t seen
+  asks-at t q u = subst (λ (x : Stand). UnitFrom bytes settings xs es ms k x seen) q u
+
+  pub gives-at : (t : Stand) → s ≡ t → (r : Out) (ys fs ns : List ℕ) → UnitGives bytes settings xs es ms k t r ys fs ns → UnitGives bytes settings xs es ms k s r ys fs ns
+  gives-at t q r ys fs ns g = subst (λ (x : Stand). UnitGives bytes settings xs es ms k x r ys fs ns) (sym q) g
+
+  pub eol-gives : (e : Eols) → s ≡ Between e → UnitFrom bytes settings xs es ms k s seen → (r : Out) → r ≡ eolUnitFor bytes settings k e (nextOf bytes settings e) → UnitGives bytes settings xs es ms k s r xs es ms
+  eol-gives e q u r a =
+      let v = asks-at (Between e) q u in
+      gives-at (Between e) q r xs es ms
+      (subst (λ (x : Out). UnitGives bytes settings xs es ms k (Between e) x xs es ms) (sym a)
+      (eol-comes bytes settings (v .asked) xs es ms k (v .kept) e (v .stand) (λ a q. next-inside bytes settings e a q .1)))
 
 -- a code that may be idle asks no more
 pub idle-ends : (bytes : List ℕ) (k : Kept) (step : Step) (l : Line) (at : ℕ) (b : Bool) → CodeEnds bytes k step → CodeEnds bytes k (unlessIdleFor step l at b)
