@@ -1,8 +1,64 @@
 // The units of a call, counted down.
+use crate::stand;
+use crate::stand::Kept;
 use crate::stand::Out;
+use crate::stand::Stand;
+use crate::unit;
+use rows::DecodeSettings;
+ghost use Rattle.tables.specs.Tables.{Lookups};
+ghost use Rattle.by_unit.specs.Taking.{TakeFrom, Takes};
 
 // Where they have come to, and how many they are.
 pub(crate) struct Taken {
     pub out: Out,
     pub units: usize,
+}
+
+// What can be closed is closed first: a state of the caller's own may stand at a row's end.
+pub(crate) fn take<'a>(
+    white: &'a [u16; 8192],
+    black: &'a [u16; 8192],
+    src: &[u8],
+    settings: DecodeSettings,
+    changes: &mut [u32],
+    ends: &mut [u64],
+    marks: &mut [u8],
+    kept: Kept,
+    stand: Stand,
+    n: usize,
+) -> Taken
+    requires { ⌜ (Lookups (now white) (now black)) × (TakeFrom (now src) settings (now changes) (now ends) (now marks) kept stand) ⌝ }
+    ensures { λ r. ⌜ Takes (now (src .entry)) settings (now (changes .entry)) (now (ends .entry)) (now (marks .entry)) kept stand n r (now (changes .exit)) (now (ends .exit)) (now (marks .exit)) ⌝ }
+{
+    let mut out = stand::settle(src, settings, ends, marks, kept, stand, 0);
+    let mut left = n;
+    while 0 < left {
+        match out {
+            Out::Done(_) => {
+                return Taken {
+                    out,
+                    units: n - left,
+                };
+            }
+            Out::More(next, at, seen) => {
+                out = unit::unit(
+                    white,
+                    black,
+                    src,
+                    settings,
+                    changes,
+                    ends,
+                    marks,
+                    next,
+                    at,
+                    seen,
+                );
+                left -= 1;
+            }
+        }
+    }
+    Taken {
+        out,
+        units: n - left,
+    }
 }
