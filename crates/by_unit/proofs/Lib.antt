@@ -6,4 +6,5 @@ pub mod Parts
 pub mod Slices
 pub mod Taking
 pub mod States
+pub mod Tests
 pub mod Turning
