@@ -9,7 +9,7 @@ use native.Mathlib.Omega.{arith}
 use lib.Dec.{eqb, leb}
 use lib.ListN.{length, take, drop, length-drop}
 use lib.Seq.{length-take-le}
-use borrow.Author.Tests.{leb-true, le-leb, lt-leb}
+use borrow.Author.Tests.{leb-true, ne-eqb}
 use Rattle.rules.specs.Bits.{bitsOf}
 use Rattle.rules.specs.Codes.{Colour, white, black}
 use Rattle.rules.specs.Lines as Lines
@@ -220,6 +220,11 @@ end-number n (inl h) = cases n h
     cases (suc (suc (suc (suc zero)))) h = refl
     cases (suc (suc (suc (suc (suc zero))))) h = refl
     cases (suc (suc (suc (suc (suc (suc n)))))) h = absurd (omega arith)
+
+-- any other
+pub end-other : (n : ℕ) → 5 < n → End.Short ≡ endFrom n
+end-other n h =
+    rw (ne-eqb n 0 (λ e. omega (arith, e)), ne-eqb n 1 (λ e. omega (arith, e)), ne-eqb n 2 (λ e. omega (arith, e)), ne-eqb n 3 (λ e. omega (arith, e)), ne-eqb n 4 (λ e. omega (arith, e)), ne-eqb n 5 (λ e. omega (arith, e)))
 
 pub end-listed : (e : End) → Ending (endNumber e)
 end-listed End.Done = inl (omega arith)

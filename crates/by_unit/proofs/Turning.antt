@@ -12,13 +12,14 @@ use Rattle.rules.specs.Machine.{more, done}
 use Rattle.rules.specs.Bits.{bitsOf}
 use Rattle.rules.specs.Rows.{Settings}
 use Rattle.rules.specs.Pages as Page
-use Rattle.rules.specs.Pages.{mostBytes, tooFew, strictIfExact, joined, endsFrom, placesIn}
-use Rattle.rules.specs.InSteps.{Said, says, saysOnly}
+use Rattle.rules.specs.Pages.{mostBytes, entries, tooFew, strictIfExact, joined, endsFrom, placesIn}
+use Rattle.rules.specs.InSteps.{Said, says, saysOnly, moreToCome}
 use Rattle.rules.specs.Units as Units
 use Rattle.rules.specs.Units.{Going, soFar, call, taken}
 use Rattle.rules.specs.ByUnit as ByUnit
 use Rattle.rules.specs.ByUnit.{endOf, goingOf, sound, savedAt, saidBehind, unlessFewer, readingAfter, opened, ended, overlaidFrom, turnOf, asGroup4, still, readOn, turnOn, turn}
 use Rattle.error.specs.declared.Answer.{Answer}
+use Rattle.error.specs.Error as Error
 use Rattle.rows.specs.declared.DecodeSettings.{DecodeSettings}
 use Rattle.rows.specs.Settings.{settingsOf}
 use Rattle.by_unit.specs.declared.Saved.{Saved}
@@ -27,6 +28,8 @@ use Rattle.by_unit.specs.declared.Counts.{Counts}
 use Rattle.by_unit.specs.declared.Reading.{Reading}
 use Rattle.by_unit.specs.declared.Reading.the-variants.{Open, Ended}
 use Rattle.by_unit.specs.declared.Turn.{Turn}
+use Rattle.by_unit.specs.declared.stand.Stand.{Stand}
+use Rattle.by_unit.specs.declared.stand.Kept.{Kept}
 use Rattle.by_unit.specs.declared.stand.Out.{Out}
 use Rattle.by_unit.specs.declared.stand.Out.the-variants.{More, Done}
 use Rattle.by_unit.specs.declared.take.Taken.{Taken}
@@ -35,32 +38,49 @@ use Rattle.by_unit.specs.Taking.{TakeFrom, Takes}
 use Rattle.by_unit.specs.Reading.{savedOf, endNumber, Ending, saidOf, readingOf, TurnIs, ReadsUnits, TurnsOn, asReadFor, endFrom, answerFor, stillFor, endedFor, unlessFew, looseFor, savedFor, turnOut, turnFor, keptBy, standBy, soundFor}
 use Rattle.by_unit.proofs.States.{sound-is, Good, good, stands-so, kept-in, stand-in, back-so, loose-so, end-number}
 
+-- a page that goes on
+abbrev stillOpen : Answer → ℕ → Saved → Turn
+stillOpen a units v = record { answer = a; units = units; reading = Open v }
+
 module _ (bytes : List ℕ) (settings : DecodeSettings) (xs es ms : List ℕ) where
   abbrev S : Settings
   S = asGroup4 (settingsOf settings)
 
+  -- a refusal of the code's is one of the rules'
+  abbrev Refusal : ℕ → Answer → Type 0
+  Refusal c a = a ≡ Error.answerOf (Page.refusal c)
+
+  -- everything as found
+  as-found : (c : ℕ) (reading : Reading) (t : ByUnit.Turn) → t ≡ still S bytes xs es ms (saysOnly c) (readingOf reading) → (a : Answer) → Refusal c a → (r : Turn) → r ≡ stillFor a reading → TurnIs t r xs es ms
+  unfolding entries
+  as-found c reading t e a q r f =
+      subst (λ (u : Turn). TurnIs t u xs es ms) (sym (f ∙ ap (λ (b : Answer). stillFor b reading) q))
+      (subst (λ (u : ByUnit.Turn). TurnIs u (stillFor (answerOf (saysOnly c)) reading) xs es ms) (sym e)
+      (record { answer = refl; units = refl; reading = refl; changes = refl; ends = refl; marks = refl }))
+
   -- ---- Before any other test
 
-  pub turn-none : (n : ℕ) (reading : Reading) → n ≡ 0 → ReadsUnits bytes settings xs es ms reading n (stillFor (answerOf (saysOnly 10)) reading) xs es ms
+  pub turn-none : (n : ℕ) (reading : Reading) → n ≡ 0 → (a : Answer) → Refusal 10 a → (r : Turn) → r ≡ stillFor a reading → ReadsUnits bytes settings xs es ms reading n r xs es ms
   unfolding turn
-  turn-none n reading e =
-      subst (λ (i : ℕ). ReadsUnits bytes settings xs es ms reading i (stillFor (answerOf (saysOnly 10)) reading) xs es ms) (sym e)
-      (record { answer = refl; units = refl; reading = refl; changes = refl; ends = refl; marks = refl })
+  turn-none n reading e a q r f =
+      subst (λ (i : ℕ). ReadsUnits bytes settings xs es ms reading i r xs es ms) (sym e) (as-found 10 reading (turn S bytes xs es ms 0 (readingOf reading)) refl a q r f)
 
-  module _ (n : ℕ) (some′ : n ≡ 0 → ⊥) where
+  module _ (n : ℕ) (some′ : n ≡ 0 → ⊥) (reading : Reading) where
     -- the end is repeated
-    pub turn-again : (e : End) (c : Counts) → ReadsUnits bytes settings xs es ms (Ended e c) n (stillFor (answerFor e c) (Ended e c)) xs es ms
+    pub turn-again : (e : End) (c : Counts) → reading ≡ Ended e c → (a : Answer) → a ≡ answerFor e c → (r : Turn) → r ≡ stillFor a (Ended e c) → ReadsUnits bytes settings xs es ms reading n r xs es ms
     unfolding turn
-    turn-again e c = cases n some′
+    turn-again e c z a q r f =
+        subst (λ (x : Reading). ReadsUnits bytes settings xs es ms x n r xs es ms) (sym z)
+        (subst (λ (u : Turn). ReadsUnits bytes settings xs es ms (Ended e c) n u xs es ms) (sym (f ∙ ap (λ (b : Answer). stillFor b (Ended e c)) q)) (cases n some′))
       where
         cases : (n : ℕ) → (n ≡ 0 → ⊥) → ReadsUnits bytes settings xs es ms (Ended e c) n (stillFor (answerFor e c) (Ended e c)) xs es ms
         cases zero z = absurd (z refl)
         cases (suc n) z = record { answer = refl; units = refl; reading = refl; changes = refl; ends = refl; marks = refl }
 
     -- or the page goes on to the tests
-    pub turn-opened : (s : Saved) (r : Turn) (ys fs ns : List ℕ) → TurnsOn bytes settings xs es ms s n r ys fs ns → ReadsUnits bytes settings xs es ms (Open s) n r ys fs ns
+    pub turn-opened : (s : Saved) → reading ≡ Open s → (r : Turn) (ys fs ns : List ℕ) → TurnsOn bytes settings xs es ms s n r ys fs ns → ReadsUnits bytes settings xs es ms reading n r ys fs ns
     unfolding turn
-    turn-opened s r ys fs ns t = cases n some′ t
+    turn-opened s z r ys fs ns t = subst (λ (x : Reading). ReadsUnits bytes settings xs es ms x n r ys fs ns) (sym z) (cases n some′ t)
       where
         cases : (n : ℕ) → (n ≡ 0 → ⊥) → TurnsOn bytes settings xs es ms s n r ys fs ns → ReadsUnits bytes settings xs es ms (Open s) n r ys fs ns
         cases zero z t = absurd (z refl)
@@ -69,35 +89,33 @@ module _ (bytes : List ℕ) (settings : DecodeSettings) (xs es ms : List ℕ) wh
   -- ---- The tests
 
   module _ (s : Saved) (n : ℕ) where
-    -- everything as found
-    refused : (c : Said) → TurnIs (still S bytes xs es ms c (opened (savedOf s))) (stillFor (answerOf c) (Open s)) xs es ms
-    refused c = record { answer = refl; units = refl; reading = refl; changes = refl; ends = refl; marks = refl }
+    abbrev here : ByUnit.Turn
+    here = turnOn S bytes xs es ms n (savedOf s)
 
-    pub turn-6 : settings .columns ≡ 4294967295 → TurnsOn bytes settings xs es ms s n (stillFor (answerOf (saysOnly 6)) (Open s)) xs es ms
+    pub turn-6 : settings .columns ≡ 4294967295 → (a : Answer) → Refusal 6 a → (r : Turn) → r ≡ stillFor a (Open s) → TurnsOn bytes settings xs es ms s n r xs es ms
     unfolding turnOn
-    turn-6 e = subst (λ (t : ByUnit.Turn). TurnIs t (stillFor (answerOf (saysOnly 6)) (Open s)) xs es ms) (sym (rw (eq-eqb (settings .columns) 4294967295 e, turnOn))) (refused (saysOnly 6))
+    turn-6 e = as-found 6 (Open s) here (rw (eq-eqb (settings .columns) 4294967295 e, turnOn))
 
     module _ (narrow : settings .columns ≡ 4294967295 → ⊥) where
-      pub turn-7 : mostBytes < length bytes → TurnsOn bytes settings xs es ms s n (stillFor (answerOf (saysOnly 7)) (Open s)) xs es ms
+      pub turn-7 : mostBytes < length bytes → (a : Answer) → Refusal 7 a → (r : Turn) → r ≡ stillFor a (Open s) → TurnsOn bytes settings xs es ms s n r xs es ms
       unfolding turnOn
-      turn-7 h =
-          subst (λ (t : ByUnit.Turn). TurnIs t (stillFor (answerOf (saysOnly 7)) (Open s)) xs es ms)
-          (sym (rw (ne-eqb (settings .columns) 4294967295 narrow, lt-ltb mostBytes (length bytes) h, turnOn))) (refused (saysOnly 7))
+      turn-7 h = as-found 7 (Open s) here (rw (ne-eqb (settings .columns) 4294967295 narrow, lt-ltb mostBytes (length bytes) h, turnOn))
 
       module _ (few : length bytes ≤ mostBytes) where
-        pub turn-8 : soundFor (length bytes) (settings .columns) xs es ms s ≡ false → TurnsOn bytes settings xs es ms s n (stillFor (answerOf (saysOnly 8)) (Open s)) xs es ms
+        pub turn-8 : soundFor (length bytes) (settings .columns) xs es ms s ≡ false → (a : Answer) → Refusal 8 a → (r : Turn) → r ≡ stillFor a (Open s) → TurnsOn bytes settings xs es ms s n r xs es ms
         unfolding turnOn
         turn-8 e =
-            subst (λ (t : ByUnit.Turn). TurnIs t (stillFor (answerOf (saysOnly 8)) (Open s)) xs es ms)
-            (sym (rw (ne-eqb (settings .columns) 4294967295 narrow, le-ltb mostBytes (length bytes) few, sym (sound-is bytes (settings .columns) xs es ms s) ∙ e, turnOn))) (refused (saysOnly 8))
+            as-found 8 (Open s) here
+            (rw (ne-eqb (settings .columns) 4294967295 narrow, le-ltb mostBytes (length bytes) few, sym (sound-is bytes (settings .columns) xs es ms s) ∙ e, turnOn))
 
         module _ (sound′ : soundFor (length bytes) (settings .columns) xs es ms s ≡ true) where
-          pub turn-no-columns : settings .columns ≡ 0 → TurnsOn bytes settings xs es ms s n (endedFor (answerOf (saysOnly 0)) 0) xs es ms
-          unfolding turnOn
-          turn-no-columns z =
-              subst (λ (t : ByUnit.Turn). TurnIs t (endedFor (answerOf (saysOnly 0)) 0) xs es ms)
+          pub turn-no-columns : settings .columns ≡ 0 → (a : Answer) → Refusal 0 a → (r : Turn) → r ≡ endedFor a 0 → TurnsOn bytes settings xs es ms s n r xs es ms
+          unfolding turnOn entries
+          turn-no-columns z a q r f =
+              subst (λ (u : Turn). TurnIs here u xs es ms) (sym (f ∙ ap (λ (b : Answer). endedFor b 0) q))
+              (subst (λ (t : ByUnit.Turn). TurnIs t (endedFor (answerOf (saysOnly 0)) 0) xs es ms)
               (sym (rw (ne-eqb (settings .columns) 4294967295 narrow, le-ltb mostBytes (length bytes) few, sym (sound-is bytes (settings .columns) xs es ms s) ∙ sound′, eq-eqb (settings .columns) 0 z, turnOn)))
-              (record { answer = refl; units = refl; reading = refl; changes = refl; ends = refl; marks = refl })
+              (record { answer = refl; units = refl; reading = refl; changes = refl; ends = refl; marks = refl }))
 
           -- ---- The reading
 
@@ -111,12 +129,25 @@ module _ (bytes : List ℕ) (settings : DecodeSettings) (xs es ms : List ℕ) wh
             asked : Asked bytes (asReadFor settings)
             asked = record { size = few; wide = omega (arith, wide); narrow = omega (arith, narrow, small) }
 
-            pub turn-asks : TakeFrom bytes (asReadFor settings) xs es ms (keptBy es s) (standBy (settings .columns) s (s .phase))
-            turn-asks = record {
-              asked = asked;
-              kept = kept-in bytes (settings .columns) xs es ms s (asReadFor settings) asked refl facts;
-              stand = stand-in bytes (settings .columns) xs es ms s (asReadFor settings) asked refl facts;
-            }
+            -- the code's own words for the settings, the rows kept and the stand
+            module _ (read : DecodeSettings) (read-is : read ≡ asReadFor settings) (k : Kept) (kept-is : k ≡ keptBy es s) (at : Stand) (at-is : at ≡ standBy (settings .columns) s (s .phase)) where
+              pub turn-asks : TakeFrom bytes read xs es ms k at
+              turn-asks =
+                  subst (λ (c : DecodeSettings). TakeFrom bytes c xs es ms k at) (sym read-is)
+                  (subst (λ (c : Kept). TakeFrom bytes (asReadFor settings) xs es ms c at) (sym kept-is)
+                  (subst (λ (c : Stand). TakeFrom bytes (asReadFor settings) xs es ms (keptBy es s) c) (sym at-is)
+                  (record {
+                    asked = asked;
+                    kept = kept-in bytes (settings .columns) xs es ms s (asReadFor settings) asked refl facts;
+                    stand = stand-in bytes (settings .columns) xs es ms s (asReadFor settings) asked refl facts;
+                  })))
+
+              pub turn-took : (t : Taken) (ys fs ns : List ℕ) → Takes bytes read xs es ms k at n t ys fs ns
+                  → Takes bytes (asReadFor settings) xs es ms (keptBy es s) (standBy (settings .columns) s (s .phase)) n t ys fs ns
+              turn-took t ys fs ns c =
+                  subst (λ (c : Stand). Takes bytes (asReadFor settings) xs es ms (keptBy es s) c n t ys fs ns) at-is
+                  (subst (λ (c : Kept). Takes bytes (asReadFor settings) xs es ms c at n t ys fs ns) kept-is
+                  (subst (λ (c : DecodeSettings). Takes bytes c xs es ms k at n t ys fs ns) read-is c))
 
             abbrev places : ℕ
             places = placesIn es ms
@@ -187,12 +218,37 @@ module _ (bytes : List ℕ) (settings : DecodeSettings) (xs es ms : List ℕ) wh
             told-so units ys fs ns (done a) (More k at seen) c = absurd (c .told)
 
             pub turn-reads : (t : Taken) (ys fs ns : List ℕ) → Takes bytes (asReadFor settings) xs es ms (keptBy es s) (standBy (settings .columns) s (s .phase)) n t ys fs ns
-                → TurnsOn bytes settings xs es ms s n (turnFor settings t) ys fs ns
-            turn-reads t ys fs ns k =
+                → (r : Turn) → r ≡ turnFor settings t → TurnsOn bytes settings xs es ms s n r ys fs ns
+            turn-reads t ys fs ns k r f =
                 let same = stands-so bytes (settings .columns) xs es ms s in
                 let c : Comes bytes (settings .columns) (s .rows) base xs es ms outcome (t .out) ys fs ns =
                 subst (λ (g : Going). Comes bytes (settings .columns) (s .rows) base xs es ms (call T (bitsOf bytes) (length xs) places n (more g)) (t .out) ys fs ns) same (k .comes) in
                 let u : t .units ≡ taken T (bitsOf bytes) (length xs) places n (more (goingOf xs es (savedOf s))) =
                 k .units ∙ ap (λ (g : Going). taken T (bitsOf bytes) (length xs) places n (more g)) same in
-                subst (λ (v : ByUnit.Turn). TurnIs v (turnFor settings t) ys fs ns) (sym on)
-                (subst (λ (i : ℕ). TurnIs (turnOf S (s .rows) base xs es ms i outcome) (turnFor settings t) ys fs ns) u (told-so (t .units) ys fs ns outcome (t .out) c))
+                subst (λ (u : Turn). TurnIs here u ys fs ns) (sym f)
+                (subst (λ (v : ByUnit.Turn). TurnIs v (turnFor settings t) ys fs ns) (sym on)
+                (subst (λ (i : ℕ). TurnIs (turnOf S (s .rows) base xs es ms i outcome) (turnFor settings t) ys fs ns) u (told-so (t .units) ys fs ns outcome (t .out) c)))
+
+-- ---- What is said of the units taken
+
+module _ (settings : DecodeSettings) (t : Taken) where
+  pub turn-more : (k : Kept) (s : Stand) (seen : ℕ) → t .out ≡ More k s seen → (loose : ℕ) → loose ≡ looseFor s → (a : Answer) → a ≡ answerOf (says moreToCome 0 0 (k .rows) (k .base) loose)
+      → (v : Saved) → v ≡ savedFor k s → stillOpen a (t .units) v ≡ turnFor settings t
+  turn-more k s seen e loose q a f v g =
+      (λ i. stillOpen ((f ∙ ap (λ (n : ℕ). answerOf (says moreToCome 0 0 (k .rows) (k .base) n)) q) i) (t .units) (g i))
+      ∙ ap (turnOut settings (t .units)) (sym e)
+
+  module _ (a : Answer) (e : t .out ≡ Done a) where
+    by-few : (b : Bool) → b ≡ tooFew (settingsOf settings) (a .number) (a .rows) → (r : Turn)
+        → r ≡ endedFor (cond b (record { number = 14; mark = 0; rows = a .rows; entries = a .entries; loose = a .loose; bytes = 0; place = 0 }) a) (t .units) → r ≡ turnFor settings t
+    by-few b q r f =
+        f
+        ∙ ap (λ (c : Bool). endedFor (cond c (record { number = 14; mark = 0; rows = a .rows; entries = a .entries; loose = a .loose; bytes = 0; place = 0 }) a) (t .units)) q
+        ∙ ap (turnOut settings (t .units)) (sym e)
+
+    pub turn-short : true ≡ tooFew (settingsOf settings) (a .number) (a .rows) → (r : Turn)
+        → r ≡ endedFor (record { number = 14; mark = 0; rows = a .rows; entries = a .entries; loose = a .loose; bytes = 0; place = 0 }) (t .units) → r ≡ turnFor settings t
+    turn-short q r f = by-few true q r f
+
+    pub turn-done : false ≡ tooFew (settingsOf settings) (a .number) (a .rows) → (r : Turn) → r ≡ endedFor a (t .units) → r ≡ turnFor settings t
+    turn-done q r f = by-few false q r f

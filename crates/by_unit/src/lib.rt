@@ -5,7 +5,14 @@ mod state;
 mod take;
 mod unit;
 
+use crate::stand::Out;
+use crate::take::Taken;
 use error::Answer;
+use rows::DecodeSettings;
+use rows::EncodingMode;
+ghost use mathlib.Core.Path.{_≡_};
+ghost use Rattle.rules.specs.ByUnit.{opened, savedStart};
+ghost use Rattle.by_unit.specs.Reading.{readingOf, asReadFor, endFrom, endNumber, answerFor, stillFor, endedFor, turnFor, TurnsOn, ReadsUnits};
 
 // What comes next: an EOL or a line; a mode code; a code of a horizontal code's first run, or of its second.
 pub enum Phase {
@@ -64,4 +71,198 @@ pub struct Turn {
     pub answer: Answer,
     pub units: usize,
     pub reading: Reading,
+}
+
+// Before a page's first call.
+pub fn start() -> Reading
+    ensures { λ r. ⌜ readingOf r ≡ opened savedStart ⌝ }
+{
+    Reading::Open(Saved {
+        phase: Phase::Eols,
+        at: 0,
+        eols: 0,
+        rows: 0,
+        position: 0,
+        black: false,
+        loose: 0,
+        cut: false,
+        run: 0,
+        run_at: 0,
+        mode_at: 0,
+        blank: false,
+    })
+}
+
+// The encoding is not read, and exact implies strict (A12).
+fn as_read(settings: DecodeSettings) -> DecodeSettings
+    ensures { λ r. ⌜ r ≡ asReadFor settings ⌝ }
+{
+    let strict = ccitt::strict_if_exact(settings);
+    DecodeSettings {
+        columns: strict.columns,
+        rows: strict.rows,
+        end_of_block: strict.end_of_block,
+        end_of_line: strict.end_of_line,
+        rows_are_byte_aligned: strict.rows_are_byte_aligned,
+        encoding: EncodingMode::Group4,
+        strict: strict.strict,
+        exact: strict.exact,
+        plain: strict.plain,
+    }
+}
+
+fn end_of(number: u32) -> End
+    ensures { λ r. ⌜ r ≡ endFrom number ⌝ }
+{
+    match number {
+        0 => End::Done,
+        1 => End::InvalidCode,
+        2 => End::UnexpectedEof,
+        3 => End::Overflow,
+        4 => End::NoEntry,
+        5 => End::NoRowEnd,
+        _ => End::Short,
+    }
+}
+
+fn number_of(end: End) -> u32
+    ensures { λ r. ⌜ r ≡ endNumber end ⌝ }
+{
+    match end {
+        End::Done => 0,
+        End::InvalidCode => 1,
+        End::UnexpectedEof => 2,
+        End::Overflow => 3,
+        End::NoEntry => 4,
+        End::NoRowEnd => 5,
+        End::Short => 14,
+    }
+}
+
+// The answer to repeat.
+fn answer_of(end: End, counts: Counts) -> Answer
+    ensures { λ r. ⌜ r ≡ answerFor end counts ⌝ }
+{
+    Answer {
+        number: number_of(end),
+        mark: 0,
+        rows: counts.rows,
+        entries: counts.entries,
+        loose: counts.loose,
+        bytes: counts.bytes,
+        place: counts.place,
+    }
+}
+
+fn still(answer: Answer, reading: Reading) -> Turn
+    ensures { λ r. ⌜ r ≡ stillFor answer reading ⌝ }
+{
+    Turn {
+        answer,
+        units: 0,
+        reading,
+    }
+}
+
+fn ended(answer: Answer, units: usize) -> Turn
+    ensures { λ r. ⌜ r ≡ endedFor answer units ⌝ }
+{
+    let end = end_of(answer.number);
+    let counts = Counts {
+        rows: answer.rows,
+        entries: answer.entries,
+        loose: answer.loose,
+        bytes: answer.bytes,
+        place: answer.place,
+    };
+    Turn {
+        answer,
+        units,
+        reading: Reading::Ended(end, counts),
+    }
+}
+
+// 15 while the page goes on; at its end 14 in place of 0 where an exact page has too few rows (A12).
+fn turn_of(settings: DecodeSettings, taken: Taken) -> Turn
+    ensures { λ r. ⌜ r ≡ turnFor settings taken ⌝ }
+{
+    let out = taken.out;
+    match out {
+        Out::More(kept, at, _) => Turn {
+            answer: stand::said(15, 0, 0, kept, state::loose_of(at)),
+            units: taken.units,
+            reading: Reading::Open(state::saved(kept, at)),
+        },
+        Out::Done(answer) => {
+            if ccitt::is_short(settings, answer.number, answer.rows) {
+                return ended(
+                    Answer {
+                        number: 14,
+                        mark: 0,
+                        rows: answer.rows,
+                        entries: answer.entries,
+                        loose: answer.loose,
+                        bytes: 0,
+                        place: 0,
+                    },
+                    taken.units,
+                );
+            }
+            ended(answer, taken.units)
+        }
+    }
+}
+
+// The lookup tables are made here, once the tests are passed: a constant is built anew wherever it is used.
+fn turn_on(
+    src: &[u8],
+    settings: DecodeSettings,
+    changes: &mut [u32],
+    ends: &mut [u64],
+    marks: &mut [u8],
+    saved: Saved,
+    n: usize,
+) -> Turn
+    ensures { λ r. ⌜ TurnsOn (now (src .entry)) settings (now (changes .entry)) (now (ends .entry)) (now (marks .entry)) saved n r (now (changes .exit)) (now (ends .exit)) (now (marks .exit)) ⌝ }
+{
+    if settings.columns == 4294967295 {
+        return still(error::refusal(6), Reading::Open(saved));
+    }
+    if 4294967296 < src.len() {
+        return still(error::refusal(7), Reading::Open(saved));
+    }
+    if !state::is_sound(src.len(), settings.columns, changes, ends, marks, saved) {
+        return still(error::refusal(8), Reading::Open(saved));
+    }
+    if settings.columns == 0 {
+        return ended(error::refusal(0), 0);
+    }
+    let white = tables::white_lookup();
+    let black = tables::black_lookup();
+    let kept = state::kept(ends, saved);
+    let at = state::stand(settings.columns, saved);
+    let read = as_read(settings);
+    let taken = take::take(&white, &black, src, read, changes, ends, marks, kept, at, n);
+    turn_of(settings, taken)
+}
+
+// At most `n` units. After the end its answer again, whatever else is lent; and 10 where `n` is 0, before any other test.
+pub fn read_units(
+    src: &[u8],
+    settings: DecodeSettings,
+    changes: &mut [u32],
+    ends: &mut [u64],
+    marks: &mut [u8],
+    reading: Reading,
+    n: usize,
+) -> Turn
+    ensures { λ r. ⌜ ReadsUnits (now (src .entry)) settings (now (changes .entry)) (now (ends .entry)) (now (marks .entry)) reading n r (now (changes .exit)) (now (ends .exit)) (now (marks .exit)) ⌝ }
+{
+    if n == 0 {
+        return still(error::refusal(10), reading);
+    }
+    match reading {
+        Reading::Ended(end, counts) => still(answer_of(end, counts), Reading::Ended(end, counts)),
+        Reading::Open(saved) => turn_on(src, settings, changes, ends, marks, saved, n),
+    }
 }
