@@ -10,9 +10,9 @@ use native.Mathlib.Omega.{arith}
 use lib.Dec.{eqb, ltb}
 use lib.ListN.{length, take, drop, set, length-drop, length-set}
 use lib.Seq.{length-take-le}
-use borrow.Author.Tests.{ltb-true, eqb-true, eqb-false}
+use borrow.Author.Tests.{ltb-true, eqb-false}
 use Rattle.rules.specs.Machine as Rule
-use Rattle.rules.specs.Machine.{more, done}
+use Rattle.rules.specs.Machine.{more}
 use Rattle.rules.specs.Bits.{bitsOf}
 use Rattle.rules.specs.Lines.{newLine, rightOfA0}
 use Rattle.rules.specs.Lines as Lines
@@ -22,8 +22,8 @@ use Rattle.rules.specs.Rows.{Settings, readMark, bytesTo, alignedIf}
 use Rattle.rules.specs.Group4.{over}
 use Rattle.rules.specs.Pages as Page
 use Rattle.rules.specs.Pages.{entries, joined, endsFrom, placesIn}
-use Rattle.rules.specs.InSteps.{Said, says}
-use Rattle.rules.specs.Units.{between, inLine, inRun, Keeping, Going, going, soFar, nextEol, lineOrOver, overAt, eolOrLine, betweenRows, keeps, closeRow, broken, settle, anew}
+use Rattle.rules.specs.InSteps.{says}
+use Rattle.rules.specs.Units.{between, inLine, Keeping, Going, going, soFar, nextEol, lineOrOver, overAt, eolOrLine, betweenRows, keeps, closeRow, broken, settle}
 use Rattle.rules.specs.ByUnit.{part, saidBehind, overlaidFrom}
 use Rattle.rules.proofs.Ascending.{Rising, rises-wider}
 use Rattle.rules.proofs.Ascending as Rising
@@ -33,7 +33,7 @@ use Rattle.error.specs.declared.Answer.{Answer}
 use Rattle.codes.specs.declared.eol.Eols.{Eols}
 use Rattle.codes.specs.Eols.{eolsOf}
 use Rattle.context.specs.declared.line.Line.{Line}
-use Rattle.context.specs.State.{lineAt, newFor, Holds, flagOf}
+use Rattle.context.specs.State.{lineAt, newFor, flagOf}
 use Rattle.context.proofs.Search.{passed-none}
 use Rattle.rows.specs.declared.DecodeSettings.{DecodeSettings}
 use Rattle.rows.specs.Settings.{settingsOf}
@@ -41,8 +41,8 @@ use Rattle.by_unit.specs.declared.stand.Stand.{Stand}
 use Rattle.by_unit.specs.declared.stand.Stand.the-variants.{Between, InLine, InRun}
 use Rattle.by_unit.specs.declared.stand.Kept.{Kept}
 use Rattle.by_unit.specs.declared.stand.Out.{Out}
-use Rattle.by_unit.specs.declared.stand.Out.the-variants.{More, Done}
-use Rattle.by_unit.specs.Standing.{keepingOf, goingAt, KeptIn, LineIn, StandIn, Settled, Asked, answerOf, Leaves, Stands, EndsSo, Told, Comes, nextOf, overFor, doneFor, lineOrOverFor, eolOrLineFor, betweenFor, keptFor, eolsAt, closeFor, putIf, Closes, Stays, SettlesLine, Settles}
+use Rattle.by_unit.specs.declared.stand.Out.the-variants.{More}
+use Rattle.by_unit.specs.Standing.{keepingOf, goingAt, KeptIn, LineIn, StandIn, Asked, answerOf, Leaves, Told, Comes, nextOf, overFor, doneFor, lineOrOverFor, eolOrLineFor, betweenFor, keptFor, eolsAt, closeFor, putIf, Closes, SettlesLine, Settles}
 use Rattle.by_unit.proofs.Leaves.{from-none, from-same, from-one, Behind}
 
 -- a keeping without its own rows

@@ -1,5 +1,5 @@
 -- The lent arrays: what one outcome leaves there, and then another one behind it. Assumes nothing.
-use mathlib.Core.Path.{_≡_, refl, sym, ap, ap₂, _∙_, subst}
+use mathlib.Core.Path.{_≡_, refl, sym, ap, ap₂, _∙_}
 use mathlib.Core.List.{List, [], _∷_, _++_, append-assoc, append-nil}
 use Prim.Native.Nat.{ℕ, suc, _+_, _≤_, _<_}
 use native.Mathlib.Omega.{arith}
@@ -7,9 +7,9 @@ use lib.ListN.{length, take, drop, set, length-append, length-drop, take-append-
 use lib.Seq.{length-take-le, take-append-add, drop-append-add, take-at, drop-at, set-split, drop-drop}
 use Rattle.rules.specs.Machine.{Out, more, done}
 use Rattle.rules.specs.Pages.{Answer, entries, overlaid, joined, endsFrom}
-use Rattle.rules.specs.Units.{Stand, Keeping, Going, soFar, looseOf, answerBehind, outBehind}
+use Rattle.rules.specs.Units.{Keeping, Going, soFar, looseOf, answerBehind, outBehind}
 use Rattle.rules.specs.ByUnit.{overlaidFrom}
-use Rattle.rules.proofs.Store.{length-joined, length-ends, length-overlaid, overlaid-behind, joined-append, ends-append}
+use Rattle.rules.proofs.Store.{length-joined, length-ends, length-overlaid, joined-append, ends-append}
 use Rattle.rules.proofs.ByUnit.{overlaid-longer}
 use Rattle.by_unit.specs.Standing.{Leaves}
 

@@ -3,7 +3,7 @@ use mathlib.Core.Path.{_≡_, refl, sym, ap, _∙_, subst}
 use mathlib.Core.Bool.{Bool, true, false, cond}
 use mathlib.Core.List.{List}
 use mathlib.Core.Option.{Option, none, some}
-use Prim.Native.Nat.{ℕ, zero, suc, _+_, _*_, _/_, _≤_, _<_, min}
+use Prim.Native.Nat.{ℕ, suc, _+_, _*_, _/_, _≤_, _<_}
 use native.Mathlib.Nat.{min-le-left, min-le-right}
 use native.Mathlib.Omega.{arith}
 use lib.Dec.{eqb, ltb}
@@ -14,7 +14,6 @@ use Rattle.rules.specs.Eols as Eol
 use Rattle.rules.specs.Eols.{zeroRun, eolAfter, eolsTo, readEols}
 use Rattle.rules.specs.Rows.{bytesTo, alignedIf}
 use Rattle.rules.specs.Pages.{mostBytes, placesIn}
-use Rattle.rules.specs.InSteps.{says}
 use Rattle.rules.proofs.Bits.{length-bitsOf}
 use Rattle.rules.proofs.Budget.{whole-bytes, aligned-ahead}
 use Rattle.rules.proofs.Eols.{eol-inside}
@@ -29,10 +28,10 @@ use Rattle.by_unit.specs.declared.stand.Stand.{Stand}
 use Rattle.by_unit.specs.declared.stand.Stand.the-variants.{Between, InLine, InRun}
 use Rattle.by_unit.specs.declared.stand.Kept.{Kept}
 use Rattle.by_unit.specs.declared.stand.Out.{Out}
-use Rattle.by_unit.specs.declared.stand.Out.the-variants.{More, Done}
+use Rattle.by_unit.specs.declared.stand.Out.the-variants.{More}
 use Rattle.by_unit.specs.declared.stand.NextEol.{NextEol}
 use Rattle.by_unit.specs.declared.stand.NextEol.the-variants.{After, Nothing}
-use Rattle.by_unit.specs.Standing.{answerOf, mostEols, eolOf, nextOf, overFor, doneFor, lineOrOverFor, eolOrLineFor, betweenFor, keptFor, eolsAt, closeFor, putIf, Closes, Stays, SettlesLine, Settles}
+use Rattle.by_unit.specs.Standing.{mostEols, eolOf, nextOf, overFor, doneFor, lineOrOverFor, eolOrLineFor, betweenFor, keptFor, eolsAt, closeFor, putIf, Closes, SettlesLine, Settles}
 use Rattle.by_unit.specs.OneUnit.{eolUnitFor}
 
 -- ---- The next EOL

@@ -2,15 +2,14 @@
 use mathlib.Core.Path.{_≡_, refl, sym, ap, _∙_, subst}
 use mathlib.Core.Bool.{Bool, true, false, cond, _&&_}
 use mathlib.Core.List.{List, _++_}
-use Prim.Native.Nat.{ℕ, _+_, _-_, _*_, _≤_, _<_}
+use Prim.Native.Nat.{ℕ, _-_, _≤_, _<_}
 use native.Mathlib.Omega.{arith}
 use lib.Dec.{eqb}
-use lib.ListN.{length, take, drop, length-drop, take-append-drop}
+use lib.ListN.{length, take, drop, take-append-drop}
 use borrow.Rule.Slice.PartMut.{midOf, putMid}
-use Rattle.rules.specs.Machine as Rule
 use Rattle.rules.specs.Machine.{more, done}
 use Rattle.rules.specs.Bits.{bitsOf}
-use Rattle.rules.specs.Runs.{Res, ok, fault, Sum, sum, runStep}
+use Rattle.rules.specs.Runs.{ok, sum, runStep}
 use Rattle.rules.specs.Lines as Lines
 use Rattle.rules.specs.Lines.{Rules, Went, went, failed, afterRun, code2D, two}
 use Rattle.rules.specs.Pages.{placesIn}
@@ -19,7 +18,7 @@ use Rattle.rules.proofs.Ascending.{Rising}
 use Rattle.rules.proofs.Bits.{length-bitsOf}
 use Rattle.rules.proofs.Grows.{Grows, GrowsTo, code2D-grows, afterRun-grows}
 use Rattle.rules.proofs.Lines.{moves}
-use Rattle.tables.specs.Tables.{colourOf, Lookups}
+use Rattle.tables.specs.Tables.{colourOf}
 use Rattle.error.specs.Error.{numberOf}
 use Rattle.error.specs.declared.DecodeError.{DecodeError}
 use Rattle.codes.specs.declared.eol.Eols.{Eols}
@@ -28,7 +27,6 @@ use Rattle.codes.specs.declared.run.Code.the-variants as Code
 use Rattle.codes.specs.Runs.{codeOf}
 use Rattle.context.specs.declared.line.Line.{Line}
 use Rattle.context.specs.declared.reference.Found.{Found}
-use Rattle.context.specs.declared.step.Rules as Source
 use Rattle.context.specs.declared.step.Step.{Step}
 use Rattle.context.specs.declared.step.Step.the-variants as Step
 use Rattle.context.specs.declared.once.OneCode.{OneCode}
@@ -48,7 +46,7 @@ use Rattle.by_unit.specs.declared.stand.Stand.the-variants.{Between, InL
 use Rattle.by_unit.specs.declared.stand.Kept.{Kept}
 use Rattle.by_unit.specs.declared.stand.Out.{Out}
 use Rattle.by_unit.specs.declared.stand.Out.the-variants.{More}
-use Rattle.by_unit.specs.Standing.{KeptIn, LineIn, Asked, doneFor, nextOf, Closing, Settles}
+use Rattle.by_unit.specs.Standing.{KeptIn, LineIn, Asked, doneFor, nextOf, Settles}
 use Rattle.by_unit.specs.OneUnit.{rulesIn, eolUnitFor, CodeEnds, AfterCodes, firstFor, AfterRuns, UnitFrom, UnitGives}
 use Rattle.by_unit.proofs.Parts.{next-inside}
 use Rattle.by_unit.proofs.Units.{Fair, R, rules-same, roomy, eol-comes, mode-comes, runs-come, run-fails, run-goes, ran, fair, run-ends}

@@ -1,12 +1,12 @@
 -- The state that a caller holds: its tests are those of the rules; a reading with a state that passed them stands where the rules say, and is handed back as
 -- they say; and no two states stand for the same state of the rules. Assumes nothing.
-use mathlib.Core.Path.{_≡_, refl, sym, ap, ap₂, _∙_, subst}
+use mathlib.Core.Path.{_≡_, refl, sym, ap, _∙_, subst}
 use mathlib.Core.Logic.{inl, inr}
-use mathlib.Core.Bool.{Bool, true, false, cond, _&&_, true≢false}
+use mathlib.Core.Bool.{Bool, true, false, _&&_}
 use mathlib.Core.List.{List, []}
 use Prim.Native.Nat.{ℕ, zero, suc, _+_, _-_, _*_, _≤_, _<_}
 use native.Mathlib.Omega.{arith}
-use lib.Dec.{eqb, leb}
+use lib.Dec.{leb}
 use lib.ListN.{length, take, drop, length-drop}
 use lib.Seq.{length-take-le}
 use borrow.Author.Tests.{leb-true, ne-eqb}
@@ -15,8 +15,7 @@ use Rattle.rules.specs.Codes.{Colour, white, black}
 use Rattle.rules.specs.Lines as Lines
 use Rattle.rules.specs.Lines.{rightOfA0}
 use Rattle.rules.specs.Runs.{sum}
-use Rattle.rules.specs.Pages.{mostBytes, ascends, placesIn}
-use Rattle.rules.specs.InSteps.{Said, says}
+use Rattle.rules.specs.Pages.{ascends, placesIn}
 use Rattle.rules.specs.Units as Units
 use Rattle.rules.specs.Units.{going}
 use Rattle.rules.specs.ByUnit as Rule
@@ -34,16 +33,14 @@ use Rattle.by_unit.specs.declared.Phase.the-variants as Phase
 use Rattle.by_unit.specs.declared.Saved.{Saved}
 use Rattle.by_unit.specs.declared.End.{End}
 use Rattle.by_unit.specs.declared.End.the-variants as End
-use Rattle.by_unit.specs.declared.Counts.{Counts}
 use Rattle.by_unit.specs.declared.Reading.{Reading}
 use Rattle.by_unit.specs.declared.Reading.the-variants.{Open, Ended}
-use Rattle.by_unit.specs.declared.stand.Half.{Half}
 use Rattle.by_unit.specs.declared.stand.Half.the-variants.{First, Second}
 use Rattle.by_unit.specs.declared.stand.Stand.{Stand}
 use Rattle.by_unit.specs.declared.stand.Stand.the-variants.{Between, InLine, InRun}
 use Rattle.by_unit.specs.declared.stand.Kept.{Kept}
 use Rattle.by_unit.specs.Standing.{standOf, goingAt, KeptIn, LineIn, StandIn, Asked}
-use Rattle.by_unit.specs.Reading.{phaseOf, blackIf, savedOf, endNumber, Ending, saidOf, readingOf, endFrom, looseFor, savedFor, keptBy, lineBy, standBy, bitsFor, countsFor, rowsFor, soundFor}
+use Rattle.by_unit.specs.Reading.{phaseOf, blackIf, savedOf, endNumber, Ending, readingOf, endFrom, looseFor, savedFor, keptBy, lineBy, standBy, bitsFor, countsFor, soundFor}
 
 -- ---- The tests
 

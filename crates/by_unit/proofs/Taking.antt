@@ -1,9 +1,8 @@
 -- The units of a call, one after the other: what holds before each, and that together they are the rules' `call`. Assumes nothing.
-use mathlib.Core.Path.{_≡_, refl, sym, ap, ap₂, _∙_, subst}
+use mathlib.Core.Path.{_≡_, sym, ap₂, _∙_, subst}
 use mathlib.Core.List.{List, [], _∷_, _++_, append-nil}
 use mathlib.Core.Bool.{Bool}
-use Prim.Native.Nat.{ℕ, zero, suc, _+_, _-_, _≤_, _<_, min}
-use native.Mathlib.Nat.{min-le-left, min-le-right}
+use Prim.Native.Nat.{ℕ, _+_, _-_, _≤_, _<_, min}
 use native.Mathlib.Omega.{arith}
 use lib.ListN.{length, length-append, length-drop}
 use Rattle.rules.specs.Machine as Rule
@@ -13,8 +12,7 @@ use Rattle.rules.specs.Rows.{Settings}
 use Rattle.rules.specs.Pages as Page
 use Rattle.rules.specs.Pages.{entries, placesIn}
 use Rattle.rules.specs.InSteps.{says}
-use Rattle.rules.specs.Units.{Keeping, Going, going, soFar, looseOf, keeps, settle, unit, call, taken, answerBehind, outBehind, anew}
-use Rattle.rules.specs.ByUnit.{saidBehind}
+use Rattle.rules.specs.Units.{Keeping, Going, going, soFar, looseOf, keeps, settle, unit, call, taken, outBehind, anew}
 use Rattle.rules.proofs.PageBack.{entries-snoc}
 use Rattle.rules.proofs.Store.{entries-append}
 use Rattle.rules.proofs.Paced.{Steps, here, there, steps-add, steps-run, steps-over}
@@ -28,8 +26,7 @@ use Rattle.by_unit.specs.declared.stand.Stand.the-variants.{Between, InL
 use Rattle.by_unit.specs.declared.stand.Kept.{Kept}
 use Rattle.by_unit.specs.declared.stand.Out.{Out}
 use Rattle.by_unit.specs.declared.stand.Out.the-variants.{More, Done}
-use Rattle.by_unit.specs.declared.take.Taken.{Taken}
-use Rattle.by_unit.specs.Standing.{keepingOf, goingAt, KeptIn, StandIn, Settled, Asked, answerOf, Leaves, Stands, Told, Comes, Settling, Settles}
+use Rattle.by_unit.specs.Standing.{keepingOf, goingAt, KeptIn, StandIn, Asked, answerOf, Leaves, Told, Comes, Settling, Settles}
 use Rattle.by_unit.specs.OneUnit.{UnitFrom, UnitGives}
 use Rattle.by_unit.specs.Taking.{TakeFrom, Takes}
 use Rattle.by_unit.proofs.Leaves.{Behind, leaves-then}

@@ -1,9 +1,9 @@
 -- A call, by the way it takes: what the code says, hands back and leaves is what the rules' `turn` says. Assumes nothing.
 use mathlib.Core.Path.{_≡_, refl, sym, ap, _∙_, subst}
 use mathlib.Core.Logic.{inl, inr}
-use mathlib.Core.Bool.{Bool, true, false, cond, _&&_, and-false}
-use mathlib.Core.List.{List, _++_}
-use Prim.Native.Nat.{ℕ, zero, suc, _+_, _-_, _*_, _≤_, _<_}
+use mathlib.Core.Bool.{Bool, true, false, cond, and-false}
+use mathlib.Core.List.{List}
+use Prim.Native.Nat.{ℕ, zero, suc, _≤_, _<_}
 use native.Mathlib.Omega.{arith}
 use lib.ListN.{length}
 use borrow.Author.Tests.{eq-eqb, ne-eqb, lt-ltb, le-ltb}
@@ -12,12 +12,12 @@ use Rattle.rules.specs.Machine.{more, done}
 use Rattle.rules.specs.Bits.{bitsOf}
 use Rattle.rules.specs.Rows.{Settings}
 use Rattle.rules.specs.Pages as Page
-use Rattle.rules.specs.Pages.{mostBytes, entries, tooFew, strictIfExact, joined, endsFrom, placesIn}
+use Rattle.rules.specs.Pages.{mostBytes, entries, tooFew, strictIfExact, placesIn}
 use Rattle.rules.specs.InSteps.{Said, says, saysOnly, moreToCome}
 use Rattle.rules.specs.Units as Units
-use Rattle.rules.specs.Units.{Going, soFar, call, taken}
+use Rattle.rules.specs.Units.{Going, call, taken}
 use Rattle.rules.specs.ByUnit as ByUnit
-use Rattle.rules.specs.ByUnit.{endOf, goingOf, sound, savedAt, saidBehind, unlessFewer, readingAfter, opened, ended, overlaidFrom, turnOf, asGroup4, still, readOn, turnOn, turn}
+use Rattle.rules.specs.ByUnit.{endOf, goingOf, savedAt, saidBehind, unlessFewer, opened, ended, turnOf, asGroup4, still, readOn, turnOn, turn}
 use Rattle.error.specs.declared.Answer.{Answer}
 use Rattle.error.specs.Error as Error
 use Rattle.rows.specs.declared.DecodeSettings.{DecodeSettings}
@@ -33,9 +33,9 @@ use Rattle.by_unit.specs.declared.stand.Kept.{Kept}
 use Rattle.by_unit.specs.declared.stand.Out.{Out}
 use Rattle.by_unit.specs.declared.stand.Out.the-variants.{More, Done}
 use Rattle.by_unit.specs.declared.take.Taken.{Taken}
-use Rattle.by_unit.specs.Standing.{goingAt, Asked, answerOf, Told, Comes}
+use Rattle.by_unit.specs.Standing.{Asked, answerOf, Comes}
 use Rattle.by_unit.specs.Taking.{TakeFrom, Takes}
-use Rattle.by_unit.specs.Reading.{savedOf, endNumber, Ending, saidOf, readingOf, TurnIs, ReadsUnits, TurnsOn, asReadFor, endFrom, answerFor, stillFor, endedFor, unlessFew, looseFor, savedFor, turnOut, turnFor, keptBy, standBy, soundFor}
+use Rattle.by_unit.specs.Reading.{savedOf, Ending, readingOf, TurnIs, ReadsUnits, TurnsOn, asReadFor, answerFor, stillFor, endedFor, unlessFew, looseFor, savedFor, turnOut, turnFor, keptBy, standBy, soundFor}
 use Rattle.by_unit.proofs.States.{sound-is, Good, good, stands-so, kept-in, stand-in, back-so, loose-so, end-number}
 
 -- a page that goes on

@@ -1,15 +1,15 @@
 -- One unit: an EOL, a mode code, or a code of a run, and what the code makes of the page behind it. Assumes nothing.
-use mathlib.Core.Path.{_≡_, refl, sym, ap, ap₂, _∙_, subst}
+use mathlib.Core.Path.{_≡_, refl, sym, ap, _∙_, subst}
 use mathlib.Core.Bool.{Bool, true, false, cond, _&&_}
-use mathlib.Core.List.{List, [], _∷_, _++_}
+use mathlib.Core.List.{List, [], _++_}
 use mathlib.Core.Option.{Option, some}
 use mathlib.Core.Option as Option
-use Prim.Native.Nat.{ℕ, suc, _+_, _-_, _*_, _≤_, _<_}
+use Prim.Native.Nat.{ℕ, _+_, _*_, _≤_, _<_}
 use native.Mathlib.Numerals.{add-one}
 use native.Mathlib.Omega.{arith}
-use lib.Dec.{eqb, ltb}
+use lib.Dec.{eqb}
 use lib.ListN.{length, take, drop, length-drop}
-use lib.Seq.{length-take-le, take-at}
+use lib.Seq.{length-take-le}
 use borrow.Author.Tests.{eqb-true}
 use Rattle.rules.specs.Machine as Rule
 use Rattle.rules.specs.Machine.{more, done}
@@ -17,19 +17,17 @@ use Rattle.rules.specs.Bits.{bitsOf}
 use Rattle.rules.specs.Runs.{Res, ok, fault, Sum, sum, runStep}
 use Rattle.rules.specs.Modes.{Mode, pass, horizontal, VR, VL, Moded, moded, readMode}
 use Rattle.rules.specs.Lines as Lines
-use Rattle.rules.specs.Lines.{Rules, Went, went, failed, turned, movedTo, push, pushTurn, afterRun, rightOfA0, unmoved, afterMode, code2D, two}
-use Rattle.rules.specs.Eols as Eol
+use Rattle.rules.specs.Lines.{Rules, Went, went, failed, turned, movedTo, push, afterRun, rightOfA0, afterMode, code2D, two}
 use Rattle.rules.specs.Eols.{eolsTo}
 use Rattle.rules.specs.Rows.{Settings}
 use Rattle.rules.specs.Pages as Page
 use Rattle.rules.specs.Pages.{entries, joined, endsFrom, overlaid, placesIn}
-use Rattle.rules.specs.InSteps.{says}
 use Rattle.rules.specs.Units as Units
-use Rattle.rules.specs.Units.{between, inLine, inRun, Keeping, Going, going, soFar, looseOf, rulesAt, broken, nextEol, settle, afterCode, modeUnit, unlessUnmoved, afterHalf, runUnit, eolUnit, unit, outBehind}
+use Rattle.rules.specs.Units.{between, inLine, inRun, Keeping, Going, going, rulesAt, broken, settle, afterCode, modeUnit, unlessUnmoved, afterHalf, runUnit, eolUnit, unit, outBehind}
 use Rattle.rules.specs.ByUnit.{part, overlaidFrom}
 use Rattle.rules.proofs.Ascending.{Rising}
 use Rattle.rules.proofs.Bits.{length-bitsOf}
-use Rattle.rules.proofs.Grows.{lineIn, Grows, GrowsTo, grows-here, afterRun-grows, code2D-grows}
+use Rattle.rules.proofs.Grows.{Grows, GrowsTo, grows-here, afterRun-grows, code2D-grows}
 use Rattle.rules.proofs.Lines.{Each, Pushes, PushFails, push-pushes, data-bound, Coded, code-coded}
 use Rattle.rules.proofs.Modes.{ModeAt, mode-at}
 use Rattle.rules.proofs.Runs.{run-cases}
@@ -40,27 +38,26 @@ use Rattle.codes.specs.Eols.{eolsOf}
 use Rattle.context.specs.declared.line.Line.{Line}
 use Rattle.context.specs.declared.step.Step.{Step}
 use Rattle.context.specs.declared.step.Step.the-variants as Step
-use Rattle.context.specs.State.{lineAt, lineFor, rulesFor, changesOf, Holds, colourNumber, flagNumber}
+use Rattle.context.specs.State.{lineAt, lineFor, rulesFor, changesOf}
 use Rattle.context.specs.Outcome.{stepFor, Steps}
 use Rattle.context.specs.Reference.{Passed}
 use Rattle.context.specs.Coding.{unlessIdleFor}
 use Rattle.context.specs.OneCode.{RunsAt, RunEnded}
 use Rattle.context.specs.declared.two.Reference.the-variants as Reference
 use Rattle.context.proofs.State.{line-for}
-use Rattle.context.proofs.Carried.{Carries, carries-new, carries-holds, carries-line, carries-on, step-on, step-stop, push-at}
+use Rattle.context.proofs.Carried.{Carries, carries-new, carries-holds, carries-line}
 use Rattle.context.proofs.RowPart.{reference-same}
 use Rattle.context.proofs.Search.{right-grows, passed-on}
 use Rattle.rows.specs.declared.DecodeSettings.{DecodeSettings}
 use Rattle.rows.specs.Settings.{settingsOf}
 use Rattle.by_unit.specs.declared.stand.Half.{Half}
 use Rattle.by_unit.specs.declared.stand.Half.the-variants.{First, Second}
-use Rattle.by_unit.specs.declared.stand.Stand.{Stand}
-use Rattle.by_unit.specs.declared.stand.Stand.the-variants.{Between, InLine, InRun}
+use Rattle.by_unit.specs.declared.stand.Stand.the-variants.{InLine, InRun}
 use Rattle.by_unit.specs.declared.stand.Kept.{Kept}
 use Rattle.by_unit.specs.declared.stand.Out.{Out}
-use Rattle.by_unit.specs.declared.stand.Out.the-variants.{More, Done}
-use Rattle.by_unit.specs.Standing.{halfOf, keepingOf, goingAt, KeptIn, LineIn, StandIn, Settled, Asked, answerOf, Leaves, Told, Comes, nextOf, doneFor, betweenFor, eolsAt, Stays, Settles}
-use Rattle.by_unit.specs.OneUnit.{rulesIn, eolUnitFor, AfterCodes, firstFor, AfterRuns, UnitFrom, UnitGives}
+use Rattle.by_unit.specs.declared.stand.Out.the-variants.{More}
+use Rattle.by_unit.specs.Standing.{halfOf, keepingOf, goingAt, KeptIn, LineIn, Asked, Leaves, Comes, nextOf, doneFor, betweenFor, eolsAt, Stays, Settles}
+use Rattle.by_unit.specs.OneUnit.{rulesIn, eolUnitFor, AfterCodes, firstFor, AfterRuns}
 use Rattle.by_unit.proofs.Leaves.{from-front, from-row, from-length, from-none, Behind, leaves-then}
 use Rattle.by_unit.proofs.Closing.{said-behind, none-behind, placed-ends, placed-marks, between-comes, sized, as-left, settles}
 

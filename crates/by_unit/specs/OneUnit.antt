@@ -1,6 +1,5 @@
 -- One unit and what closes behind it: what the code asks, and that it comes to what the rules' `unit` does.
-use mathlib.Core.Path.{_≡_}
-use mathlib.Core.Bool.{Bool, _&&_}
+use mathlib.Core.Bool.{_&&_}
 use mathlib.Core.List.{List}
 use mathlib.Core.Option.{Option, none, some}
 use Prim.Native.Nat.{ℕ, _+_}
@@ -9,7 +8,6 @@ use lib.ListN.{length}
 use Rattle.rules.specs.Bits.{bitsOf}
 use Rattle.rules.specs.Pages.{placesIn}
 use Rattle.rules.specs.Units as Units
-use Rattle.tables.specs.Tables.{Lookups}
 use Rattle.codes.specs.declared.eol.Eols.{Eols}
 use Rattle.context.specs.declared.line.Line.{Line}
 use Rattle.context.specs.declared.step.Rules.{Rules}

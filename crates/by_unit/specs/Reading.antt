@@ -28,7 +28,6 @@ use Rattle.by_unit.specs.declared.Reading.{Reading}
 use Rattle.by_unit.specs.declared.Reading.the-variants.{Open, Ended}
 use Rattle.by_unit.specs.declared.Turn.{Turn}
 use Rattle.by_unit.specs.declared.stand.Half.the-variants.{First, Second}
-use Rattle.by_unit.specs.declared.stand.Half.{Half}
 use Rattle.by_unit.specs.declared.stand.Stand.{Stand}
 use Rattle.by_unit.specs.declared.stand.Stand.the-variants.{Between, InLine, InRun}
 use Rattle.by_unit.specs.declared.stand.Kept.{Kept}

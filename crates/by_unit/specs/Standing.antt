@@ -1,6 +1,6 @@
 -- Where a reading stands inside a call, the reading of the rules that it stands for in the lent arrays, and what closing a row or the page makes of it.
 use mathlib.Core.Path.{_≡_}
-use mathlib.Core.Bool.{Bool, true, false, cond, _&&_}
+use mathlib.Core.Bool.{Bool, true, false, cond}
 use mathlib.Core.List.{List, [], _++_}
 use mathlib.Core.Option.{Option, none, some}
 use Prim.Native.Nat.{ℕ, _+_, _*_, _≤_, _<_}
@@ -11,7 +11,6 @@ use Rattle.rules.specs.Machine.{more, done}
 use Rattle.rules.specs.Bits.{bitsOf}
 use Rattle.rules.specs.Runs.{sum}
 use Rattle.rules.specs.Lines.{rightOfA0}
-use Rattle.rules.specs.Eols.{eolsTo}
 use Rattle.rules.specs.Rows.{bytesTo, alignedIf}
 use Rattle.rules.specs.Group4.{over}
 use Rattle.rules.specs.Pages as Page

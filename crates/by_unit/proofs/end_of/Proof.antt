@@ -2,7 +2,6 @@ use mathlib.Core.Path.{_≡_, ap}
 use native.Mathlib.Omega.{arith}
 use Rattle.by_unit.specs.Reading.{endFrom}
 use Rattle.by_unit.proofs.States.{end-other}
-use borrow.Author.Needs.{needs}
 use Rattle.by_unit.proofs.end_of.Statement.{statement}
 use Rattle.by_unit.proofs.end_of.Tie as tie
 

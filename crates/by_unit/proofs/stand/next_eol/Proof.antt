@@ -1,5 +1,4 @@
 use denote.Ref.{now}
-use mathlib.Core.Path.{subst}
 use Rattle.by_unit.proofs.Parts.{next-none, next-nothing, next-after}
 use borrow.Author.Needs.{needs}
 use Rattle.by_unit.proofs.stand.next_eol.Statement.{statement}

@@ -1,6 +1,5 @@
 use mathlib.Core.Path.{_∙_}
 use Rattle.by_unit.proofs.Tests.{over, within}
-use borrow.Author.Needs.{needs}
 use Rattle.by_unit.proofs.state.are_bits.Statement.{statement}
 use Rattle.by_unit.proofs.state.are_bits.Tie as tie
 

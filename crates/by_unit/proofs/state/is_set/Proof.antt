@@ -1,5 +1,4 @@
 use Rattle.by_unit.proofs.Tests.{set-is}
-use borrow.Author.Needs.{needs}
 use Rattle.by_unit.proofs.state.is_set.Statement.{statement}
 use Rattle.by_unit.proofs.state.is_set.Tie as tie
 
