@@ -4,7 +4,8 @@ use error::DecodeError;
 ghost use mathlib.Core.Path.{_≡_};
 ghost use mathlib.Core.Bool.{cond};
 ghost use Prim.Native.Nat.{_-_, _*_, _≤_};
-ghost use Rattle.rules.specs.Bits.{bit, bitsOf};
+ghost use lib.ListN.{drop};
+ghost use Rattle.rules.specs.Bits.{bit, bitsOf, peek};
 ghost use Rattle.rules.specs.Modes.{known, unknown, modeTake, readMode};
 ghost use Rattle.bit_reader.specs.Cursor.{Taking};
 ghost use Rattle.bit_reader.specs.Loaded.{Loading};
@@ -62,12 +63,12 @@ fn side(bits: u32, zeros: u32, right: i64, left: i64) -> i64
     }
 }
 
-pub fn read_mode(src: &[u8], at: usize) -> Mode
-    requires { ⌜ Loading (now src) at ⌝ }
+// The mode by the next 32 bits.
+fn by_zeros(src: &[u8], at: usize, bits: u32) -> Mode
+    requires { ⌜ (Loading (now src) at) × (bits ≡ peek 32 (drop at (bitsOf (now src)))) ⌝ }
     ensures { λ r. ⌜ modeOf at r ≡ readMode (bitsOf (now (src .entry))) at ⌝ }
 {
     let len = src.len();
-    let bits = bit_reader::peek(src, at);
     match u32::leading_zeros(bits) {
         0 => coded(len, at, 1, Kind::Vertical(0)),
         1 => coded(len, at, 3, Kind::Vertical(side(bits, 1, 1, -1))),
@@ -77,4 +78,22 @@ pub fn read_mode(src: &[u8], at: usize) -> Mode
         5 => coded(len, at, 7, Kind::Vertical(side(bits, 5, 3, -3))),
         6.. => no_mode(len, at),
     }
+}
+
+// For the line loop.
+pub fn read_mode(src: &[u8], at: usize) -> Mode
+    requires { ⌜ Loading (now src) at ⌝ }
+    ensures { λ r. ⌜ modeOf at r ≡ readMode (bitsOf (now (src .entry))) at ⌝ }
+{
+    let bits = bit_reader::peek(src, at);
+    by_zeros(src, at, bits)
+}
+
+// For one code by itself (A9). With this caller too `read_mode` would no longer be compiled in place in the line loop, which feels it.
+pub fn mode_at(src: &[u8], at: usize) -> Mode
+    requires { ⌜ Loading (now src) at ⌝ }
+    ensures { λ r. ⌜ modeOf at r ≡ readMode (bitsOf (now (src .entry))) at ⌝ }
+{
+    let bits = bit_reader::peek(src, at);
+    by_zeros(src, at, bits)
 }

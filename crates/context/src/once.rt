@@ -40,7 +40,7 @@ pub fn mode_code(
     requires { ⌜ OneCoding (now src) (now changes) line at b2 ⌝ }
     ensures { λ r. ⌜ OneCoded (now (src .entry)) (now (changes .entry)) line at b1 b2 rules r (now (changes .exit)) ⌝ }
 {
-    match mode::read_mode(src, at) {
+    match mode::mode_at(src, at) {
         Mode::Bad(e) => OneCode::Did(Step::Stop(error::number(e), line, at)),
         Mode::Horizontal(next) => OneCode::Runs(next),
         Mode::Pass(next) => {

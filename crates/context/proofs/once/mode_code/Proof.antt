@@ -6,8 +6,8 @@ use borrow.Author.Needs.{needs}
 use Rattle.context.proofs.once.mode_code.Statement.{statement}
 use Rattle.context.proofs.once.mode_code.Tie as tie
 
-read-mode-requires : tie.Need-read-mode-requires
-read-mode-requires c κs = search needs
+mode-at-requires : tie.Need-mode-at-requires
+mode-at-requires c κs = search needs
 
 enum-known-e : tie.Need-enum-known-e
 enum-known-e c = search needs
@@ -36,7 +36,7 @@ enum-known-offset c = search needs
 moved-requires : tie.Need-moved-requires
 moved-requires c κs =
     let a = c .before .before .before .before .before .before .args in
-    mode-offset (now (a .src)) (now (a .changes)) (a .line) (a .at) (a .rules) (c .before .before .before .read-mode .result) (c .before .before .before .read-mode .ensures) _ _ (c .before .offset .given .1)
+    mode-offset (now (a .src)) (now (a .changes)) (a .line) (a .at) (a .rules) (c .before .before .before .mode-at .result) (c .before .before .before .mode-at .ensures) _ _ (c .before .offset .given .1)
 
 enum-told : tie.Need-enum-told
 enum-told c = search needs
@@ -50,7 +50,7 @@ unmoved-requires c κs = search needs
 returns : tie.Need-returns
 returns c =
     let a = c .before .before .before .before .before .before .before .before .before .before .before .before .args in
-    let m = c .before .before .before .before .before .before .before .before .before .read-mode .ensures in
+    let m = c .before .before .before .before .before .before .before .before .before .mode-at .ensures in
     let f = c .before .before .before .before .before .before .before .offset .given .1 in (
       vertical-no-runs (now (a .src)) (a .at) _ m _ _ f,
       λ reference e1 e2. rw (c .unmoved .ensures) (mode-unmoved (now (a .src)) (now (a .changes)) (a .line) (a .at) (a .rules) _ m reference _ _ _ f e1 _ (sym (c .before .before .before .count .given .1) ∙ c .before .before .before .before .before .moved .ensures) (c .before .before .before .before .before .before .before .before .before .before .before .before .pre .holds) (c .before .if1 .taken)),
@@ -65,7 +65,7 @@ after-push-requires-2 c κs = comes-coloured _ _ _ _ _ (c .before .before .push-
 returns-2 : tie.Need-returns-2
 returns-2 c =
     let a = c .before .before .before .before .before .before .before .args in
-    let m = c .before .before .before .before .read-mode .ensures in
+    let m = c .before .before .before .before .mode-at .ensures in
     let f = c .before .before .e .given .1 in (
       bad-no-runs (now (a .src)) (a .at) _ m _ f,
       λ reference e1 e2. rw (c .number .ensures) (mode-bad (now (a .src)) (now (a .changes)) (a .line) (a .at) (a .rules) _ m reference (c .before .before .before .before .before .before .before .pre .holds) _ f),
@@ -74,7 +74,7 @@ returns-2 c =
 returns-3 : tie.Need-returns-3
 returns-3 c =
     let a = c .before .before .before .before .before .before .args in
-    (runs-at (now (a .src)) (a .at) _ (c .before .before .before .read-mode .ensures) _ (c .before .next .given .1), refl)
+    (runs-at (now (a .src)) (a .at) _ (c .before .before .before .mode-at .ensures) _ (c .before .next .given .1), refl)
 
 same-length : tie.Need-same-length
 same-length c = search needs
@@ -82,7 +82,7 @@ same-length c = search needs
 returns-4 : tie.Need-returns-4
 returns-4 c =
     let a = c .before .before .before .before .before .before .before .before .before .before .before .before .args in
-    let m = c .before .before .before .before .before .before .before .before .before .read-mode .ensures in
+    let m = c .before .before .before .before .before .before .before .before .before .mode-at .ensures in
     let f = c .before .before .before .before .before .before .before .next2 .given .1 in (
       pass-no-runs (now (a .src)) (a .at) _ m _ f,
       λ reference e1 e2. rw (c .after-push .ensures) (mode-pass (now (a .src)) (now (a .changes)) (a .line) (a .at) (a .rules) _ m reference _ _ f e2 _ _ (c .before .before .before .push-pixels .ensures)),
@@ -91,7 +91,7 @@ returns-4 c =
 returns-5 : tie.Need-returns-5
 returns-5 c =
     let a = c .before .before .before .before .before .before .before .before .before .args in
-    let m = c .before .before .before .before .before .before .read-mode .ensures in
+    let m = c .before .before .before .before .before .before .mode-at .ensures in
     let f = c .before .before .before .before .offset .given .1 in (
       vertical-no-runs (now (a .src)) (a .at) _ m _ _ f,
       λ reference e1 e2. mode-over (now (a .src)) (now (a .changes)) (a .line) (a .at) (a .rules) _ m reference _ _ _ f e1 (c .before .before .before .before .before .before .before .before .before .pre .holds) (sym (c .enum-told .given .1) ∙ c .before .before .moved .ensures),
@@ -103,7 +103,7 @@ same-length-2 c = search needs
 returns-6 : tie.Need-returns-6
 returns-6 c =
     let a = c .before .before .before .before .before .before .before .before .before .before .before .before .before .before .before .before .args in
-    let m = c .before .before .before .before .before .before .before .before .before .before .before .before .before .read-mode .ensures in
+    let m = c .before .before .before .before .before .before .before .before .before .before .before .before .before .mode-at .ensures in
     let f = c .before .before .before .before .before .before .before .before .before .before .before .offset .given .1 in (
       vertical-no-runs (now (a .src)) (a .at) _ m _ _ f,
       λ reference e1 e2. rw (c .after-push2 .ensures) (mode-vertical (now (a .src)) (now (a .changes)) (a .line) (a .at) (a .rules) _ m reference _ _ _ f e1 _ (sym (c .before .before .before .before .before .before .before .count .given .1) ∙ c .before .before .before .before .before .before .before .before .before .moved .ensures) (c .before .before .before .before .before .before .before .before .before .before .before .before .before .before .before .before .pre .short) (c .before .before .before .before .before .if1 .left) _ _ (c .before .before .before .push-pixels2 .ensures)),
@@ -113,7 +113,7 @@ pub mode-code-spec : {M : Type 1} → statement M
 mode-code-spec =
     tie.close
     (tie.spec
-    read-mode-requires
+    mode-at-requires
     enum-known-e
     number-requires
     enum-known-next
