@@ -5,7 +5,7 @@ use mathlib.Core.Bool.{Bool}
 use Prim.Native.Nat.{ℕ, _^_, _≤_, _<_}
 use lib.ListN.{length}
 use Rattle.rules.specs.Codes as Codes
-use Rattle.rules.specs.Codes.{Colour, codesOf}
+use Rattle.rules.specs.Codes.{Colour, commonMakeup, terminatingOf, makeupOf, codesOf}
 use Rattle.rules.specs.Plain as Rule
 use Rattle.rules.specs.Plain.{Candidate, agreeing, found, lost, no-code, is-code, more-bits}
 use Rattle.tables.specs.Tables.{rows, codeOf}
@@ -46,3 +46,10 @@ pub record Asked (t m c : List (List ℕ)) (taken word : ℕ) : Type 0 where
   pub terminating : length t ≡ 64
   pub makeup : length m ≡ 27
   pub small-word : word < 2 ^ taken
+
+-- what reading a code asks: the three tables are those of a colour
+pub record Listed (t m c : List (List ℕ)) : Type 0 where
+  pub colour : Colour
+  pub terminating : t ≡ rows (terminatingOf colour)
+  pub makeup : m ++ rows commonMakeup ≡ rows (makeupOf colour)
+  pub common : c ≡ rows commonMakeup

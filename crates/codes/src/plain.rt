@@ -10,11 +10,11 @@ ghost use lib.ListN.{length, drop, getD};
 ghost use Rattle.rules.specs.Bits.{bitsFor, bitsOf};
 ghost use Rattle.rules.specs.Codes.{commonMakeup, terminatingOf, makeupOf};
 ghost use Rattle.rules.specs.Lookup.{begins};
-ghost use Rattle.rules.specs.Plain.{candidates, plain, verdict};
+ghost use Rattle.rules.specs.Plain.{candidates, compare, plain, verdict};
 ghost use Rattle.rules.specs.Runs.{sum, runStep};
 ghost use Rattle.tables.specs.Tables.{colourOf, rows};
 ghost use Rattle.bit_reader.specs.Loaded.{Loading};
-ghost use Rattle.codes.specs.Plain.{Words, Asked, codesIn, agreed, verdictOf, foundOf};
+ghost use Rattle.codes.specs.Plain.{Words, Asked, Listed, codesIn, agreed, verdictOf, foundOf};
 ghost use Rattle.codes.specs.Runs.{RunRead, codeOf};
 
 // A colour's codes are the rows of three tables: its terminating codes, its own make-up codes, and the make-up codes of both colours.
@@ -115,21 +115,24 @@ pub enum Found {
     Lost(DecodeError, usize),
 }
 
-// The code of a colour that begins at a bit: 0 is white, any other number black.
-pub fn read_code(colour: usize, src: &[u8], at: usize) -> Found
-    requires { ⌜ Loading (now src) at ⌝ }
-    ensures { λ r. ⌜ foundOf r ≡ plain (colourOf colour) (drop at (bitsOf (now (src .entry)))) ⌝ }
+// The code of these tables that begins at a bit.
+fn code_in<'a>(
+    terminating: &'a [[u16; 3]; 64],
+    makeup: &'a [[u16; 3]; 27],
+    common: &'a [[u16; 3]; 13],
+    src: &[u8],
+    at: usize,
+) -> Found
+    requires { ⌜ (Listed (now terminating) (now makeup) (now common)) × (Loading (now src) at) ⌝ }
+    ensures { λ r. ⌜ foundOf r ≡ compare 0 (candidates (codesIn (now (terminating .entry)) (now (makeup .entry)) (now (common .entry)))) (drop at (bitsOf (now (src .entry)))) ⌝ }
 {
-    let terminating = terminating_of(colour);
-    let makeup = makeup_of(colour);
-    let common = tables::common_makeup();
     let left = 8 * src.len() - at;
     let mut taken: usize = 0;
     let mut word: usize = 0;
     while taken < left {
         word = 2 * word + bit_reader::bit(src, at + taken) as usize;
         taken += 1;
-        match verdict_on(&terminating, &makeup, &common, taken, word) {
+        match verdict_on(terminating, makeup, common, taken, word) {
             Verdict::NoCode => {
                 return Found::Lost(DecodeError::InvalidCode, taken);
             }
@@ -140,6 +143,17 @@ pub fn read_code(colour: usize, src: &[u8], at: usize) -> Found
         }
     }
     Found::Lost(DecodeError::UnexpectedEof, taken)
+}
+
+// The code of a colour that begins at a bit: 0 is white, any other number black.
+pub fn read_code(colour: usize, src: &[u8], at: usize) -> Found
+    requires { ⌜ Loading (now src) at ⌝ }
+    ensures { λ r. ⌜ foundOf r ≡ plain (colourOf colour) (drop at (bitsOf (now (src .entry)))) ⌝ }
+{
+    let terminating = terminating_of(colour);
+    let makeup = makeup_of(colour);
+    let common = tables::common_makeup();
+    code_in(&terminating, &makeup, &common, src, at)
 }
 
 // The run of a colour that begins at a bit.
@@ -169,12 +183,23 @@ pub fn read_run(colour: usize, src: &[u8], start: usize) -> Run
     Run::Length(total as u32, buffer::load(src, at))
 }
 
-// One step of it (A9).
+// `read_code` for one code by itself (A9). With this caller too it would no longer be compiled in place in the line loop, which feels it.
+fn code_at(colour: usize, src: &[u8], at: usize) -> Found
+    requires { ⌜ Loading (now src) at ⌝ }
+    ensures { λ r. ⌜ foundOf r ≡ plain (colourOf colour) (drop at (bitsOf (now (src .entry)))) ⌝ }
+{
+    let terminating = terminating_of(colour);
+    let makeup = makeup_of(colour);
+    let common = tables::common_makeup();
+    code_in(&terminating, &makeup, &common, src, at)
+}
+
+// One step of `read_run` (A9).
 pub fn next_code(colour: usize, src: &[u8], at: usize, total: u32) -> Code
     requires { ⌜ Loading (now src) at ⌝ }
     ensures { λ r. ⌜ codeOf r ≡ runStep (colourOf colour) (bitsOf (now (src .entry))) (sum at total) ⌝ }
 {
-    match read_code(colour, src, at) {
+    match code_at(colour, src, at) {
         Found::Lost(e, _) => Code::Bad(e, at),
         Found::Code(run, taken) => {
             let sum = total as usize + run;

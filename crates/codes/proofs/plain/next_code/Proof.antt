@@ -13,8 +13,8 @@ use Rattle.codes.proofs.Comparing.{lost-step, found-inside, found-large
 use Rattle.codes.proofs.plain.next_code.Statement.{statement}
 use Rattle.codes.proofs.plain.next_code.Tie as tie
 
-read-code-requires : tie.Need-read-code-requires
-read-code-requires c κs = search needs
+code-at-requires : tie.Need-code-at-requires
+code-at-requires c κs = search needs
 
 enum-known-e : tie.Need-enum-known-e
 enum-known-e c = search needs
@@ -26,7 +26,7 @@ enum-known-run c = search needs
 code : (c : tie.After-known-told2) →
     let s = c .before .before .before .before .before .args in
     found (c .before .run .given .0 .0) (c .before .run .given .0 .1 .0) ≡ plain (colourOf (s .colour)) (drop (s .at) (bitsOf (now (s .src))))
-code c = ap foundOf (sym (c .before .run .given .1)) ∙ c .before .before .before .read-code .ensures
+code c = ap foundOf (sym (c .before .run .given .1)) ∙ c .before .before .before .code-at .ensures
 
 here : (c : tie.After-known-told2) → let s = c .before .before .before .before .before .args in s .at ≤ 8 * length (now (s .src))
 here c = c .before .before .before .before .before .pre .inside
@@ -55,7 +55,7 @@ add-t11 c = omega (arith, found-inside _ _ _ (here (c .before .before)) 0 _ _ (c
 returns-3 : tie.Need-returns-3
 returns-3 c =
     let d = c .before .before .before in
-    sym (lost-step _ _ _ (d .before .before .pre .inside) _ _ _ (ap foundOf (sym (c .before .e .given .1)) ∙ d .read-code .ensures))
+    sym (lost-step _ _ _ (d .before .before .pre .inside) _ _ _ (ap foundOf (sym (c .before .e .given .1)) ∙ d .code-at .ensures))
 
 returns-4 : tie.Need-returns-4
 returns-4 c = sym (found-next _ _ _ (here (c .before .before)) _ _ _ (code (c .before .before)) (c .before .if1 .left) (c .if2 .left))
@@ -64,7 +64,7 @@ pub next-code-spec : {M : Type 1} → statement M
 next-code-spec =
     tie.close
     (tie.spec
-    read-code-requires
+    code-at-requires
     enum-known-e
     enum-known-run
     add-sum
