@@ -11,8 +11,8 @@
            its mark;
            6 columns 4294967295 (for one line or a writer also 0); 7 data or output above 4294967296 bytes;
            8 a row or reference that does not ascend strictly below the columns, or row ends that fall or pass the array, or a Group 3 page of no
-           rows to write; 9 the bits do not fit; 10 fill above 64, or a K of 0 or above 65535;
-           14 an exact page that ends with fewer rows than it is to have; 15 a row was read, and there may be more.
+           rows to write; 9 the bits do not fit; 10 fill above 64, a K of 0 or above 65535, or no units to take;
+           14 an exact page that ends with fewer rows than it is to have; 15 a row, or the units that were asked for, were read, and there may be more.
    mark:    for a form that gives one row its mark: 0 clean, 1 cut to the width, 2 recovered; else 0.
    rows:    rows kept. Row n's changes lie in `changes` from ends[n - 1] (0 for the first) to ends[n].
    entries: entries in kept rows.
@@ -71,6 +71,28 @@ ccitt_answer ccitt_read_line(const uint8_t *src, size_t src_len, uint64_t at, ui
 ccitt_answer ccitt_read_row(const uint8_t *src, size_t src_len, uint32_t columns, uint32_t rows, bool end_of_block, bool end_of_line,
                             bool rows_are_byte_aligned, uint32_t encoding, bool strict, bool exact, bool plain, uint64_t *state,
                             size_t state_len, uint32_t *first, size_t first_len, uint32_t *second, size_t second_len);
+
+/* A Group 4 page a little at a time: at most n units a call, n at least 1. A unit is one mode code, one make-up code, one terminating code or one EOL, and a
+   code that fails is one too. Lend the page's three arrays and the same sixteen numbers of state at each call, and leave them as they were left; before the
+   page's first call the numbers are all 0.
+   units:  how many were taken: the smaller of n and those that the page has left. 0 after a refusal, and after the page's end.
+   number: 15 there are more: rows, entries and loose count what was read so far. Any other is the page's end, and answer and arrays are what
+           ccitt_decode_group4 gives, whatever the n of each call. U units take U / n calls, rounded up, or one call if there are none. A call after the end
+           answers the same again and writes nothing, whatever else it is lent.
+           10 n is 0, before all else; 6 and 7 as of a page; 8 a state that no call left (another length, or numbers that no state has; a bit past the data, a
+           position past the columns, a count past its array or past 8 x bytes + 1), or a last row or an unfinished one that does not ascend strictly below
+           the columns or the position. These do not end the page and change nothing. */
+#define CCITT_UNIT_STATE 16
+
+typedef struct {
+    ccitt_answer answer;
+    uint64_t units;
+} ccitt_unit_answer;
+
+ccitt_unit_answer ccitt_read_units(const uint8_t *src, size_t src_len, uint32_t columns, uint32_t rows, bool end_of_block,
+                                   bool rows_are_byte_aligned, bool strict, bool exact, bool plain, uint32_t *changes,
+                                   size_t changes_len, uint64_t *ends, size_t ends_len, uint8_t *marks, size_t marks_len,
+                                   uint64_t *state, size_t state_len, uint64_t n);
 
 /* Writes a row as one T.6 line under a reference, from bit `at` of out on. The bits before it and the bytes behind it stay; the unused bits of its
    last byte become 0. */

@@ -1,1 +1,2 @@
 pub mod RowState
+pub mod UnitState

@@ -24,11 +24,11 @@ use Rattle.exports.specs.RowState.{sideNumber, flagNumber, endedNumbers,
 -- ---- Ten numbers
 
 -- the entries from a place on
-abbrev entriesFrom : List ℕ → ℕ → ℕ → List ℕ
+abbrev pub entriesFrom : List ℕ → ℕ → ℕ → List ℕ
 entriesFrom xs i zero = []
 entriesFrom xs i (suc n) = getD xs i 0 ∷ entriesFrom xs (suc i) n
 
-from-place : (xs : List ℕ) (i n : ℕ) → length xs ≡ i + n → drop i xs ≡ entriesFrom xs i n
+pub from-place : (xs : List ℕ) (i n : ℕ) → length xs ≡ i + n → drop i xs ≡ entriesFrom xs i n
 from-place xs i zero h = drop-of-length-le xs {i = i} (omega arith)
 from-place xs i (suc n) h = drop-cons xs i 0 (omega arith) ∙ ap (λ (l : List ℕ). getD xs i 0 ∷ l) (from-place xs (suc i) n (omega arith))
 
@@ -48,11 +48,11 @@ side-few : (s : Side) → sideNumber s ≤ 1
 side-few First = omega arith
 side-few Second = omega arith
 
-flag-few : (b : Bool) → flagNumber b ≤ 1
+pub flag-few : (b : Bool) → flagNumber b ≤ 1
 flag-few true = omega arith
 flag-few false = omega arith
 
-flag-is : (n : ℕ) → n ≤ 1 → flagNumber (eqb n 1) ≡ n
+pub flag-is : (n : ℕ) → n ≤ 1 → flagNumber (eqb n 1) ≡ n
 flag-is zero h = refl
 flag-is (suc zero) h = refl
 flag-is (suc (suc n)) h = absurd (omega arith)

@@ -1,2 +1,3 @@
 pub mod Exports
 pub mod RowState
+pub mod UnitState

@@ -1,0 +1,249 @@
+-- Laws of the numbers that C lends for the unit form's state: which numbers a reading has, that no two have the same, and how a call comes out. Assumes nothing.
+use mathlib.Core.Path.{_≡_, refl, sym, ap, _∙_, subst}
+use mathlib.Core.Logic.{inl, inr}
+use mathlib.Core.Bool.{Bool, true, false, cond, _&&_, true≢false}
+use mathlib.Core.List.{List, [], _∷_}
+use Prim.Native.Nat.{ℕ, zero, suc, _+_, _≤_, _<_}
+use native.Mathlib.Omega.{arith}
+use lib.Dec.{eqb, leb}
+use lib.ListN.{length, getD}
+use borrow.Author.Tests.{eq-eqb, eqb-true, le-leb, leb-true}
+use Rattle.rules.specs.InSteps.{saysOnly}
+use Rattle.rules.proofs.Bits.{both-true}
+use Rattle.rows.specs.declared.DecodeSettings.{DecodeSettings}
+use Rattle.by_unit.specs.declared.Phase.{Phase}
+use Rattle.by_unit.specs.declared.Phase.the-variants as Phase
+use Rattle.by_unit.specs.declared.Saved.{Saved}
+use Rattle.by_unit.specs.declared.End.{End}
+use Rattle.by_unit.specs.declared.End.the-variants as End
+use Rattle.by_unit.specs.declared.Counts.{Counts}
+use Rattle.by_unit.specs.declared.Reading.{Reading}
+use Rattle.by_unit.specs.declared.Reading.the-variants.{Open, Ended}
+use Rattle.by_unit.specs.declared.Turn.{Turn}
+use Rattle.by_unit.specs.Standing.{answerOf}
+use Rattle.by_unit.specs.Reading.{endNumber, ReadsUnits}
+use Rattle.exports.specs.declared.UnitAnswer.{UnitAnswer}
+use Rattle.exports.specs.RowState.{flagNumber}
+use Rattle.exports.specs.UnitState.{phaseNumber, endAfter, openNumbers, endedNumbers, numbersOf, Wordy, unfitFor, ReadsUnitsForC}
+use Rattle.exports.proofs.RowState.{entriesFrom, from-place, flag-few, flag-is}
+
+-- ---- Which numbers a reading has
+
+phase-few : (p : Phase) → phaseNumber p ≤ 3
+phase-few Phase.Eols = omega arith
+phase-few Phase.Mode = omega arith
+phase-few Phase.First = omega arith
+phase-few Phase.Second = omega arith
+
+end-some : (e : End) → endAfter e ≡ 0 → ⊥
+end-some e z = omega (arith, z)
+
+and-true : {a b : Bool} → a ≡ true → b ≡ true → (a && b) ≡ true
+and-true {a} {b} p q = ap (λ (x : Bool). x && b) p ∙ q
+
+-- a test of two is one of them twice
+pub and-again : (a b : Bool) → (a && (b && (true && true))) ≡ false → (a && (b && (a && b))) ≡ false
+and-again true true e = e
+and-again true false e = refl
+and-again false b e = refl
+
+pub sixteen : (r : Reading) → length (numbersOf r) ≡ 16
+sixteen (Open s) = refl
+sixteen (Ended e c) = refl
+
+module _ (xs : List ℕ) where
+  pub not-sixteen : (length xs ≡ 16 → ⊥) → (r : Reading) → Wordy r → numbersOf r ≡ xs → ⊥
+  not-sixteen h (Open s) w e = h (sym (ap length e))
+  not-sixteen h (Ended n c) w e = h (sym (ap length e))
+
+  -- ---- An open page's
+
+  module _ (open-end : getD xs 12 0 ≡ 0) where
+    -- no ended page has these
+    only-open : ((s : Saved) → (s .position ≤ 4294967295) × (s .run ≤ 4294967295) → openNumbers s ≡ xs → ⊥) → (r : Reading) → Wordy r → numbersOf r ≡ xs → ⊥
+    only-open h (Open s) w e = h s w e
+    only-open h (Ended n c) w e = end-some n (ap (λ (l : List ℕ). getD l 12 0) e ∙ open-end)
+
+    pub open-zeros : (eqb (getD xs 13 0) 0 && (eqb (getD xs 14 0) 0 && (eqb (getD xs 15 0) 0 && eqb 0 0))) ≡ false → (r : Reading) → Wordy r → numbersOf r ≡ xs → ⊥
+    open-zeros f = only-open λ s w e. true≢false (sym (and-true (eq-eqb _ _ (sym (ap (λ (l : List ℕ). getD l 13 0) e))) (and-true (eq-eqb _ _ (sym (ap (λ (l : List ℕ). getD l 14 0) e))) (and-true (eq-eqb _ _ (sym (ap (λ (l : List ℕ). getD l 15 0) e))) refl))) ∙ f)
+
+    pub open-flags : (leb (getD xs 5 0) 1 && (leb (getD xs 7 0) 1 && leb (getD xs 11 0) 1)) ≡ false → (r : Reading) → Wordy r → numbersOf r ≡ xs → ⊥
+    open-flags f = only-open λ s w e.
+        true≢false (sym (and-true (le-leb _ _ (subst (λ (n : ℕ). n ≤ 1) (ap (λ (l : List ℕ). getD l 5 0) e) (flag-few (s .black))))
+        (and-true (le-leb _ _ (subst (λ (n : ℕ). n ≤ 1) (ap (λ (l : List ℕ). getD l 7 0) e) (flag-few (s .cut)))) (le-leb _ _ (subst (λ (n : ℕ). n ≤ 1) (ap (λ (l : List ℕ). getD l 11 0) e) (flag-few (s .blank)))))) ∙ f)
+
+    pub open-words : (leb (getD xs 4 0) 4294967295 && leb (getD xs 8 0) 4294967295) ≡ false → (r : Reading) → Wordy r → numbersOf r ≡ xs → ⊥
+    open-words f = only-open λ s w e.
+        true≢false (sym (and-true (le-leb _ _ (subst (λ (n : ℕ). n ≤ 4294967295) (ap (λ (l : List ℕ). getD l 4 0) e) (w .0))) (le-leb _ _ (subst (λ (n : ℕ). n ≤ 4294967295) (ap (λ (l : List ℕ). getD l 8 0) e) (w .1)))) ∙ f)
+
+    pub open-phase : 3 < getD xs 0 0 → (r : Reading) → Wordy r → numbersOf r ≡ xs → ⊥
+    open-phase h = only-open λ s w e. omega (arith, phase-few (s .phase), ap (λ (l : List ℕ). getD l 0 0) e)
+
+    -- the reading that has them
+    module _ (long : length xs ≡ 16) (z : (eqb (getD xs 13 0) 0 && (eqb (getD xs 14 0) 0 && (eqb (getD xs 15 0) 0 && eqb 0 0))) ≡ true) (f : (leb (getD xs 5 0) 1 && (leb (getD xs 7 0) 1 && leb (getD xs 11 0) 1)) ≡ true)
+        (w : (leb (getD xs 4 0) 4294967295 && leb (getD xs 8 0) 4294967295) ≡ true) (phase : Phase) (p : phaseNumber phase ≡ getD xs 0 0) where
+      abbrev opened : Saved
+      opened = record {
+        phase = phase;
+        at = getD xs 1 0;
+        eols = getD xs 2 0;
+        rows = getD xs 3 0;
+        position = getD xs 4 0;
+        black = eqb (getD xs 5 0) 1;
+        loose = getD xs 6 0;
+        cut = eqb (getD xs 7 0) 1;
+        run = getD xs 8 0;
+        «run_at» = getD xs 9 0;
+        «mode_at» = getD xs 10 0;
+        blank = eqb (getD xs 11 0) 1;
+      }
+
+      pub open-is : Wordy (Open opened) × (numbersOf (Open opened) ≡ xs)
+      open-is =
+          let (z1, z2) = both-true (eqb (getD xs 13 0) 0) _ z in
+          let (z3, z4) = both-true (eqb (getD xs 14 0) 0) _ z2 in
+          let (z5, z6) = both-true (eqb (getD xs 15 0) 0) _ z4 in
+          let (f1, f2) = both-true (leb (getD xs 5 0) 1) _ f in
+          let (f3, f4) = both-true (leb (getD xs 7 0) 1) _ f2 in
+          let (w1, w2) = both-true (leb (getD xs 4 0) 4294967295) _ w in (
+            (leb-true _ _ w1, leb-true _ _ w2),
+            (λ i. p i ∷ getD xs 1 0 ∷ getD xs 2 0 ∷ getD xs 3 0 ∷ getD xs 4 0 ∷ flag-is (getD xs 5 0) (leb-true _ _ f1) i ∷ getD xs 6 0 ∷ flag-is (getD xs 7 0) (leb-true _ _ f3) i ∷ getD xs 8 0 ∷ getD xs 9 0 ∷ getD xs 10 0
+                ∷ flag-is (getD xs 11 0) (leb-true _ _ f4) i ∷ sym open-end i ∷ sym (eqb-true (getD xs 13 0) 0 z1) i ∷ sym (eqb-true (getD xs 14 0) 0 z3) i ∷ sym (eqb-true (getD xs 15 0) 0 z5) i ∷ [])
+                ∙ sym (from-place xs 0 16 long),
+          )
+
+  -- ---- An ended page's
+
+  module _ (ended-end : getD xs 12 0 ≡ 0 → ⊥) where
+    only-ended : ((e : End) (c : Counts) → endedNumbers e c ≡ xs → ⊥) → (r : Reading) → Wordy r → numbersOf r ≡ xs → ⊥
+    only-ended h (Ended e c) w q = h e c q
+    only-ended h (Open s) w q = ended-end (sym (ap (λ (l : List ℕ). getD l 12 0) q))
+
+    -- four numbers of it are zero
+    pub ended-zeros : (a b c d : ℕ) → ((e : End) (n : Counts) → (getD (endedNumbers e n) a 0 ≡ 0) × (getD (endedNumbers e n) b 0 ≡ 0) × (getD (endedNumbers e n) c 0 ≡ 0) × (getD (endedNumbers e n) d 0 ≡ 0))
+        → (eqb (getD xs a 0) 0 && (eqb (getD xs b 0) 0 && (eqb (getD xs c 0) 0 && eqb (getD xs d 0) 0))) ≡ false → (r : Reading) → Wordy r → numbersOf r ≡ xs → ⊥
+    ended-zeros a b c d h f = only-ended λ e n q.
+        let (h1, h2, h3, h4) = h e n in
+        true≢false (sym (and-true (eq-eqb _ _ (sym (ap (λ (l : List ℕ). getD l a 0) q) ∙ h1)) (and-true (eq-eqb _ _ (sym (ap (λ (l : List ℕ). getD l b 0) q) ∙ h2)) (and-true (eq-eqb _ _ (sym (ap (λ (l : List ℕ). getD l c 0) q) ∙ h3)) (eq-eqb _ _ (sym (ap (λ (l : List ℕ). getD l d 0) q) ∙ h4))))) ∙ f)
+
+    pub ended-no-end : ((e : End) → endAfter e ≡ getD xs 12 0 → ⊥) → (r : Reading) → Wordy r → numbersOf r ≡ xs → ⊥
+    ended-no-end h = only-ended λ e n q. h e (ap (λ (l : List ℕ). getD l 12 0) q)
+
+    module _ (long : length xs ≡ 16) (p : (eqb (getD xs 0 0) 0 && (eqb (getD xs 1 0) 0 && (eqb (getD xs 2 0) 0 && eqb (getD xs 4 0) 0))) ≡ true)
+        (q : (eqb (getD xs 5 0) 0 && (eqb (getD xs 7 0) 0 && (eqb (getD xs 8 0) 0 && eqb (getD xs 9 0) 0))) ≡ true) (r : (eqb (getD xs 10 0) 0 && (eqb (getD xs 11 0) 0 && (eqb 0 0 && eqb 0 0))) ≡ true)
+        (e : End) (h : endAfter e ≡ getD xs 12 0) where
+      abbrev counted : Counts
+      counted = record { rows = getD xs 3 0; entries = getD xs 13 0; loose = getD xs 6 0; bytes = getD xs 14 0; place = getD xs 15 0 }
+
+      pub ended-is : Wordy (Ended e counted) × (numbersOf (Ended e counted) ≡ xs)
+      ended-is =
+          let (p1, p2) = both-true (eqb (getD xs 0 0) 0) _ p in
+          let (p3, p4) = both-true (eqb (getD xs 1 0) 0) _ p2 in
+          let (p5, p6) = both-true (eqb (getD xs 2 0) 0) _ p4 in
+          let (q1, q2) = both-true (eqb (getD xs 5 0) 0) _ q in
+          let (q3, q4) = both-true (eqb (getD xs 7 0) 0) _ q2 in
+          let (q5, q6) = both-true (eqb (getD xs 8 0) 0) _ q4 in
+          let (r1, r2) = both-true (eqb (getD xs 10 0) 0) _ r in
+          let (r3, r4) = both-true (eqb (getD xs 11 0) 0) _ r2 in (
+            tt,
+            (λ i. sym (eqb-true (getD xs 0 0) 0 p1) i ∷ sym (eqb-true (getD xs 1 0) 0 p3) i ∷ sym (eqb-true (getD xs 2 0) 0 p5) i ∷ getD xs 3 0 ∷ sym (eqb-true (getD xs 4 0) 0 p6) i ∷ sym (eqb-true (getD xs 5 0) 0 q1) i ∷ getD xs 6 0 ∷ sym (eqb-true (getD xs 7 0) 0 q3) i ∷ sym (eqb-true (getD xs 8 0) 0 q5) i ∷ sym (eqb-true (getD xs 9 0) 0 q6) i
+                ∷ sym (eqb-true (getD xs 10 0) 0 r1) i ∷ sym (eqb-true (getD xs 11 0) 0 r3) i ∷ h i ∷ getD xs 13 0 ∷ getD xs 14 0 ∷ getD xs 15 0 ∷ [])
+                ∙ sym (from-place xs 0 16 long),
+          )
+
+-- the end's number
+pub no-end : (n : ℕ) → (n ≡ 1 → ⊥) → (n ≡ 2 → ⊥) → (n ≡ 3 → ⊥) → (n ≡ 4 → ⊥) → (n ≡ 5 → ⊥) → (n ≡ 6 → ⊥) → (n ≡ 15 → ⊥) → (e : End) → endAfter e ≡ n → ⊥
+no-end n h1 h2 h3 h4 h5 h6 h15 End.Done e = h1 (sym e)
+no-end n h1 h2 h3 h4 h5 h6 h15 End.InvalidCode e = h2 (sym e)
+no-end n h1 h2 h3 h4 h5 h6 h15 End.UnexpectedEof e = h3 (sym e)
+no-end n h1 h2 h3 h4 h5 h6 h15 End.Overflow e = h4 (sym e)
+no-end n h1 h2 h3 h4 h5 h6 h15 End.NoEntry e = h5 (sym e)
+no-end n h1 h2 h3 h4 h5 h6 h15 End.NoRowEnd e = h6 (sym e)
+no-end n h1 h2 h3 h4 h5 h6 h15 End.Short e = h15 (sym e)
+
+-- ---- No two readings have the same numbers
+
+abbrev phaseFrom : ℕ → Phase
+phaseFrom n = cond (eqb n 0) Phase.Eols (cond (eqb n 1) Phase.Mode (cond (eqb n 2) Phase.First Phase.Second))
+
+abbrev endFrom : ℕ → End
+endFrom n =
+    cond (eqb n 1) End.Done
+    (cond (eqb n 2) End.InvalidCode (cond (eqb n 3) End.UnexpectedEof (cond (eqb n 4) End.Overflow (cond (eqb n 5) End.NoEntry (cond (eqb n 6) End.NoRowEnd End.Short)))))
+
+phase-back : (p : Phase) → phaseFrom (phaseNumber p) ≡ p
+phase-back Phase.Eols = refl
+phase-back Phase.Mode = refl
+phase-back Phase.First = refl
+phase-back Phase.Second = refl
+
+flag-back : (b : Bool) → eqb (flagNumber b) 1 ≡ b
+flag-back true = refl
+flag-back false = refl
+
+end-back : (e : End) → endFrom (endAfter e) ≡ e
+end-back End.Done = refl
+end-back End.InvalidCode = refl
+end-back End.UnexpectedEof = refl
+end-back End.Overflow = refl
+end-back End.NoEntry = refl
+end-back End.NoRowEnd = refl
+end-back End.Short = refl
+
+pub same-numbers : (r s : Reading) → numbersOf r ≡ numbersOf s → r ≡ s
+same-numbers r s e = sym (back r) ∙ ap from e ∙ back s
+  where
+    from : List ℕ → Reading
+    from l =
+        cond (eqb (getD l 12 0) 0)
+        (Open (record {
+          phase = phaseFrom (getD l 0 0);
+          at = getD l 1 0;
+          eols = getD l 2 0;
+          rows = getD l 3 0;
+          position = getD l 4 0;
+          black = eqb (getD l 5 0) 1;
+          loose = getD l 6 0;
+          cut = eqb (getD l 7 0) 1;
+          run = getD l 8 0;
+          «run_at» = getD l 9 0;
+          «mode_at» = getD l 10 0;
+          blank = eqb (getD l 11 0) 1;
+        }))
+        (Ended (endFrom (getD l 12 0)) (record { rows = getD l 3 0; entries = getD l 13 0; loose = getD l 6 0; bytes = getD l 14 0; place = getD l 15 0 }))
+
+    back : (r : Reading) → from (numbersOf r) ≡ r
+    back (Open s) = λ i. Open (record {
+      phase = phase-back (s .phase) i;
+      at = s .at;
+      eols = s .eols;
+      rows = s .rows;
+      position = s .position;
+      black = flag-back (s .black) i;
+      loose = s .loose;
+      cut = flag-back (s .cut) i;
+      run = s .run;
+      «run_at» = s .«run_at»;
+      «mode_at» = s .«mode_at»;
+      blank = flag-back (s .blank) i;
+    })
+    back (Ended e c) = ends e
+      where
+        ends : (e : End) → from (endedNumbers e c) ≡ Ended e c
+        ends End.Done = refl
+        ends End.InvalidCode = refl
+        ends End.UnexpectedEof = refl
+        ends End.Overflow = refl
+        ends End.NoEntry = refl
+        ends End.NoRowEnd = refl
+        ends End.Short = refl
+
+-- ---- A call
+
+module _ (bytes : List ℕ) (settings : DecodeSettings) (xs es ms numbers : List ℕ) (n : ℕ) where
+  pub no-reading : ((r : Reading) → Wordy r → numbersOf r ≡ numbers → ⊥) → (a : UnitAnswer) → a .answer ≡ answerOf (saysOnly (unfitFor n (settings .columns) (length bytes))) → a .units ≡ 0 → ReadsUnitsForC bytes settings xs es ms numbers n a xs es ms numbers
+  no-reading h a e u = inr (record { none = h; answer = e; units = u; same-changes = refl; same-ends = refl; same-marks = refl; same-numbers = refl })
+
+  pub called : (r : Reading) → Wordy r → numbersOf r ≡ numbers → (turn : Turn) (ys fs ns : List ℕ) → ReadsUnits bytes settings xs es ms r n turn ys fs ns → (numbers′ : List ℕ) → numbers′ ≡ numbersOf (turn .reading)
+      → ReadsUnitsForC bytes settings xs es ms numbers n (record { answer = turn .answer; units = turn .units }) ys fs ns numbers′
+  called r w is turn ys fs ns g numbers′ e = inl (record { reading = r; wordy = w; is = is; turn = turn; reads = g; answer = refl; units = refl; handed-back = e })
