@@ -16,6 +16,7 @@ pub mod Marks
 pub mod Exact
 pub mod EnginesAgree
 pub mod ByRow
+pub mod ByUnit
 pub mod WriteGroup3
 pub mod BadLines
 pub mod BadLines2D

@@ -7,6 +7,7 @@ use native.Mathlib.Omega.{arith}
 use lib.IntN.{pos, negsuc}
 use lib.ListN.{length, drop}
 use Rattle.rules.specs.Bits.{bitsOf, peek}
+use Rattle.rules.specs.Machine.{Out, more, done}
 use Rattle.rules.specs.Runs.{Res, ok, fault, Sum, sum, readRun}
 use Rattle.rules.specs.Plain as Plain
 use Rattle.rules.specs.Modes as Rule
@@ -20,7 +21,7 @@ use Rattle.bit_reader.specs.declared.buffer.Fed.the-variants.{On, End}
 use Rattle.codes.specs.Eols.{eolsOf, skipOf}
 use Rattle.codes.specs.Modes.{modeOf}
 use Rattle.codes.specs.Plain.{foundOf}
-use Rattle.codes.specs.Runs.{runOf, LoadedAfter}
+use Rattle.codes.specs.Runs.{runOf, codeOf, LoadedAfter}
 use Rattle.codes.specs.declared.eol.Skip.{Skip}
 use Rattle.codes.specs.declared.eol.Skip.the-variants.{To, Nowhere}
 use Rattle.codes.specs.declared.mode.Mode.{Mode}
@@ -28,8 +29,11 @@ use Rattle.codes.specs.declared.mode.Mode.the-variants as Code
 use Rattle.codes.specs.declared.mode.Mode.the-variants.{Pass, Horizontal, Vertical}
 use Rattle.codes.specs.declared.plain.Found.{Found}
 use Rattle.codes.specs.declared.plain.Found.the-variants as Found
+use Rattle.codes.specs.declared.run.Code as RunCode
+use Rattle.codes.specs.declared.run.Code.the-variants as OfRun
 use Rattle.codes.specs.declared.run.Run.{Run}
 use Rattle.codes.specs.declared.run.Run.the-variants.{Length, Bad}
+use Rattle.context.specs.declared.once.OneCode.the-variants.{Runs, Did}
 use Rattle.promises.specs.PinnedInside as Pinned
 use Rattle.promises.specs.PinnedInside.{Alike, AlikeRuns}
 use Rattle.promises.proofs.OneAnswer.{settled, settled-with, settled-by}
@@ -103,6 +107,19 @@ found-back (Found.Lost e taken) = ap (λ (e : DecodeError). Found.Lost e taken) 
 pub read-code-pinned : Pinned.ReadCodePinned
 read-code-pinned colour bytes at = settled-by foundOf foundFrom found-back _
 
+abbrev codeFrom : Out Sum (Res Sum) → RunCode.Code
+codeFrom (more s) = OfRun.More (s .total) (s .at)
+codeFrom (done (ok s)) = OfRun.Last (s .total) (s .at)
+codeFrom (done (fault n place)) = OfRun.Bad (errorFrom n) place
+
+code-back : (r : RunCode.Code) → codeFrom (codeOf r) ≡ r
+code-back (OfRun.Last total at) = refl
+code-back (OfRun.More total at) = refl
+code-back (OfRun.Bad e place) = ap (λ (e : DecodeError). OfRun.Bad e place) (error-back e)
+
+pub one-run-code-pinned : Pinned.OneRunCodePinned
+one-run-code-pinned colour bytes at total = settled-by codeOf codeFrom code-back _
+
 -- the answer that has a mode as its meaning; none has 0 to the left
 abbrev modeAt : ℕ → Rule.Mode → Mode
 modeAt next pass = Pass next
@@ -153,6 +170,19 @@ steps-pinned width xs w = settled-with (λ r ys g. (g .answer, g .store))
 
 pub line-pinned : Pinned.LinePinned
 line-pinned base width xs w = settled-with (λ r ys g. (g .answer, g .store))
+
+pub mode-code-pinned : Pinned.ModeCodePinned
+mode-code-pinned bytes xs l at b1 b2 rules reference e1 e2 (Runs n) (Runs m) ys zs g h =
+    (ap Runs (ap next (sym (g .0) ∙ h .0)), g .1 ∙ sym (h .1))
+  where
+    next : Res Moded → ℕ
+    next (ok m) = m .at
+    next (fault n place) = 0
+mode-code-pinned bytes xs l at b1 b2 rules reference e1 e2 (Runs n) (Did s) ys zs g h = absurd (h .0 n (g .0))
+mode-code-pinned bytes xs l at b1 b2 rules reference e1 e2 (Did s) (Runs n) ys zs g h = absurd (g .0 n (h .0))
+mode-code-pinned bytes xs l at b1 b2 rules reference e1 e2 (Did s) (Did t) ys zs g h =
+    let once = steps-pinned (l .width) xs _ s t ys zs (g .1 reference e1 e2) (h .1 reference e1 e2) in
+    (ap Did (once .0), once .1)
 
 -- ---- group4 and group3
 

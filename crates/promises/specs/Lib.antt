@@ -15,6 +15,7 @@ pub mod Marks
 pub mod Exact
 pub mod EnginesAgree
 pub mod ByRow
+pub mod ByUnit
 pub mod BadLines
 pub mod BadLines2D
 pub mod CutGroup3

@@ -1,4 +1,5 @@
 -- Pinning the answers down, of what stands around the decoder: the functions for C, the lent line, and the desk's.
+use mathlib.Core.Path.{_≡_}
 use mathlib.Core.Bool.{Bool, false}
 use mathlib.Core.List.{List}
 use Prim.Native.Nat.{ℕ}
@@ -8,6 +9,8 @@ use Rattle.ccitt.specs.Decode.{Decodes}
 use Rattle.context.specs.declared.line.Line.{Line}
 use Rattle.exports.specs.Exports.{settingsFor}
 use Rattle.exports.specs.RowState.{modeOf, ReadsRowForC}
+use Rattle.exports.specs.UnitState.{ReadsUnitsForC}
+use Rattle.exports.specs.declared.UnitAnswer.{UnitAnswer}
 use Rattle.lent.specs.Lent.{Lends}
 use Rattle.lent.specs.declared.Pushed.{Pushed}
 use Rattle.desk.specs.Line.{Says}
@@ -33,6 +36,14 @@ abbrev pub ForCRowPinned : Type 0
 ForCRowPinned =
     (src : List ℕ) (columns rows : ℕ) (block line aligned : Bool) (encoding : ℕ) (strict exact plain : Bool) (state first second : List ℕ)
     → OneWithThree (ReadsRowForC src (settingsFor columns rows block line aligned (modeOf encoding) strict exact plain) encoding state first second)
+
+-- ccitt_read_units: answer and units, the page's three arrays, and the state's numbers
+abbrev pub ForCUnitsPinned : Type 0
+ForCUnitsPinned =
+    (src : List ℕ) (columns rows : ℕ) (block aligned strict exact plain : Bool) (changes ends marks state : List ℕ) (n : ℕ) (r s : UnitAnswer) (xs ys es fs ms ns ps qs : List ℕ)
+    → ReadsUnitsForC src (settingsFor columns rows block false aligned Group4 strict exact plain) changes ends marks state n r xs es ms ps
+    → ReadsUnitsForC src (settingsFor columns rows block false aligned Group4 strict exact plain) changes ends marks state n s ys fs ns qs
+    → (r ≡ s) × (xs ≡ ys) × (es ≡ fs) × (ms ≡ ns) × (ps ≡ qs)
 
 -- ---- lent
 

@@ -11,9 +11,11 @@ use Rattle.rules.specs.Codes.{Colour}
 use Rattle.rules.specs.Eols.{readEols, skipToEol}
 use Rattle.rules.specs.Modes.{readMode}
 use Rattle.rules.specs.Plain.{plain}
+use Rattle.rules.specs.Lines as Line
 use Rattle.rules.specs.Lines.{Went}
+use Rattle.rules.specs.Runs.{sum, runStep}
 use Rattle.rules.specs.Rows.{RowOut}
-use Rattle.tables.specs.Tables.{SameBits}
+use Rattle.tables.specs.Tables.{SameBits, colourOf}
 use Rattle.tables.specs.declared.Code.{Code}
 use Rattle.bit_reader.specs.Cursor.{Thirteen}
 use Rattle.bit_reader.specs.Loaded.{Loaded, LoadedAt, fedAt, Top}
@@ -23,19 +25,22 @@ use Rattle.bit_reader.specs.declared.buffer.Fed.the-variants.{On, End}
 use Rattle.codes.specs.Eols.{eolsOf, skipOf}
 use Rattle.codes.specs.Modes.{modeOf}
 use Rattle.codes.specs.Plain.{foundOf}
-use Rattle.codes.specs.Runs.{RunRead}
+use Rattle.codes.specs.Runs.{RunRead, codeOf}
 use Rattle.codes.specs.declared.eol.Eols.{Eols}
 use Rattle.codes.specs.declared.eol.Skip.{Skip}
 use Rattle.codes.specs.declared.mode.Mode.{Mode}
 use Rattle.codes.specs.declared.plain.Found as Plain
+use Rattle.codes.specs.declared.run.Code as OfRun
 use Rattle.codes.specs.declared.run.Run.{Run}
 use Rattle.codes.specs.declared.run.Run.the-variants.{Length, Bad}
 use Rattle.context.specs.State.{Pushes}
 use Rattle.context.specs.Outcome.{Steps}
 use Rattle.context.specs.Reference.{Finds}
 use Rattle.context.specs.Coding.{StepsAt}
+use Rattle.context.specs.OneCode.{OneCoded}
 use Rattle.context.specs.declared.line.Line.{Line}
 use Rattle.context.specs.declared.reference.Found.{Found}
+use Rattle.context.specs.declared.step.Rules.{Rules}
 use Rattle.rows.specs.Between.{RowGives}
 use Rattle.promises.specs.OneAnswer.{OneAnswer, OneWith}
 
@@ -106,6 +111,11 @@ ReadRunPlainPinned =
     → RunRead colour bytes at s
     → AlikeRuns r s
 
+-- run::read_code, plain::next_code and once::run_code: one code of a run, from a bit, with the sum so far
+abbrev pub OneRunCodePinned : Type 0
+OneRunCodePinned = (colour : Colour) (bytes : List ℕ) (at total : ℕ) → OneAnswer (λ (r : OfRun.Code). codeOf r ≡ runStep colour (bitsOf bytes) (sum at total))
+
+-- read_mode and mode_at
 abbrev pub ReadModePinned : Type 0
 ReadModePinned = (bytes : List ℕ) (at : ℕ) → OneAnswer (λ (r : Mode). modeOf at r ≡ readMode (bitsOf bytes) at)
 
@@ -129,13 +139,21 @@ FindPinned =
     → Finds reference width position colour s
     → (r .b1 ≡ s .b1) × (r .b2 ≡ s .b2)
 
--- runs and decode_1d_line, each with its own outcome of the rules
+-- runs, decode_1d_line and once::end_run, each with its own outcome of the rules
 abbrev pub StepsPinned : Type 0
 StepsPinned = (width : ℕ) (xs : List ℕ) (w : Went) → OneWith (Steps width xs w)
 
 -- decode_2d_line
 abbrev pub LinePinned : Type 0
 LinePinned = (base width : ℕ) (xs : List ℕ) (w : Went) → OneWith (StepsAt base width xs w)
+
+-- once::mode_code, where b1 and b2 are those of a reference
+abbrev pub ModeCodePinned : Type 0
+ModeCodePinned =
+    (bytes xs : List ℕ) (l : Line) (at b1 b2 : ℕ) (rules : Rules) (reference : List ℕ)
+    → b1 ≡ Line.b1 (l .width) reference (l .position) (colourOf (l .colour))
+    → b2 ≡ Line.b2 (l .width) reference (l .position) (colourOf (l .colour))
+    → OneWith (OneCoded bytes xs l at b1 b2 rules)
 
 -- ---- group4 and group3
 
