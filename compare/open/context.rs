@@ -16,13 +16,13 @@ impl DecoderContext {
         &self.marks
     }
 
-    /// The first idle code (A12): the bit of its mode code, the rows before it, and the changes of its row before it.
-    pub fn idle(&self) -> Option<(usize, u32, usize)> {
+    /// The first idle code (A12): the bit of its mode code, the rows before it, the changes of its row before it, and the units up to it, its own among them.
+    pub fn idle(&self) -> Option<(usize, u32, usize, u64)> {
         self.idle
     }
 
     fn note_idle(&mut self, bit: usize) {
-        self.idle.get_or_insert((bit, self.decoded_rows, self.coding_changes.len()));
+        self.idle.get_or_insert((bit, self.decoded_rows, self.coding_changes.len(), crate::place::units()));
     }
 
     /// Read one 2D line from the given bit on, and return the bit after it. Its changes are then

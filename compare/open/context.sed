@@ -17,7 +17,7 @@ s/^        decoder.push_row(&self.coding_changes);$/&\
 s/^    pub(crate) has_eols: bool,$/&\
     pub(crate) mark: u8,\
     pub(crate) marks: Vec<u8>,\
-    pub(crate) idle: Option<(usize, u32, usize)>,/
+    pub(crate) idle: Option<(usize, u32, usize, u64)>,/
 s/^            has_eols: false,$/&\
             mark: 0,\
             marks: Vec::new(),\

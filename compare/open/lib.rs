@@ -1,5 +1,5 @@
 
-// Added for the comparison: the bit at which the failing code began. The marks that open/*.sed puts into the crate set it; nothing else is changed.
+// Added for the comparison: the bit at which the failing code began, and how many units were read (A9). The marks that open/*.sed puts into the crate set them; nothing else is changed.
 extern crate std;
 
 /// Where the crate's own reader stood before the code that it read last.
@@ -8,10 +8,24 @@ pub mod place {
 
     std::thread_local! {
         static BIT: Cell<usize> = const { Cell::new(0) };
+        static UNITS: Cell<u64> = const { Cell::new(0) };
     }
 
     pub(crate) fn mark(bit: usize) {
         BIT.set(bit);
+    }
+
+    pub(crate) fn unit() {
+        UNITS.set(UNITS.get() + 1);
+    }
+
+    /// The units that were read since this was last asked: mode codes, codes of runs, and EOLs.
+    pub fn take_units() -> u64 {
+        UNITS.replace(0)
+    }
+
+    pub(crate) fn units() -> u64 {
+        UNITS.get()
     }
 
     /// The bit at which the code began that failed last.

@@ -1,4 +1,4 @@
-//! Times on full pages and on long fill: of the page form against the crate's, of its plain engine against its lookup, of the row form against the page form, and of
+//! Times on full pages and on long fill: of the page form against the crate's, of its plain engine against its lookup, of the row form and the unit form against the page form, and of
 //! the page writers against libtiff's.
 //! Only a library that is linked in can be timed: under an emulator a time says nothing.
 

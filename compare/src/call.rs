@@ -195,14 +195,24 @@ fn fill_bytes(bytes: &mut [u8], fill: u32) {
     }
 }
 
+/// How a page is read.
+#[derive(Clone, Copy, Debug, PartialEq, Eq)]
+pub enum Steps {
+    /// In one call.
+    Whole,
+    /// A row at a time (A1), into two line arrays of so many entries; its rows are then gathered in what is lent.
+    Rows(usize, usize),
+    /// A few units at a time (A9). The page has so many, where that is known.
+    Units(Option<u64>),
+}
+
 /// One call: what is asked, whether exactly, and by which engine; how much is lent, and what the lent arrays are filled with.
 #[derive(Clone, Copy)]
 pub struct Call<'a> {
     pub ask: &'a Ask,
     pub exact: bool,
     pub plain: bool,
-    /// The lengths of two line arrays, where the page is to be read a row at a time; its rows are then gathered in what is lent.
-    pub lines: Option<(usize, usize)>,
+    pub steps: Steps,
     pub room: Room,
     pub fill: u32,
 }

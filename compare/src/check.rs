@@ -1,6 +1,6 @@
 //! Runs one check: makes its inputs, asks the library, and compares everything that comes back.
 
-use crate::call::{Answer, Ask, BYTE_MARGIN, Call, Form, Replies, Reply, Room, pattern, pattern_byte};
+use crate::call::{Answer, Ask, BYTE_MARGIN, Call, Form, Replies, Reply, Room, Steps, pattern, pattern_byte};
 use crate::ours::Ours;
 use crate::random::Random;
 use crate::truth::Wanted;
@@ -39,8 +39,8 @@ pub struct Plan {
     pub exact: bool,
     /// Whether runs are to be read by the plain engine (A14). What must come back is the same.
     pub plain: bool,
-    /// The lengths of the two line arrays, where the page is to be read a row at a time (A1).
-    pub lines: Option<(usize, usize)>,
+    /// Whether the page is to be read in one call, a row at a time (A1) or a few units at a time (A9).
+    pub steps: Steps,
     pub room: Room,
     pub fill: u32,
     pub wanted: Wanted,
@@ -148,7 +148,7 @@ fn compare(ours: &mut dyn Ours, start: u64, cases: &[Case], tally: &mut Tally) {
 }
 
 fn call_of<'a>(ask: &'a Ask, plan: &Plan) -> Call<'a> {
-    Call { ask, exact: plan.exact, plain: plan.plain, lines: plan.lines, room: plan.room, fill: plan.fill }
+    Call { ask, exact: plan.exact, plain: plan.plain, steps: plan.steps, room: plan.room, fill: plan.fill }
 }
 
 fn compare_replies(start: u64, cases: &[Case], replies: &Replies, tally: &mut Tally) {
@@ -171,7 +171,7 @@ fn compare_replies(start: u64, cases: &[Case], replies: &Replies, tally: &mut Ta
 /// everywhere else.
 fn difference_of(plan: &Plan, reply: &Reply) -> Option<String> {
     #[cfg(any(feature = "linked", test))]
-    if let Some(complaint) = crate::by_row::Complaint::of(&reply.answer) {
+    if let Some(complaint) = crate::by_row::Complaint::of(&reply.answer).or_else(|| crate::by_unit::Complaint::of(&reply.answer)) {
         return Some(complaint.to_string());
     }
     if reply.answer != plan.wanted.answer {
@@ -227,9 +227,14 @@ fn describe(index: u64, ask: &Ask, plan: &Plan, text: &str) -> String {
         let _ = writeln!(out, "  at bit {}, lists {:?} and {:?}", ask.at, ask.first, ask.second);
     }
     let _ = writeln!(out, "  lent: {:?}, filled by {:08x}", plan.room, plan.fill);
-    if let Some(lines) = plan.lines {
-        let _ = writeln!(out, "  a row at a time, into arrays of {lines:?} entries; its rows gathered there");
-    }
+    let _ = match plan.steps {
+        Steps::Whole => Ok(()),
+        Steps::Rows(first, second) => {
+            writeln!(out, "  a row at a time, into arrays of {first} and {second} entries; its rows gathered there")
+        }
+        Steps::Units(Some(units)) => writeln!(out, "  a few units at a time, {units} in all"),
+        Steps::Units(None) => writeln!(out, "  a few units at a time"),
+    };
     let Wanted { answer, changes, ends, marks, .. } = &plan.wanted;
     let _ = writeln!(out, "  it must answer {}, changes {changes:?}, ends {ends:?}, marks {marks:?}", show(answer));
     if let Some(written) = &plan.wanted.out {

@@ -2,9 +2,10 @@
 #![allow(unsafe_code)]
 
 use crate::by_row::{self, Page, RowForm, Store};
+use crate::by_unit::{self, Turn, UnitForm};
 #[cfg(feature = "writers")]
 use crate::call::Layout;
-use crate::call::{Answer, BYTE_MARGIN, Call, Form, MARGIN, Replies, Room, with_zeros};
+use crate::call::{Answer, BYTE_MARGIN, Call, Form, MARGIN, Replies, Room, Steps, with_zeros};
 use crate::ours::Ours;
 use crate::settings::{Encoding, Settings};
 use repeated::Repeated;
@@ -29,6 +30,8 @@ unsafe extern "C" {
         reference: *const u32, reference_len: usize, changes: *mut u32, changes_len: usize) -> *mut Answer;
     fn ccitt_read_row(answer: *mut Answer, src: *const u8, src_len: usize, columns: u32, rows: u32, end_of_block: bool, end_of_line: bool, rows_are_byte_aligned: bool, encoding: u32,
         strict: bool, exact: bool, plain: bool, state: *mut u64, state_len: usize, first: *mut u32, first_len: usize, second: *mut u32, second_len: usize) -> *mut Answer;
+    fn ccitt_read_units(turn: *mut Turn, src: *const u8, src_len: usize, columns: u32, rows: u32, end_of_block: bool, rows_are_byte_aligned: bool, strict: bool, exact: bool, plain: bool,
+        changes: *mut u32, changes_len: usize, ends: *mut u64, ends_len: usize, marks: *mut u8, marks_len: usize, state: *mut u64, state_len: usize, n: u64) -> *mut Turn;
     #[cfg(feature = "writers")]
     fn ccitt_write_line(answer: *mut Answer, columns: u32, reference: *const u32, reference_len: usize, row: *const u32, row_len: usize,
         out: *mut u8, out_len: usize, at: u64) -> *mut Answer;
@@ -111,14 +114,18 @@ fn read(call: &Call, changes: &mut [u32], ends: &mut [u64], marks: &mut [u8]) ->
 }
 
 fn read_from(call: &Call, src: &[u8], changes: &mut [u32], ends: &mut [u64], marks: &mut [u8]) -> Answer {
-    if let Some(lines) = call.lines {
-        let settings = &call.ask.settings;
-        let page = Page { settings, exact: call.exact, plain: call.plain, src, encoding: by_row::encoding_number(settings.encoding) };
-        return by_row::read(&mut Linked, &page, lines, call.fill, Store::new(changes, ends, marks));
-    }
-    match call.ask.form {
-        Form::ReadLine => read_line(call, src, changes),
-        _ => page(&call.ask.settings, call.exact, call.plain, src, changes, ends, marks),
+    let (settings, exact, plain) = (&call.ask.settings, call.exact, call.plain);
+    match (call.ask.form, call.steps) {
+        (Form::ReadLine, _) => read_line(call, src, changes),
+        (_, Steps::Whole) => page(settings, exact, plain, src, changes, ends, marks),
+        (_, Steps::Rows(first, second)) => {
+            let page = Page { settings, exact, plain, src, encoding: by_row::encoding_number(settings.encoding) };
+            by_row::read(&mut Linked, &page, (first, second), call.fill, Store::new(changes, ends, marks))
+        }
+        (_, Steps::Units(total)) => {
+            let page = by_unit::Page { settings, exact, plain, src };
+            by_unit::read(&mut Linked, &page, total, call.fill, by_unit::Store { changes, ends, marks })
+        }
     }
 }
 
@@ -164,6 +171,20 @@ impl RowForm for Linked {
                 state.as_mut_ptr(), state.len(), first.as_mut_ptr(), first.len(), second.as_mut_ptr(), second.len())
         };
         answer
+    }
+}
+
+impl UnitForm for Linked {
+    #[rustfmt::skip]
+    fn read_units(&mut self, page: &by_unit::Page, store: by_unit::Store, state: &mut [u64], n: u64) -> Turn {
+        let (s, by_unit::Store { changes, ends, marks }) = (page.settings, store);
+        let mut turn = Turn::default();
+        // SAFETY: each pointer stands with the length of its slice, and the four lent arrays and the answer are apart.
+        unsafe {
+            ccitt_read_units(&mut turn, page.src.as_ptr(), page.src.len(), s.columns, s.rows, s.end_of_block, s.aligned, s.strict, page.exact, page.plain,
+                changes.as_mut_ptr(), changes.len(), ends.as_mut_ptr(), ends.len(), marks.as_mut_ptr(), marks.len(), state.as_mut_ptr(), state.len(), n)
+        };
+        turn
     }
 }
 

@@ -7,6 +7,8 @@ mod bench;
 mod bits;
 #[cfg(any(feature = "linked", test))]
 mod by_row;
+#[cfg(any(feature = "linked", test))]
+mod by_unit;
 mod call;
 mod check;
 mod checks;

@@ -1,13 +1,14 @@
 //! Which rooms are lent for a reader's input: more than enough, just enough, one entry short, one row
-//! end short, one mark short, or anything less. Pages are read exactly (A12), by the plain engine (A14) and a row at a time (A1) besides.
+//! end short, one mark short, or anything less. Pages are read exactly (A12), by the plain engine (A14), a row at a time (A1) and a few units at a time (A9) besides.
 
-use crate::call::{Ask, Room};
+use crate::call::{Ask, Room, Steps};
 use crate::check::{Case, Plan};
 use crate::random::Random;
+use crate::settings::Encoding;
 use crate::truth::{Outcome, Wanted};
 
 /// A page, with room to spare and with each of the rooms that decide; exactly, with room to spare and with one of them; and in one of
-/// these ways by the plain engine; and a row at a time, and exactly so.
+/// these ways by the plain engine; a row at a time, and exactly so; and a few units at a time likewise, where it is a page of Group 4.
 pub fn page_case(ask: Ask, random: &mut Random) -> Case {
     let outcome = Outcome::of_page(&ask.settings, &ask.src, ask.tail);
     let mut plans = planned(rooms(&outcome, random), random, |room| outcome.page_within(room));
@@ -21,6 +22,8 @@ pub fn page_case(ask: Ask, random: &mut Random) -> Case {
     let mut case = Case { ask, plans, complaint: None }.plainly(random);
     case.plans.extend(by_row(&inexact, false, random));
     case.plans.extend(by_row(&outcome, true, random));
+    case.plans.extend(by_unit(&case.ask, &inexact, false, random));
+    case.plans.extend(by_unit(&case.ask, &outcome, true, random));
     case
 }
 
@@ -38,7 +41,25 @@ fn by_row(outcome: &Outcome, exact: bool, random: &mut Random) -> Option<Plan> {
     let (changes, ends) = (outcome.changes.len() + 3, outcome.ends.len() + 2);
     let room = Room::Rows { changes, ends, marks: ends };
     let (plain, fill) = (random.bool(), random.next() as u32);
-    cfg!(any(feature = "linked", test)).then(|| Plan { exact, plain, lines: Some(lines), room, fill, wanted: outcome.by_rows(lines) })
+    cfg!(any(feature = "linked", test)).then(|| Plan {
+        exact,
+        plain,
+        steps: Steps::Rows(lines.0, lines.1),
+        room,
+        fill,
+        wanted: outcome.by_rows(lines),
+    })
+}
+
+/// A few units at a time, by either engine, in one of the rooms: a page of Group 4 alone. Where the room cuts it short, its units are not known.
+fn by_unit(ask: &Ask, outcome: &Outcome, exact: bool, random: &mut Random) -> Option<Plan> {
+    let mut rooms = rooms(outcome, random);
+    let room = rooms.swap_remove(random.index(rooms.len()));
+    let wanted = outcome.page_within(room);
+    let units = (wanted.answer.number == outcome.number).then_some(outcome.units);
+    let (plain, fill) = (random.bool(), random.next() as u32);
+    let asked = cfg!(any(feature = "linked", test)) && ask.settings.encoding == Encoding::Group4;
+    asked.then_some(Plan { exact, plain, steps: Steps::Units(units), room, fill, wanted })
 }
 
 /// Room to spare, and each of the rooms that decide.
@@ -70,13 +91,14 @@ pub fn exact_plans(rooms: Vec<Room>, random: &mut Random, outcome: &Outcome) -> 
 /// A page with fewer rooms, for checks that have very many pages: room to spare or just enough, and for
 /// one page in eight one entry, one row end or one mark short. Each strict page is read exactly too, and
 /// one lenient page in 32: an exact reading does not look at strictness. In one of these ways it is read by the plain engine, and one page in four
-/// a row at a time, exactly or not.
+/// a row at a time and, in Group 4, a few units at a time, exactly or not.
 pub fn quick_page_case(ask: Ask, random: &mut Random) -> Case {
     let mut case = lookup_page_case(ask, random).plainly(random);
     if random.below(4) == 0 {
         let exact = random.bool();
         let outcome = if exact { Outcome::of_exact_page } else { Outcome::of_page }(&case.ask.settings, &case.ask.src, case.ask.tail);
         case.plans.extend(by_row(&outcome, exact, random));
+        case.plans.extend(by_unit(&case.ask, &outcome, exact, random));
     }
     case
 }
@@ -131,6 +153,6 @@ pub fn line_room(changes: usize) -> Room {
 fn planned(rooms: Vec<Room>, random: &mut Random, wanted: impl Fn(Room) -> Wanted) -> Vec<Plan> {
     rooms
         .into_iter()
-        .map(|room| Plan { exact: false, plain: false, lines: None, room, fill: random.next() as u32, wanted: wanted(room) })
+        .map(|room| Plan { exact: false, plain: false, steps: Steps::Whole, room, fill: random.next() as u32, wanted: wanted(room) })
         .collect()
 }

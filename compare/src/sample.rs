@@ -1,7 +1,7 @@
 //! A sample of the crate's answers, which a program replays without Rust (crates/replay): what was asked
 //! goes into a file `stdin`, what the crate answered into a file `stdout`.
 
-use crate::call::{Ask, Form, Room};
+use crate::call::{Ask, Form, Room, Steps};
 use crate::check::{Case, Plan, Source};
 use crate::checks::limits::{LineLimits, PageLimits};
 use crate::checks::lines::Lines;
@@ -64,7 +64,7 @@ fn chosen(source: &dyn Source, seed: u64) -> Vec<(Ask, Plan)> {
     let each = if source.count() < TRIED { usize::MAX } else { EACH };
     for index in 0..source.count() {
         let Case { ask, plans, .. } = source.case(index, &mut Random::of(seed, &source.name(), index));
-        for plan in plans.into_iter().filter(|plan| plan.lines.is_none() && is_small(&ask, plan)) {
+        for plan in plans.into_iter().filter(|plan| plan.steps == Steps::Whole && is_small(&ask, plan)) {
             let strictness = if plan.exact { 2 } else { u32::from(ask.settings.strict) };
             let kind = (plan.plain, form_number(ask.form), strictness, plan.wanted.answer.number);
             let count = taken.entry(kind).or_default();

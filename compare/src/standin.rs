@@ -2,10 +2,12 @@
 //! with the encoder. A fault can be put into what it hands back; each must be caught.
 
 mod rows;
+mod units;
 
 use crate::bits::Bits;
 use crate::by_row::{self, Page, Store};
-use crate::call::{Answer, Ask, BYTE_MARGIN, Call, Form, Layout, Replies, Room};
+use crate::by_unit;
+use crate::call::{Answer, Ask, BYTE_MARGIN, Call, Form, Layout, Replies, Room, Steps};
 use crate::checks::writers::encoded;
 use crate::codes::LONGEST;
 use crate::encoder::put_line_2d;
@@ -73,6 +75,13 @@ pub enum Fault {
     RepeatsOtherwise,
     ForgedTaken,
     PlainRow,
+    AllAtOnce,
+    OneUnitMore,
+    PlainUnit,
+    BehindAUnit,
+    UnitRepetitionWrites,
+    LateTaken,
+    TenLate,
     OneTooMany,
     EightBeforeTen,
     NoRowsWritten,
@@ -85,7 +94,7 @@ pub enum Fault {
     RtcWithoutOnes,
 }
 
-pub const FAULTS: [Fault; 62] = [
+pub const FAULTS: [Fault; 69] = [
     Fault::Number,
     Fault::Rows,
     Fault::Entries,
@@ -138,6 +147,13 @@ pub const FAULTS: [Fault; 62] = [
     Fault::RepeatsOtherwise,
     Fault::ForgedTaken,
     Fault::PlainRow,
+    Fault::AllAtOnce,
+    Fault::OneUnitMore,
+    Fault::PlainUnit,
+    Fault::BehindAUnit,
+    Fault::UnitRepetitionWrites,
+    Fault::LateTaken,
+    Fault::TenLate,
     Fault::OneTooMany,
     Fault::EightBeforeTen,
     Fault::NoRowsWritten,
@@ -176,8 +192,10 @@ impl Ours for Standin {
 
 impl Standin {
     fn read(&self, call: &Call, words: &mut [u32], bytes: &mut [u8]) -> Answer {
-        if let Some(lines) = call.lines {
-            return self.by_row(call, lines, words, bytes);
+        match call.steps {
+            Steps::Whole => {}
+            Steps::Rows(first, second) => return self.by_row(call, (first, second), words, bytes),
+            Steps::Units(total) => return self.by_unit(call, total, words, bytes),
         }
         let wanted = match call.ask.form {
             Form::ReadLine => self.line(call.ask).line_within(self.room(call.room)),
@@ -205,6 +223,22 @@ impl Standin {
         let end = bytes.len() - BYTE_MARGIN;
         let store = Store::new(&mut words[changes], &mut wide, &mut bytes[BYTE_MARGIN..end]);
         let answer = by_row::read(&mut rows::Rows { fault: self.0, outcome: &outcome }, &page, lines, call.fill, store);
+        words[ends].iter_mut().zip(wide).for_each(|(word, end)| *word = end as u32);
+        answer
+    }
+
+    /// Where the units are not known, it takes as many as there are changes.
+    fn by_unit(&self, call: &Call, total: Option<u64>, words: &mut [u32], bytes: &mut [u8]) -> Answer {
+        let (changes, ends) = call.room.places();
+        let outcome = self.page(call);
+        let wanted = outcome.page_within(call.room);
+        let (src, settings) = (call.ask.data(), &call.ask.settings);
+        let page = by_unit::Page { settings, exact: call.exact, plain: call.plain, src: &src };
+        let mut wide: Vec<u64> = words[ends.clone()].iter().copied().map(u64::from).collect();
+        let end = bytes.len() - BYTE_MARGIN;
+        let store = by_unit::Store { changes: &mut words[changes], ends: &mut wide, marks: &mut bytes[BYTE_MARGIN..end] };
+        let units = if total.is_some() { outcome.units } else { wanted.changes.len() as u64 } + u64::from(self.0 == Fault::OneUnitMore);
+        let answer = by_unit::read(&mut units::Units { fault: self.0, wanted: &wanted, units }, &page, total, call.fill, store);
         words[ends].iter_mut().zip(wide).for_each(|(word, end)| *word = end as u32);
         answer
     }
@@ -471,6 +505,7 @@ fn slipped_number(error: slipped::DecodeError) -> u32 {
 fn slipped_page(settings: &Settings, src: &[u8]) -> Outcome {
     let mut sink = Sink::default();
     let mut context = slipped::DecoderContext::new(slipped_settings(settings));
+    slipped::place::take_units();
     let result = slipped::decode(src, &mut sink, &mut context);
     let (number, place, bytes) =
         result.map_or_else(|error| (slipped_number(error), slipped::place::last() as u64, 0), |bytes| (0, 0, bytes as u64));
@@ -478,7 +513,8 @@ fn slipped_page(settings: &Settings, src: &[u8]) -> Outcome {
         sink.changes.extend_from_slice(context.unfinished());
     }
     let idle = context.idle().map(Idle::of_open_crate);
-    Outcome { number, place, bytes, changes: sink.changes, ends: sink.ends, marks: context.marks().to_vec(), idle }
+    let units = slipped::place::take_units();
+    Outcome { number, place, bytes, changes: sink.changes, ends: sink.ends, marks: context.marks().to_vec(), idle, units }
 }
 
 fn slipped_line(ask: &Ask) -> Outcome {

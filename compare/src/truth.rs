@@ -22,6 +22,8 @@ pub struct Outcome {
     pub marks: Vec<u8>,
     /// The first code that an exact reading refuses (A12).
     pub idle: Option<Idle>,
+    /// The units that were read (A9), as the copy counts them.
+    pub units: u64,
 }
 
 /// An idle code: the bit of its mode code, and what was read before it.
@@ -31,11 +33,13 @@ pub struct Idle {
     pub rows: usize,
     /// The changes of its own row alone.
     pub changes: usize,
+    /// The units up to it, its own among them.
+    pub units: u64,
 }
 
 impl Idle {
-    pub fn of_open_crate((bit, rows, changes): (usize, u32, usize)) -> Self {
-        Idle { place: bit as u64, rows: rows as usize, changes }
+    pub fn of_open_crate((bit, rows, changes, units): (usize, u32, usize, u64)) -> Self {
+        Idle { place: bit as u64, rows: rows as usize, changes, units }
     }
 }
 
@@ -61,7 +65,7 @@ impl Wanted {
 impl Outcome {
     /// An answer that leaves everything as it was.
     pub fn bare(number: u32, place: u64) -> Self {
-        Outcome { number, place, bytes: 0, changes: Vec::new(), ends: Vec::new(), marks: Vec::new(), idle: None }
+        Outcome { number, place, bytes: 0, changes: Vec::new(), ends: Vec::new(), marks: Vec::new(), idle: None, units: 0 }
     }
 
     /// A page: tests 6 and 7, then what the crate gives.
@@ -92,6 +96,7 @@ impl Outcome {
                 changes: self.changes[..base + idle.changes].to_vec(),
                 ends: self.ends[..idle.rows].to_vec(),
                 marks: self.marks[..idle.rows].to_vec(),
+                units: idle.units,
                 ..Self::bare(1, idle.place)
             };
         }
@@ -114,6 +119,7 @@ impl Outcome {
     fn of_open_crate(settings: &Settings, src: &[u8], number: u32, bytes: usize, sink: Sink) -> Self {
         let mut again = Sink::default();
         let mut context = hayro_ccitt_open::DecoderContext::new(settings.for_open_crate());
+        hayro_ccitt_open::place::take_units();
         let told =
             hayro_ccitt_open::decode(src, &mut again, &mut context).map_or_else(|error| (open_crate_number(error), 0), |bytes| (0, bytes));
         assert!(told == (number, bytes) && again == sink, "the opened copy is not the crate");
@@ -124,7 +130,8 @@ impl Outcome {
             place = hayro_ccitt_open::place::last() as u64;
         }
         let idle = context.idle().map(Idle::of_open_crate);
-        Outcome { number, place, bytes: bytes as u64, changes, ends: sink.ends, marks: context.marks().to_vec(), idle }
+        let units = hayro_ccitt_open::place::take_units();
+        Outcome { number, place, bytes: bytes as u64, changes, ends: sink.ends, marks: context.marks().to_vec(), idle, units }
     }
 
     /// One line: tests 6, 7 and 8, a start past the data, then what the crate's reading of a line gives.
@@ -152,7 +159,7 @@ impl Outcome {
         match result {
             Ok(bit) => {
                 let (ends, marks) = (vec![changes.len() as u32], vec![context.mark()]);
-                Outcome { number: 0, place: 0, bytes: bit as u64, changes, ends, marks, idle }
+                Outcome { number: 0, place: 0, bytes: bit as u64, changes, ends, marks, idle, units: 0 }
             }
             Err(error) => Outcome { changes, idle, ..Self::bare(open_crate_number(error), hayro_ccitt_open::place::last() as u64) },
         }

@@ -1,8 +1,9 @@
-//! The page form against the crate's, its plain engine against its lookup, and the row form against it.
+//! The page form against the crate's, its plain engine against its lookup, and the row form and the unit form against it.
 
 use super::fill;
 use super::timing::{RUNS, report};
 use crate::by_row::{self, RowForm, STATE};
+use crate::by_unit::{self, UnitForm};
 use crate::checks::other_decoder::Text;
 use crate::linked::{self, Linked};
 use crate::settings::{Encoding, Settings};
@@ -82,6 +83,13 @@ pub fn run(texts: &[Text]) {
     for (name, some) in &sets {
         compare_forms(&format!("{name}, a row at a time"), some, &mut store);
     }
+    println!("256 units at a time against the page form, likewise");
+    let (name, group4) = &sets[0];
+    compare_units(&format!("{name}, 256 units at a time"), group4, &mut store);
+    println!("the longest call of the unit form: of each call the shortest of {RUNS} runs, and of these the longest");
+    for n in [1, 16, 256] {
+        longest_calls(n, group4, &mut store);
+    }
     println!("fill, likewise, in Group 3 1D pages with EOLs");
     for (name, page) in fill::pages() {
         compare(&name, &[&page], &mut store);
@@ -129,6 +137,46 @@ fn time_by_row(page: &Page, store: &mut Store) -> Duration {
     let took = began.elapsed();
     assert!(answer.number == page.number && answer.rows as usize == page.rows, "the row form answers as the page form does");
     took
+}
+
+/// The unit form against the page form.
+fn compare_units(name: &str, pages: &[&Page], store: &mut Store) {
+    let by_unit = |store: &mut Store| pages.iter().map(|page| time_calls(page, 256, store).into_iter().sum::<Duration>()).sum();
+    let whole = |store: &mut Store| pages.iter().map(|page| time_ours(page, false, store)).sum();
+    report(name, store, by_unit, "the page form", whole);
+}
+
+/// What a caller waits for at most.
+fn longest_calls(n: u64, pages: &[&Page], store: &mut Store) {
+    for (index, page) in pages.iter().enumerate() {
+        let mut shortest = time_calls(page, n, store);
+        for _ in 1..RUNS {
+            shortest.iter_mut().zip(time_calls(page, n, store)).for_each(|(least, took)| *least = (*least).min(took));
+        }
+        let calls = shortest.len();
+        let (longest, all) = (shortest.iter().max().copied().unwrap_or_default(), shortest.iter().sum::<Duration>());
+        let whole = (0..RUNS).map(|_| time_ours(page, false, store)).min().unwrap_or_default();
+        println!("Group 4 page {}, N = {n}: longest call {longest:?} of {calls}, {all:?} in all; the page form {whole:?}", index + 1);
+    }
+}
+
+/// How long each call of the unit form takes.
+fn time_calls(page: &Page, n: u64, store: &mut Store) -> Vec<Duration> {
+    let Store { changes, ends, marks } = store.cleared();
+    let call = by_unit::Page { settings: &page.settings, exact: false, plain: false, src: &page.src };
+    let mut state = [0; by_unit::STATE];
+    let mut times = Vec::new();
+    loop {
+        let lent = by_unit::Store { changes, ends, marks };
+        let began = Instant::now();
+        let turn = Linked.read_units(&call, lent, &mut state, n);
+        times.push(began.elapsed());
+        if turn.answer.number != 15 {
+            let answers = turn.answer.number == page.number && turn.answer.rows as usize == page.rows;
+            assert!(answers, "the unit form answers as the page form does");
+            return times;
+        }
+    }
 }
 
 fn time_ours(page: &Page, plain: bool, store: &mut Store) -> Duration {

@@ -2,7 +2,7 @@
 //! writes is read back by the crate.
 
 use crate::bits::Bits;
-use crate::call::{Ask, Layout, Room};
+use crate::call::{Ask, Layout, Room, Steps};
 use crate::check::{Case, Plan, Source};
 use crate::checks::writers::{LONG, refused, written};
 use crate::group3::{allowed, encoded};
@@ -55,7 +55,7 @@ pub fn page_case(random: &mut Random, layout: Layout, columns: u32, rows: &[Vec<
         let plan = Plan {
             exact: false,
             plain: false,
-            lines: None,
+            steps: Steps::Whole,
             room: Room::Bytes(random.index(200)),
             fill: random.next() as u32,
             wanted: refused(number),
@@ -68,7 +68,7 @@ pub fn page_case(random: &mut Random, layout: Layout, columns: u32, rows: &[Vec<
     let plans = lengths.map(|length| {
         let fill = random.next() as u32;
         let wanted = if length < bytes { refused(9) } else { written(&page, 0, length, fill, bytes as u64) };
-        Plan { exact: false, plain: false, lines: None, room: Room::Bytes(length), fill, wanted }
+        Plan { exact: false, plain: false, steps: Steps::Whole, room: Room::Bytes(length), fill, wanted }
     });
     let complaint = misread(random, layout, columns, rows, &page);
     Case { ask, plans: plans.into(), complaint }
@@ -79,9 +79,11 @@ fn misread(random: &mut Random, layout: Layout, columns: u32, rows: &[Vec<u32>],
     let mut src = page.clone().into_bytes();
     let (changes, ends) = flattened(rows);
     let settings = random_settings(random, layout, columns, rows.len() as u32);
-    let whole = Outcome { number: 0, place: 0, bytes: src.len() as u64, changes, marks: vec![0; ends.len()], ends, idle: None };
+    let bytes = src.len() as u64;
     src.resize(src.len() + random.index(3), 0);
-    let agrees = Outcome::of_page(&settings, &src, 0) == whole && Outcome::of_exact_page(&settings, &src, 0) == whole;
+    let read = Outcome::of_page(&settings, &src, 0);
+    let whole = Outcome { bytes, changes, marks: vec![0; ends.len()], ends, units: read.units, ..Outcome::bare(0, 0) };
+    let agrees = read == whole && Outcome::of_exact_page(&settings, &src, 0) == whole;
     (!agrees).then(|| format!("the crate does not read back the page: {settings}"))
 }
 
@@ -156,7 +158,7 @@ impl Source for Limits {
         let plans = vec![Plan {
             exact: false,
             plain: false,
-            lines: None,
+            steps: Steps::Whole,
             room: Room::Bytes(4),
             fill: random.next() as u32,
             wanted: refused(number),

@@ -56,7 +56,7 @@ fn written_line(random: &mut Random, columns: u32, reference: Vec<u32>) -> Case 
     bits.random(random, follow);
     let src = bits.into_bytes();
     let outcome = Outcome::of_line(columns, true, &src, 0, lead as u64, &reference);
-    let whole = Outcome { number: 0, place: 0, bytes: end as u64, ends: vec![row.len() as u32], marks: vec![0], changes: row, idle: None };
+    let whole = Outcome { bytes: end as u64, ends: vec![row.len() as u32], marks: vec![0], changes: row, ..Outcome::bare(0, 0) };
     line_case(Ask::read_line(columns, random.bool(), src, lead as u64, reference), random)
         .require(outcome == whole, || "the crate does not read back the line of the encoder".to_string())
 }

@@ -2,7 +2,7 @@
 //! their refusals. What the encoder writes is read back by the crate.
 
 use crate::bits::Bits;
-use crate::call::{Answer, Ask, BYTE_MARGIN, Room, pattern_byte};
+use crate::call::{Answer, Ask, BYTE_MARGIN, Room, Steps, pattern_byte};
 use crate::check::{Case, Plan, Source};
 use crate::checks::sheets;
 use crate::codes::{EOL, LONGEST};
@@ -51,7 +51,7 @@ fn line_case(random: &mut Random, columns: u32, reference: Vec<u32>, row: Vec<u3
     let plans = lengths.map(|length| {
         let fill = random.next() as u32;
         let wanted = if length < exact { refused(9) } else { written(line, at, length, fill, (at + line.len()) as u64) };
-        Plan { exact: false, plain: false, lines: None, room: Room::Bytes(length), fill, wanted }
+        Plan { exact: false, plain: false, steps: Steps::Whole, room: Room::Bytes(length), fill, wanted }
     });
     let agrees = read.number == 0 && read.changes == row && read.bytes == line.len() as u64;
     let ask = Ask::write_line(columns, reference, row, at as u64);
@@ -116,7 +116,7 @@ pub fn written_page(random: &mut Random, columns: u32, rows: &[Vec<u32>]) -> Cas
     let plans = lengths.map(|length| {
         let fill = random.next() as u32;
         let wanted = if length < bytes { refused(9) } else { written(&page, 0, length, fill, bytes as u64) };
-        Plan { exact: false, plain: false, lines: None, room: Room::Bytes(length), fill, wanted }
+        Plan { exact: false, plain: false, steps: Steps::Whole, room: Room::Bytes(length), fill, wanted }
     });
     Case { ask: Ask::write_page(columns, changes, ends), plans: plans.into(), complaint }
 }
@@ -144,8 +144,9 @@ fn misread(random: &mut Random, columns: u32, rows: &[Vec<u32>], page: &Bits) ->
     let settings = Settings { end_of_block: true, rows: number, ..Settings::of_line(columns, true) };
     let count = random.index(5);
     let followed = [src.clone(), random.bytes(count)].concat();
-    let whole = Outcome { number: 0, place: 0, bytes: src.len() as u64, changes, marks: vec![0; ends.len()], ends, idle: None };
-    if Outcome::of_page(&settings, &followed, 0) != whole {
+    let read = Outcome::of_page(&settings, &followed, 0);
+    let whole = Outcome { bytes: src.len() as u64, changes, marks: vec![0; ends.len()], ends, units: read.units, ..Outcome::bare(0, 0) };
+    if read != whole {
         return Some("the crate does not read back the page".to_string());
     }
     let cut = Outcome::of_page(&settings, &src[..random.index(src.len())], 0);
@@ -223,7 +224,7 @@ impl Source for WriterLimits {
         let plans = vec![Plan {
             exact: false,
             plain: false,
-            lines: None,
+            steps: Steps::Whole,
             room: Room::Bytes(4),
             fill: random.next() as u32,
             wanted: refused(number),
