@@ -3,7 +3,7 @@ use mathlib.Core.Path.{_≡_, refl, sym, ap, _∙_, subst}
 use mathlib.Core.Logic.{inl, inr}
 use mathlib.Core.Bool.{Bool, true, false, cond, _&&_, true≢false}
 use mathlib.Core.List.{List, [], _∷_}
-use Prim.Native.Nat.{ℕ, zero, suc, _+_, _≤_, _<_}
+use Prim.Native.Nat.{ℕ, zero, _≤_, _<_}
 use native.Mathlib.Omega.{arith}
 use lib.Dec.{eqb, leb}
 use lib.ListN.{length, getD}
@@ -21,11 +21,11 @@ use Rattle.by_unit.specs.declared.Reading.{Reading}
 use Rattle.by_unit.specs.declared.Reading.the-variants.{Open, Ended}
 use Rattle.by_unit.specs.declared.Turn.{Turn}
 use Rattle.by_unit.specs.Standing.{answerOf}
-use Rattle.by_unit.specs.Reading.{endNumber, ReadsUnits}
+use Rattle.by_unit.specs.Reading.{ReadsUnits}
 use Rattle.exports.specs.declared.UnitAnswer.{UnitAnswer}
 use Rattle.exports.specs.RowState.{flagNumber}
 use Rattle.exports.specs.UnitState.{phaseNumber, endAfter, openNumbers, endedNumbers, numbersOf, Wordy, unfitFor, ReadsUnitsForC}
-use Rattle.exports.proofs.RowState.{entriesFrom, from-place, flag-few, flag-is}
+use Rattle.exports.proofs.RowState.{from-place, flag-few, flag-is}
 
 -- ---- Which numbers a reading has
 

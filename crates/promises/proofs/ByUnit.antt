@@ -1,14 +1,14 @@
 -- The unit form is as demanded: what its contract says of calls, one after the other, is what the rules' laws say of them. Assumes nothing.
 use mathlib.Core.Path.{_≡_, refl, sym, ap, ap₂, _∙_, subst}
 use mathlib.Core.Logic.{_⊎_, inl, inr, _↔_}
-use mathlib.Core.Bool.{Bool, true, false, cond, true≢false, and-false, _&&_}
-use mathlib.Core.List.{List, [], _∷_, _++_, map}
+use mathlib.Core.Bool.{Bool, true, false, true≢false, and-false, _&&_}
+use mathlib.Core.List.{List, [], _∷_, _++_}
 use Prim.Native.Nat.{ℕ, zero, suc, _+_, _-_, _*_, _≤_, _<_, min}
 use native.Mathlib.Nat.{suc-mul, mul-le-mul-right}
 use native.Mathlib.Omega.{arith}
 use lib.Dec.{eqb, leb, ltb}
 use lib.ListN.{length}
-use borrow.Author.Tests.{leb-true, le-leb, ltb-true, ltb-false, eq-eqb, ne-eqb, eqb-true, eqb-false, lt-ltb, le-ltb}
+use borrow.Author.Tests.{leb-true, ltb-true, ltb-false, eq-eqb, ne-eqb, eqb-true, eqb-false, lt-ltb, le-ltb}
 use Rattle.rules.specs.Machine as Machine
 use Rattle.rules.specs.Machine.{more, done}
 use Rattle.rules.specs.Bits.{bitsOf}
@@ -16,9 +16,9 @@ use Rattle.rules.specs.Rows.{group4, Settings}
 use Rattle.rules.specs.Pages as Page′
 use Rattle.rules.specs.Pages.{mostBytes, tooWide, strictIfExact, entries, readPage, decode, changesAfter, endsAfter, marksAfter, placesIn, joined, endsFrom, ascends}
 use Rattle.rules.specs.InSteps.{Said, saysOnly}
-use Rattle.rules.specs.Units.{Going, unitsStart, soFar, call, total, sameEach, callsFor, pageUnits}
+use Rattle.rules.specs.Units.{Going, unitsStart, soFar, call, total, callsFor, pageUnits}
 use Rattle.rules.specs.ByUnit as Rule
-use Rattle.rules.specs.ByUnit.{endOf, part, goingOf, sound, savedStart, saidBehind, unlessFewer, readingAfter, opened, ended, turnOf, asGroup4, still, turnOn, turn, turns}
+use Rattle.rules.specs.ByUnit.{endOf, part, goingOf, sound, savedStart, saidBehind, unlessFewer, readingAfter, opened, ended, asGroup4, still, turnOn, turn, turns}
 use Rattle.rules.proofs.Ascending as Rising
 use Rattle.rules.proofs.Ascending.{ascends-rises}
 use Rattle.rules.proofs.Bits.{length-bitsOf, both-true}
@@ -27,12 +27,11 @@ use Rattle.rules.proofs.Budget.{whole-bytes}
 use Rattle.rules.proofs.Pages.{read-answered}
 use Rattle.rules.proofs.Answers.{short-cases, decode-reads}
 use Rattle.rules.proofs.Calls.{total-same, calls-enough, calls-few}
-use Rattle.rules.proofs.Handed.{Passes, passes}
+use Rattle.rules.proofs.Handed.{passes}
 use Rattle.rules.proofs.ByUnit.{turn-cases, turn-ends, turn-repeats, Positive, turns-ended, turns-open, turns-report}
 use Rattle.error.specs.declared.Answer.{Answer}
 use Rattle.error.specs.Error as Error
 use Rattle.rows.specs.declared.DecodeSettings.{DecodeSettings}
-use Rattle.rows.specs.declared.EncodingMode.{EncodingMode}
 use Rattle.rows.specs.declared.EncodingMode.the-variants.{Group4}
 use Rattle.rows.specs.Settings.{encodingOf, settingsOf}
 use Rattle.by_unit.specs.declared.Saved.{Saved}
@@ -42,8 +41,8 @@ use Rattle.by_unit.specs.declared.Turn.{Turn}
 use Rattle.by_unit.specs.Standing.{answerOf}
 use Rattle.by_unit.specs.Reading.{savedOf, Ending, saidOf, readingOf, TurnIs}
 use Rattle.by_unit.proofs.States.{end-listed, same-reading}
-use Rattle.promises.specs.Rooms.{Call, Reading}
-use Rattle.promises.specs.ByUnit.{UnitCall, UnitReading, numberOf, Handed, numbersOf, Follows, Page, UnitsAgree, SameButEncoding, EncodingUnread, Readable, unitsOf, UnitsTaken, MoreToCome, CallsNeeded, Left, UnitFormRepeats, TenMeans, Sound, UnitListed, UnitRefusals, OwnUnitStates, ReadUnitsPinned, StartPinned}
+use Rattle.promises.specs.Rooms.{Reading}
+use Rattle.promises.specs.ByUnit.{UnitCall, UnitReading, numberOf, Handed, numbersOf, Follows, Page, UnitsAgree, SameButEncoding, EncodingUnread, Readable, unitsOf, UnitsTaken, MoreToCome, CallsNeeded, Left, UnitFormRepeats, TenMeans, Sound, UnitRefusals, OwnUnitStates, ReadUnitsPinned, StartPinned}
 
 -- ---- Pinned
 

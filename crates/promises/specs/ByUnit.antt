@@ -12,12 +12,11 @@ use Rattle.rules.specs.Units.{pageUnits, total, sameEach, callsFor}
 use Rattle.rules.specs.ByUnit.{endOf, part, opened, savedStart}
 use Rattle.rules.proofs.Ascending.{Rising}
 use Rattle.rows.specs.declared.DecodeSettings.{DecodeSettings}
-use Rattle.rows.specs.declared.EncodingMode.{EncodingMode}
 use Rattle.rows.specs.declared.EncodingMode.the-variants.{Group4}
 use Rattle.rows.specs.Settings.{settingsOf}
 use Rattle.by_unit.specs.declared.Saved.{Saved}
 use Rattle.by_unit.specs.declared.Reading as Unit
-use Rattle.by_unit.specs.declared.Reading.the-variants.{Open, Ended}
+use Rattle.by_unit.specs.declared.Reading.the-variants.{Open}
 use Rattle.by_unit.specs.declared.Turn.{Turn}
 use Rattle.by_unit.specs.Reading.{Ending, readingOf, ReadsUnits}
 use Rattle.promises.specs.Rooms.{Call, Reading}

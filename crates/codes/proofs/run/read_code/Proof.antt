@@ -1,13 +1,12 @@
 -- `codes::run::read_code` meets its contract: it is one step of the run. Assumes nothing.
 use mathlib.Core.Path.{_≡_, sym, _∙_}
 use lib.ListN.{length}
-use native.Mathlib.Omega.{arith}
 use denote.Ref.{now}
 use borrow.Author.Needs.{needs}
 use Rattle.tables.specs.Tables.{colourOf}
 use Rattle.bit_reader.specs.Cursor.{movedBy}
-use Rattle.bit_reader.specs.declared.Moved.the-variants.{To, End}
-use Rattle.codes.proofs.Runs.{At, look-at, code-short, code-wrong, code-large, code-small, code-last, code-more}
+use Rattle.bit_reader.specs.declared.Moved.the-variants.{To}
+use Rattle.codes.proofs.Runs.{At, look-at, code-short, code-wrong, code-large, code-last, code-more}
 use Rattle.codes.proofs.run.read_code.Statement.{statement}
 use Rattle.codes.proofs.run.read_code.Tie as tie
 
