@@ -111,16 +111,21 @@ module _ (live : ℕ) (bs : List Bool) where
       only-zeros live bs
       (sym (shl-shr (peek live bs) (64 - live)) ∙ ap (λ (x : ℕ). x / 2 ^ (64 - live)) e ∙ zero-div _)
 
-  top-one : live ≤ 64 → 0 < onTop live bs → zeroRun bs ≡ some (Count.leadingZeros 64 (onTop live bs))
-  top-one most h =
-      let p : 0 < peek live bs = set (peek live bs) h in
-      let d = zeros-below (64 - live) p (digits live bs) in
-      some-one live bs p
-      ∙ ap some (Count.leading-unique 64 (onTop live bs) (leadingZeros live bs) (d .m) (omega (arith, d .all)) (d .below) (d .above))
+  set : 0 < onTop live bs → 0 < peek live bs
+  set h = cases (peek live bs) h
     where
-      set : (x : ℕ) → 0 < x * 2 ^ (64 - live) → 0 < x
-      set zero k = absurd (omega (arith, zero-mul (2 ^ (64 - live))))
-      set (suc x) k = omega arith
+      cases : (x : ℕ) → 0 < x * 2 ^ (64 - live) → 0 < x
+      cases zero k = absurd (omega (arith, zero-mul (2 ^ (64 - live))))
+      cases (suc x) k = omega arith
+
+  -- where one of them is set, the zeros before it are the word's
+  pub top-leading : live ≤ 64 → 0 < onTop live bs → leadingZeros live bs ≡ Count.leadingZeros 64 (onTop live bs)
+  top-leading most h =
+      let d = zeros-below (64 - live) (set h) (digits live bs) in
+      Count.leading-unique 64 (onTop live bs) (leadingZeros live bs) (d .m) (omega (arith, d .all)) (d .below) (d .above)
+
+  top-one : live ≤ 64 → 0 < onTop live bs → zeroRun bs ≡ some (Count.leadingZeros 64 (onTop live bs))
+  top-one most h = some-one live bs (set h) ∙ ap some (top-leading most h)
 
 -- ---- Part by part
 

@@ -11,7 +11,7 @@ use lib.Seq.{drop-drop}
 use Rattle.rules.specs.Bits.{bitsOf, peek}
 use Rattle.rules.proofs.Bits.{peek-add, peek-high, peek-low, peek-lt, peek-byte}
 use Rattle.bit_reader.specs.Word.{eightAt}
-use Rattle.bit_reader.specs.Loaded.{onTop, Loaded}
+use Rattle.bit_reader.specs.Loaded.{onTop, Ahead, Loaded}
 use Rattle.bit_reader.specs.declared.buffer.Buffer.{Buffer}
 use Rattle.bit_reader.proofs.Cursor.{drop-in-byte}
 
@@ -67,6 +67,18 @@ top-at at bs =
     ap (λ (x : ℕ). x * 2 ^ (at % 8) % 2 ^ 64) (sym (mul-one (peek 64 (drop (at / 8 * 8) bs))))
     ∙ top-shift (at % 8) 64 (drop (at / 8 * 8) bs) (omega arith) (omega arith)
     ∙ ap (onTop (64 - at % 8)) (drop-in-byte at bs)
+
+-- the same of bits that are all of the data
+module _ {bytes : List ℕ} {at live bits : ℕ} (h : Ahead bytes at live bits) (n : ℕ) (there : n ≤ live) where
+  pub ahead-first : bits / 2 ^ (64 - n) ≡ peek n (drop at (bitsOf bytes))
+  ahead-first = rw (h .holds) (top-first n live (drop at (bitsOf bytes)) there (h .most))
+
+  pub ahead-shift : Ahead bytes (at + n) (live - n) (bits * 2 ^ n % 2 ^ 64)
+  ahead-shift = record {
+    most = omega (arith, h .most);
+    there = omega (arith, h .there);
+    holds = rw (h .holds, top-shift n live (drop at (bitsOf bytes)) there (h .most), drop-drop n at (bitsOf bytes));
+  }
 
 -- a buffer of them, n bits on: up to its limit a shift is all
 pub fed : {bytes : List ℕ} {b : Buffer} (n : ℕ) → Loaded bytes b → n ≤ 15 → b .at + n ≤ b .limit → Loaded bytes (record { at = b .at + n; limit = b .limit; bits = b .bits * 2 ^ n % 2 ^ 64 })

@@ -14,6 +14,12 @@ use Rattle.bit_reader.specs.declared.buffer.Fed.the-variants.{On, End}
 abbrev pub onTop : ℕ → List Bool → ℕ
 onTop live bs = peek live bs * 2 ^ (64 - live)
 
+-- the next `live` bits from `at` on, which are all of the data, on top of a word
+pub record Ahead (bytes : List ℕ) (at live bits : ℕ) : Type 0 where
+  pub most : live ≤ 64
+  pub there : at + live ≤ 8 * length bytes
+  pub holds : bits ≡ onTop live (drop at (bitsOf bytes))
+
 -- `live` bits from `at` on, above zeros. Up to the limit, which is inside the data, at least 13 are left.
 pub record Loaded (bytes : List ℕ) (b : Buffer) : Type 0 where
   pub live : ℕ

@@ -4,12 +4,13 @@ mod word;
 pub mod zeros;
 
 ghost use mathlib.Core.Path.{_≡_};
-ghost use Prim.Native.Nat.{_*_, _/_, _<_, _≤_};
+ghost use Prim.Native.Nat.{_+_, _-_, _*_, _/_, _%_, _<_, _≤_};
 ghost use lib.Dec.{leb};
 ghost use lib.ListN.{length, drop};
 ghost use Rattle.rules.specs.Bits.{bitsOf, peek};
 ghost use Rattle.rules.specs.Rows.{bytesTo};
 ghost use Rattle.bit_reader.specs.Cursor.{Thirteen, Taking, movedBy, mostBits};
+ghost use Rattle.bit_reader.specs.Loaded.{Ahead};
 
 // The bit at an offset.
 pub fn bit(src: &[u8], at: usize) -> u8
@@ -27,6 +28,14 @@ pub fn peek(src: &[u8], at: usize) -> u32
     ensures { λ r. ⌜ r ≡ peek 32 (drop at (bitsOf (now (src .entry)))) ⌝ }
 {
     ((word::word(src, at / 8) >> (32 - at % 8)) % 0x1_0000_0000) as u32
+}
+
+// The next bits, 57 of them at least, the first one on top, and zeros behind them. The data has 64 there, so that no end is tested.
+pub fn ahead(src: &[u8], at: usize) -> u64
+    requires { ⌜ at + 64 ≤ 8 * length (now src) ⌝ }
+    ensures { λ r. ⌜ Ahead (now (src .entry)) at (64 - at % 8) r ⌝ }
+{
+    word::fast(src, at / 8) << (at % 8)
 }
 
 // The next 13 bits, as many as the longest code of a run.
