@@ -4,7 +4,7 @@ use mathlib.Core.Path.{_≡_, refl, sym, ap, _∙_}
 use mathlib.Core.Logic.{_⊎_, inl, inr}
 use mathlib.Core.Bool.{Bool, true, false, cond}
 use mathlib.Core.List.{List, [], _∷_}
-use Prim.Native.Nat.{ℕ, zero, suc, _+_, _-_, _*_, _%_, _^_, _≤_, _<_}
+use Prim.Native.Nat.{ℕ, zero, suc, _+_, _-_, _*_, _/_, _%_, _^_, _≤_, _<_}
 use native.Mathlib.Omega.{arith}
 use native.Mathlib.Nat.{suc-add}
 use lib.Count as Count
@@ -12,6 +12,7 @@ use lib.Dec.{eqb, leb}
 use lib.IntN.{ℤ, pos, negsuc}
 use lib.ListN.{length, drop}
 use lib.Signed.{mag}
+use borrow.Author.Tests.{le-leb}
 use mir.Syntax.{w64}
 use mir.Val.{toZ, ofZ}
 use mir.ValLaws.{toZ-ofZ}
@@ -21,23 +22,33 @@ use Rattle.rules.specs.Modes.{Mode, VR, VL, ModeIn, known, unknown, Moded, mode
 use Rattle.rules.proofs.Bits.{peek-high, peek-low, length-bitsOf}
 use Rattle.rules.proofs.Modes.{modes-agree}
 use Rattle.bit_reader.specs.Cursor.{movedBy}
+use Rattle.bit_reader.specs.Loaded.{onTop, Ahead}
 use Rattle.bit_reader.specs.declared.Moved.{Moved}
 use Rattle.bit_reader.specs.declared.Moved.the-variants.{To, End}
-use Rattle.bit_reader.proofs.Clear.{zeros-of-number}
+use Rattle.bit_reader.proofs.Window.{ahead-first}
+use Rattle.bit_reader.proofs.Clear.{zeros-of-number, top-leading}
 use Rattle.codes.specs.Modes.{offsetMode}
 
 -- ---- Leading zeros, in windows of any width
 
+first-bit : (l : List Bool) → firstBit l ≡ eqb (peek 1 l) 1
+unfolding peek
+first-bit [] = refl
+first-bit (true ∷ l) = refl
+first-bit (false ∷ l) = refl
+
 -- the bit after i others, in a window that has it
 bit-of-number : (i rest : ℕ) (bs : List Bool) → firstBit (drop i bs) ≡ bit rest (peek (i + 1 + rest) bs)
-unfolding bit peek
+unfolding bit
 bit-of-number i rest bs =
-    first (drop i bs) ∙ ap (λ (x : ℕ). eqb x 1) (sym (peek-low i 1 bs) ∙ ap (λ (x : ℕ). x % 2) (sym (peek-high (i + 1) rest bs)))
-  where
-    first : (l : List Bool) → firstBit l ≡ eqb (peek 1 l) 1
-    first [] = refl
-    first (true ∷ l) = refl
-    first (false ∷ l) = refl
+    first-bit (drop i bs) ∙ ap (λ (x : ℕ). eqb x 1) (sym (peek-low i 1 bs) ∙ ap (λ (x : ℕ). x % 2) (sym (peek-high (i + 1) rest bs)))
+
+-- a one leads no zeros
+one-first : (bs : List Bool) → peek 1 bs ≡ 1 → modeByZeros bs ≡ known (VR 0) 1
+unfolding peek modeByZeros leadingZeros modeFor
+one-first [] e = absurd (omega arith)
+one-first (true ∷ bs) e = refl
+one-first (false ∷ bs) e = absurd (omega arith)
 
 -- the leading zeros of a window of n bits, and of a wider one: the same, or n at least
 abbrev SameOrAll : ℕ → ℕ → ℕ → Type 0
@@ -66,12 +77,12 @@ pub no-mode : (z : ℕ) → 6 ≤ z → (side : Bool) → modeFor z side ≡ unk
 unfolding modeFor
 no-mode z h side = let e : z ≡ suc (suc (suc (suc (suc (suc (z - 6)))))) = omega arith in rw e
 
--- the zeros of 32 bits serve as those of six
-by-zeros : (z : ℕ) (bs : List Bool) → leadingZeros 32 bs ≡ z → modeByZeros bs ≡ modeFor z (firstBit (drop (suc z) bs))
+-- the zeros of six bits and some more serve as those of six
+by-zeros : (k z : ℕ) (bs : List Bool) → leadingZeros (6 + k) bs ≡ z → modeByZeros bs ≡ modeFor z (firstBit (drop (suc z) bs))
 unfolding modeByZeros
-by-zeros z bs e = cases (wider 6 26 bs)
+by-zeros k z bs e = cases (wider 6 k bs)
   where
-    cases : SameOrAll 6 (leadingZeros 6 bs) (leadingZeros 32 bs) → modeByZeros bs ≡ modeFor z (firstBit (drop (suc z) bs))
+    cases : SameOrAll 6 (leadingZeros 6 bs) (leadingZeros (6 + k) bs) → modeByZeros bs ≡ modeFor z (firstBit (drop (suc z) bs))
     cases (inl q) = ap (λ (n : ℕ). modeFor n (firstBit (drop (suc n) bs))) (sym q ∙ e)
     cases (inr h) = no-mode _ (h .0) _ ∙ sym (no-mode z (omega (arith, h .1)) _)
 
@@ -82,7 +93,7 @@ module _ (bytes : List ℕ) (at : ℕ) {w z : ℕ} (window : w ≡ peek 32 (drop
   unfolding readMode
   read-as m e =
       ap (λ (n : ℕ). modeTake n at m) (sym (length-bitsOf bytes))
-      ∙ ap (modeTake (length (bitsOf bytes)) at) (sym (modes-agree (drop at (bitsOf bytes)) ∙ by-zeros z _ counted ∙ e))
+      ∙ ap (modeTake (length (bitsOf bytes)) at) (sym (modes-agree (drop at (bitsOf bytes)) ∙ by-zeros 26 z _ counted ∙ e))
     where
       counted : leadingZeros 32 (drop at (bitsOf bytes)) ≡ z
       counted = zeros-of-number 32 _ ∙ ap (Count.leadingZeros 32) (sym window) ∙ zeros
@@ -110,6 +121,64 @@ module _ (bytes : List ℕ) (at : ℕ) {w z : ℕ} (window : w ≡ peek 32 (drop
       pick : (side : Bool) → cond side (VR (suc k)) (VL (suc k)) ≡ offsetMode (cond side (pos (suc k)) (negsuc k))
       pick true = refl
       pick false = refl
+
+-- ---- A mode by the bits on top of a word, all of the data
+
+module _ {bytes : List ℕ} {at live bits : ℕ} (h : Ahead bytes at live bits) (seven : 7 ≤ live) where
+  abbrev ahead : List Bool
+  ahead = drop at (bitsOf bytes)
+
+  module _ {z : ℕ} (zeros : Count.leadingZeros 64 bits ≡ z) (few : z < 6) where
+    top-counted : leadingZeros live ahead ≡ z
+    top-counted =
+        top-leading live ahead (h .most) (rw (h .holds) at (some-one bits zeros))
+        ∙ ap (Count.leadingZeros 64) (sym (h .holds))
+        ∙ zeros
+      where
+        some-one : (x : ℕ) → Count.leadingZeros 64 x ≡ z → 0 < x
+        some-one zero e = absurd (omega (arith, Count.leading-of-zero 64))
+        some-one (suc x) e = omega arith
+
+    -- the mode for these zeros and the next bit, whose code is in the data
+    top-read : (m : Mode) (size : ℕ) → modeFor z (firstBit (drop (suc z) ahead)) ≡ known m size → size ≤ 7 → readMode (bitsOf bytes) at ≡ ok (moded (at + size) m)
+    unfolding readMode modeTake
+    top-read m size e s =
+        let n : 6 + (live - 6) ≡ live = omega arith in
+        ap (modeTake (length (bitsOf bytes)) at) (modes-agree ahead ∙ by-zeros (live - 6) z ahead (ap (λ (k : ℕ). leadingZeros k ahead) n ∙ top-counted) ∙ e)
+        ∙ rw (le-leb (at + size) (length (bitsOf bytes)) (omega (arith, h .there, length-bitsOf bytes)))
+
+    -- where the next bit does not matter
+    pub top-mode : (m : Mode) (size : ℕ) → ((side : Bool) → modeFor z side ≡ known m size) → size ≤ 7 → readMode (bitsOf bytes) at ≡ ok (moded (at + size) m)
+    top-mode m size e s = top-read m size (e _) s
+
+    -- where it is the side
+    pub top-sided : (k size : ℕ) → ((side : Bool) → modeFor z side ≡ known (cond side (VR k) (VL k)) size) → size ≤ 7
+        → readMode (bitsOf bytes) at ≡ ok (moded (at + size) (cond (eqb (bits / 2 ^ (62 - z) % 2) 1) (VR k) (VL k)))
+    top-sided k size e s =
+        top-read (cond (eqb (bits / 2 ^ (62 - z) % 2) 1) (VR k) (VL k)) size (ap (modeFor z) next-bit ∙ e (eqb (bits / 2 ^ (62 - z) % 2) 1)) s
+      where
+        next-bit : firstBit (drop (suc z) ahead) ≡ eqb (bits / 2 ^ (62 - z) % 2) 1
+        next-bit =
+            let n : 64 - (suc z + 1) ≡ 62 - z = omega arith in
+            first-bit (drop (suc z) ahead)
+            ∙ ap (λ (x : ℕ). eqb x 1) (sym (peek-low (suc z) 1 ahead) ∙ ap (λ (x : ℕ). x % 2) (sym (ahead-first h (suc z + 1) (omega arith)) ∙ ap (λ (x : ℕ). bits / 2 ^ x) n))
+
+-- a one on top is of the data, however few bits of it are there, and alone it is V(0)
+module _ {bytes : List ℕ} {at live bits : ℕ} (h : Ahead bytes at live bits) (e : bits / 2 ^ 63 ≡ 1) where
+  pub one-live : 1 ≤ live
+  unfolding peek
+  one-live = cases live (h .holds)
+    where
+      cases : (n : ℕ) → bits ≡ onTop n (drop at (bitsOf bytes)) → 1 ≤ n
+      cases zero q = absurd (omega arith)
+      cases (suc n) q = omega arith
+
+  pub top-straight : readMode (bitsOf bytes) at ≡ ok (moded (at + 1) (VR 0))
+  unfolding readMode modeTake
+  top-straight =
+      let k = one-live in
+      ap (modeTake (length (bitsOf bytes)) at) (modes-agree (drop at (bitsOf bytes)) ∙ one-first (drop at (bitsOf bytes)) (sym (ahead-first h 1 one-live) ∙ e))
+      ∙ rw (le-leb (at + 1) (length (bitsOf bytes)) (omega (arith, h .there, length-bitsOf bytes)))
 
 -- ---- The bits of a code
 

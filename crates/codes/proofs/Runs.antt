@@ -25,7 +25,7 @@ use Rattle.bit_reader.specs.declared.buffer.Buffer.{Buffer}
 -- ---- A step by an entry's number
 
 -- `runTake` by the two parts of an entry
-stepBy : ℕ → Sum → ℕ → ℕ → Out Sum (Res Sum)
+unfoldable pub stepBy : ℕ → Sum → ℕ → ℕ → Out Sum (Res Sum)
 stepBy bits s run size =
     cond (leb (s .at + size) bits)
     (cond (eqb run 4095)
@@ -36,7 +36,7 @@ stepBy bits s run size =
     (done (fault 2 (s .at)))
 
 -- 4,095 is the run of invalid entries alone
-step-by : (colour : Colour) (bs : List Bool) (s : Sum) (e : ℕ) → e ≡ entryNumber (lookup colour (window 13 (drop (s .at) bs)))
+pub step-by : (colour : Colour) (bs : List Bool) (s : Sum) (e : ℕ) → e ≡ entryNumber (lookup colour (window 13 (drop (s .at) bs)))
     → runStep colour bs s ≡ stepBy (length bs) s (e % 4096) (e / 4096)
 unfolding runStep runTake stepBy
 step-by colour bs s e = entry (lookup colour (window 13 (drop (s .at) bs))) refl

@@ -1,4 +1,5 @@
 pub mod Runs
+pub mod Fronts
 pub mod Plain
 pub mod Modes
 pub mod Eols

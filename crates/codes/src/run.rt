@@ -26,13 +26,13 @@ fn table_of<'a>(white: &'a [u16; 8192], black: &'a [u16; 8192], colour: usize) -
 }
 
 // An entry has its run in the low 12 bits, and the length of its code above them.
-fn run_in(entry: u16) -> u32
+pub(crate) fn run_in(entry: u16) -> u32
     ensures { λ r. ⌜ r ≡ entry % 4096 ⌝ }
 {
     (entry % 4096) as u32
 }
 
-fn size_in(entry: u16) -> usize
+pub(crate) fn size_in(entry: u16) -> usize
     ensures { λ r. ⌜ (r ≡ entry / 4096) × (r ≤ 15) ⌝ }
 {
     (entry / 4096) as usize

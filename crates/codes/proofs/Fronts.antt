@@ -1,0 +1,98 @@
+-- A run of one code, and of two, by their entries. Assumes nothing.
+use mathlib.Core.Path.{_≡_, refl, sym, ap, _∙_}
+use mathlib.Core.Bool.{Bool}
+use mathlib.Core.List.{List}
+use Prim.Native.Nat.{ℕ, _+_, _-_, _*_, _/_, _%_, _^_, _≤_, _<_}
+use native.Mathlib.Omega.{arith}
+use native.Mathlib.Nat.{zero-add}
+use lib.ListN.{length, getD, drop}
+use borrow.Author.Tests.{le-leb, lt-ltb, le-ltb, ne-eqb}
+use Rattle.rules.specs.Machine.{more, done}
+use Rattle.rules.specs.Bits.{bitsOf, window, peek}
+use Rattle.rules.specs.Codes.{Colour}
+use Rattle.rules.specs.Lookup.{Entry, valid, invalid, lookup, entryNumber, lookupTable}
+use Rattle.rules.specs.Runs.{ok, sum, runStep, readRun}
+use Rattle.rules.proofs.Bits.{length-bitsOf}
+use Rattle.rules.proofs.Codes.{shape}
+use Rattle.rules.proofs.Lookup.{lookup-valid, table-at}
+use Rattle.bit_reader.specs.Loaded.{Ahead}
+use Rattle.bit_reader.proofs.Window.{ahead-first, ahead-shift}
+use Rattle.codes.specs.Fronts.{FrontRun}
+use Rattle.codes.proofs.Runs.{stepBy, step-by, Summing, no-sum, sum-stops, sum-goes}
+
+-- an entry's code has 13 bits at most, but where no code begins the bits
+entry-size : (colour : Colour) (ws : List Bool) (e : ℕ) → e ≡ entryNumber (lookup colour ws) → (e % 4096 ≡ 4095 → ⊥) → e / 4096 ≤ 13
+entry-size colour ws e q n = cases (lookup colour ws) refl q
+  where
+    cases : (o : Entry) → lookup colour ws ≡ o → e ≡ entryNumber o → e / 4096 ≤ 13
+    cases (invalid size) p f = absurd (n (omega arith))
+    cases (valid run size) p f =
+        let v = lookup-valid colour ws run size p in
+        let s = shape colour (v .code) (v .member) in
+        omega (arith, s .small-run, s .few-bits, v .run-is, v .size-is)
+
+-- where 26 bits from `at` on are in the data, and the entry for the first 13 of them is known
+module _ (colour : Colour) {bytes : List ℕ} {at live bits : ℕ} (h : Ahead bytes at live bits) (enough : 26 ≤ live) {first : ℕ}
+    (e : first ≡ entryNumber (lookup colour (window 13 (drop at (bitsOf bytes))))) where
+  abbrev bs : List Bool
+  bs = bitsOf bytes
+
+  abbrev run : ℕ
+  run = first % 4096
+
+  abbrev size : ℕ
+  size = first / 4096
+
+  module _ (is-run : first % 4096 ≡ 4095 → ⊥) where
+    short : first / 4096 ≤ 13
+    short = entry-size colour (window 13 (drop at bs)) first e is-run
+
+    fits : at + size ≤ length bs
+    fits = omega (arith, short, h .there, length-bitsOf bytes)
+
+    -- a make-up code goes on behind it
+    goes : 64 ≤ run → runStep colour bs (sum at 0) ≡ more (sum (at + size) (0 + run))
+    unfolding stepBy
+    goes k = step-by colour bs (sum at 0) first e ∙ rw (le-leb (at + size) (length bs) fits, ne-eqb run 4095 is-run, le-leb (0 + run) 4294967295 (omega arith), le-ltb run 64 k)
+
+  -- a terminating code is all
+  pub one-code : first % 4096 < 64 → FrontRun colour bytes at (record { pixels = first % 4096; size = first / 4096 })
+  unfolding stepBy
+  one-code k =
+      let n : (run ≡ 4095 → ⊥) = λ z. omega arith in
+      let step : runStep colour bs (sum at 0) ≡ done (ok (sum (at + size) (0 + run))) = step-by colour bs (sum at 0) first e ∙ rw (le-leb (at + size) (length bs) (fits n), ne-eqb run 4095 n, le-leb (0 + run) 4294967295 (omega arith), lt-ltb run 64 k) in
+      record {
+        within = omega (arith, short n);
+        same = sym (sum-stops no-sum (ok (sum (at + size) (0 + run))) step) ∙ ap (λ (t : ℕ). ok (sum (at + size) t)) (zero-add run);
+      }
+
+  -- a make-up code, and a terminating code behind it, by the entry for the bits there
+  module _ (is-run : first % 4096 ≡ 4095 → ⊥) {table : List ℕ} (t : table ≡ lookupTable colour) {top : ℕ} (there : top ≡ bits * 2 ^ (first / 4096) % 2 ^ 64 / 2 ^ 51) where
+    second : ℕ
+    second = getD table top 0
+
+    behind : Ahead bytes (at + size) (live - size) (bits * 2 ^ size % 2 ^ 64)
+    behind = ahead-shift h size (omega (arith, short is-run))
+
+    entered : second ≡ entryNumber (lookup colour (window 13 (drop (at + size) bs)))
+    unfolding second
+    entered =
+        ap (λ (i : ℕ). getD table i 0) (there ∙ ahead-first behind 13 (omega (arith, short is-run)))
+        ∙ ap (λ (l : List ℕ). getD l (peek 13 (drop (at + size) bs)) 0) t
+        ∙ table-at colour (drop (at + size) bs)
+
+    pub two-codes : 64 ≤ first % 4096 → getD table top 0 % 4096 < 64
+        → FrontRun colour bytes at (record { pixels = first % 4096 + getD table top 0 % 4096; size = first / 4096 + getD table top 0 / 4096 })
+    unfolding stepBy second
+    two-codes k l =
+        let n : (second % 4096 ≡ 4095 → ⊥) = λ z. omega arith in
+        let few : second / 4096 ≤ 13 = entry-size colour (window 13 (drop (at + size) bs)) second entered n in
+        let there : at + size + second / 4096 ≤ length bs = omega (arith, short is-run, few, h .there, length-bitsOf bytes) in
+        let on : Summing colour bytes at (sum (at + size) (0 + run)) = sum-goes no-sum (sum (at + size) (0 + run)) (goes is-run k) (omega arith) in
+        let step : runStep colour bs (sum (at + size) (0 + run)) ≡ done (ok (sum (at + size + second / 4096) (0 + run + second % 4096))) = step-by colour bs (sum (at + size) (0 + run)) second entered ∙ rw (le-leb (at + size + second / 4096) (length bs) there, ne-eqb (second % 4096) 4095 n, le-leb (0 + run + second % 4096) 4294967295 (omega arith), lt-ltb (second % 4096) 64 l) in
+        let end : at + size + second / 4096 ≡ at + (size + second / 4096) = omega arith in
+        let total : 0 + run + second % 4096 ≡ run + second % 4096 = omega arith in
+        record {
+          within = omega (arith, short is-run, few);
+          same = sym (sum-stops on (ok (sum (at + size + second / 4096) (0 + run + second % 4096))) step) ∙ (λ i. ok (sum (end i) (total i)));
+        }

@@ -1,0 +1,57 @@
+// The run at the front of some bits, where it is short: one terminating code, or a make-up code and one, whose bits are all there.
+use crate::run;
+ghost use mathlib.Core.Path.{_≡_};
+ghost use Prim.Native.Nat.{_/_, _%_, _^_, _≤_, _<_};
+ghost use lib.ListN.{getD};
+ghost use Rattle.codes.specs.Fronts.{Fronted};
+
+// A run and the bits of its codes; no pixels where it is a run of 0, or no such run.
+pub struct Front {
+    pub pixels: u32,
+    pub size: usize,
+}
+
+// The next 13 bits.
+pub fn top13(bits: u64) -> usize
+    ensures { λ r. ⌜ (r ≡ bits / 2 ^ 51) × (r < 8192) ⌝ }
+{
+    (bits >> 51) as usize
+}
+
+// Of an entry that is no terminating code: a make-up code, and a terminating code behind it.
+fn long_run(table: &[u16; 8192], bits: u64, first: u16) -> Front
+    requires { ⌜ 64 ≤ first % 4096 ⌝ }
+    ensures { λ r. ⌜ Fronted (now (table .entry)) first bits r ⌝ }
+{
+    let size = run::size_in(first);
+    let top = top13(bits << size);
+    let last = table[top];
+    let more = run::run_in(last);
+    let run = run::run_in(first);
+    if run == 4095 {
+        return Front { pixels: 0, size: 0 };
+    }
+    if 63 < more {
+        return Front { pixels: 0, size: 0 };
+    }
+    Front {
+        pixels: run + more,
+        size: size + run::size_in(last),
+    }
+}
+
+// The run at the front of `bits`, of which 26 are there. `top` is the first 13 of them, which a caller may know earlier.
+pub fn front_run(table: &[u16; 8192], top: usize, bits: u64) -> Front
+    requires { ⌜ top < 8192 ⌝ }
+    ensures { λ r. ⌜ Fronted (now (table .entry)) (getD (now (table .entry)) top 0) bits r ⌝ }
+{
+    let entry = table[top];
+    let run = run::run_in(entry);
+    if run < 64 {
+        return Front {
+            pixels: run,
+            size: run::size_in(entry),
+        };
+    }
+    long_run(table, bits, entry)
+}
