@@ -26,7 +26,7 @@ use Rattle.context.proofs.State.{line-for, line-at, overlaid-same}
 -- ---- Slices whose front is written
 
 -- a longer front takes the place of a shorter one
-overlaid-over : (zs ys xs : List ℕ) → length ys ≤ length zs → overlaid zs (overlaid ys xs) ≡ overlaid zs xs
+pub overlaid-over : (zs ys xs : List ℕ) → length ys ≤ length zs → overlaid zs (overlaid ys xs) ≡ overlaid zs xs
 unfolding overlaid
 overlaid-over zs ys xs h =
     ap (λ (n : ℕ). zs ++ drop n (ys ++ drop (length ys) xs)) split

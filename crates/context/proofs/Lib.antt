@@ -11,4 +11,9 @@ pub mod ModeCode
 pub mod OneCode
 pub mod RowPart
 pub mod LineLoop
+pub mod Placing
+pub mod Goes
+pub mod Fronting
+pub mod Swiftly
+pub mod KeptLine
 pub mod OneLine

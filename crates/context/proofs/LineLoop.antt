@@ -43,7 +43,7 @@ pub record Task : Type 0 where
   pub at : ℕ
   pub rules : Code.Rules
 
-abbrev Asked : Task → Type 0
+abbrev pub Asked : Task → Type 0
 Asked T = Lines (T .white) (T .black) (T .bytes) (T .reference) (T .xs) (T .base) (T .place) (T .width) (T .at)
 
 abbrev bs : Task → List Bool
@@ -59,10 +59,10 @@ R T = rulesFor (T .width) (T .rules) (row T)
 abbrev ref : Task → List ℕ
 ref T = referenceIn (T .place) (T .base) (T .reference) (T .xs)
 
-abbrev code : Task → Rule.Line → Went
+abbrev pub code : Task → Rule.Line → Went
 code T = codeOf (R T) (two (ref T)) (bs T)
 
-abbrev whole : Task → Went
+abbrev pub whole : Task → Went
 whole T = readLine (R T) (two (ref T)) (bs T) (T .at)
 
 -- The line of the rules that the code's line, bit and array carry, and the changes that the searches have passed; what is left of it is the
@@ -122,50 +122,50 @@ module _ {T : Task} {l : Line} {at seen : ℕ} {zs : List ℕ} (g : Reading T l 
   placed : Placed (T .place) (T .base) zs
   placed = placed-as (T .place) (T .base) (T .xs) zs reading-length (h .placed)
 
-  reference-is : referenceIn (T .place) (T .base) (T .reference) zs ≡ ref T
-  reference-is = reference-same (T .place) (T .base) (T .reference) (T .xs) zs (h .placed) placed (g .front)
+  pub reading-reference : referenceIn (T .place) (T .base) (T .reference) zs ≡ ref T
+  reading-reference = reference-same (T .place) (T .base) (T .reference) (T .xs) zs (h .placed) placed (g .front)
 
   array-is : zs ≡ take (T .base) (T .xs) ++ overlaid (s .changes) (row T)
   array-is = sym (take-append-drop (T .base) zs) ∙ (λ i. g .front i ++ k .store i)
 
-  position-is : l .position ≡ s .position
-  position-is = ap (λ (m : Line). m .position) (k .line-is)
+  pub reading-position : l .position ≡ s .position
+  reading-position = ap (λ (m : Line). m .position) (k .line-is)
 
-  width-is : l .width ≡ T .width
-  width-is = ap (λ (m : Line). m .width) (k .line-is)
+  pub reading-width : l .width ≡ T .width
+  reading-width = ap (λ (m : Line). m .width) (k .line-is)
 
-  holds : Holds (drop (T .base) zs) l
-  holds = carries-holds k
+  pub reading-holds : Holds (drop (T .base) zs) l
+  reading-holds = carries-holds k
 
   pub reading-done : l .position ≡ l .width → StepsAt (T .base) (T .width) (T .xs) (whole T) (On l at) zs
   reading-done e =
-      rw (g .same ∙ line-done (T .width) (code T) (bs T) (moves (R T) (two (ref T)) (bs T)) s (sym position-is ∙ e ∙ width-is))
+      rw (g .same ∙ line-done (T .width) (code T) (bs T) (moves (R T) (two (ref T)) (bs T)) s (sym reading-position ∙ e ∙ reading-width))
       (record { answer = λ i. On (k .line-is i) (g .place-is i); store = array-is })
 
   module _ (t : l .position ≡ l .width → ⊥) where
     short : s .position ≡ T .width → ⊥
-    short e = t (position-is ∙ e ∙ sym width-is)
+    short e = t (reading-position ∙ e ∙ sym reading-width)
 
     pub reading-seeks : Seeks (T .place) (T .base) (T .reference) zs seen l
     reading-seeks = record {
       placed = placed;
-      searches = rw reference-is (record {
-        rising = subst (λ (n : ℕ). Rising n 0 (ref T)) (sym width-is) (h .rising);
-        passed = subst (λ (n : ℕ). Passed (rightOfA0 n) seen (ref T)) (sym position-is) (g .passed);
-        narrow = omega (arith, position-is, k .fits, k .narrow);
-        two-colours = holds .coloured;
+      searches = rw reading-reference (record {
+        rising = subst (λ (n : ℕ). Rising n 0 (ref T)) (sym reading-width) (h .rising);
+        passed = subst (λ (n : ℕ). Passed (rightOfA0 n) seen (ref T)) (sym reading-position) (g .passed);
+        narrow = omega (arith, reading-position, k .fits, k .narrow);
+        two-colours = reading-holds .coloured;
       });
     }
 
     module _ {f : Found} (q : Finds (referenceIn (T .place) (T .base) (T .reference) zs) (l .width) (l .position) (colourOf (l .colour)) f) where
       finds : Finds (ref T) (l .width) (l .position) (colourOf (l .colour)) f
-      finds = subst (λ (r : List ℕ). Finds r (l .width) (l .position) (colourOf (l .colour)) f) reference-is q
+      finds = subst (λ (r : List ℕ). Finds r (l .width) (l .position) (colourOf (l .colour)) f) reading-reference q
 
       pub reading-codes : Coding (T .white) (T .black) (T .bytes) (midOf (T .base) (length zs - T .base) zs) l at (f .b2)
       reading-codes = rw (row-lent zs (T .base)) (record {
-        reads = record { lookups = h .starts .lookups; loading = record { size = h .starts .loading .size; inside = omega (arith, g .place-is, g .inside, length-bitsOf (T .bytes)) }; holds = holds };
-        short = let n = short in omega (arith, position-is, width-is, k .fits);
-        ahead = rw (finds .b2-is) (b2-ahead (l .width) (ref T) (l .position) (colourOf (l .colour)) (subst (λ (n : ℕ). Rising n 0 (ref T)) (sym width-is) (h .rising)) (holds .fits));
+        reads = record { lookups = h .starts .lookups; loading = record { size = h .starts .loading .size; inside = omega (arith, g .place-is, g .inside, length-bitsOf (T .bytes)) }; holds = reading-holds };
+        short = let n = short in omega (arith, reading-position, reading-width, k .fits);
+        ahead = rw (finds .b2-is) (b2-ahead (l .width) (ref T) (l .position) (colourOf (l .colour)) (subst (λ (n : ℕ). Rising n 0 (ref T)) (sym reading-width) (h .rising)) (reading-holds .fits));
       })
 
       module _ (r : Step) (ys : List ℕ) (c : Coded (T .bytes) (midOf (T .base) (length zs - T .base) zs) l at (f .b1) (f .b2) (T .rules) r ys) where
@@ -202,6 +202,6 @@ module _ {T : Task} {l : Line} {at seen : ℕ} {zs : List ℕ} (g : Reading T l 
               front = back-front zs (T .base) reading-room ys ∙ g .front;
               place-is = there;
               inside = moves (R T) (two (ref T)) (bs T) s u o .1;
-              passed = passed-on (finds .passed) (right-grows (l .position) (u .position) (omega (arith, position-is, grows .further)));
+              passed = passed-on (finds .passed) (right-grows (l .position) (u .position) (omega (arith, reading-position, grows .further)));
               same = g .same ∙ line-more (T .width) (code T) (bs T) (moves (R T) (two (ref T)) (bs T)) s u short o;
             })

@@ -77,14 +77,14 @@ head-behind [] (suc i) h = omega arith
 head-behind (x ∷ xs) zero h = h (omega arith)
 head-behind (x ∷ xs) (suc i) h = head-behind xs i (λ k. h (omega arith))
 
-rises-drop : {width low : ℕ} (i : ℕ) {xs : List ℕ} → Rising width low xs → Rising width low (drop i xs)
+pub rises-drop : {width low : ℕ} (i : ℕ) {xs : List ℕ} → Rising width low xs → Rising width low (drop i xs)
 rises-drop zero r = r
 rises-drop (suc i) none = none
 rises-drop (suc i) (some h k r) = rises-lower (omega arith) (rises-drop i r)
 
 -- ---- Colours
 
-turns-next : (i : ℕ) → turnsAt (suc i) ≡ opposite (turnsAt i)
+pub turns-next : (i : ℕ) → turnsAt (suc i) ≡ opposite (turnsAt i)
 unfolding turnsAt
 turns-next i = tests (i % 2) (suc i % 2) (omega arith) (omega arith)
   where
@@ -135,11 +135,11 @@ place-near seen colour = by (differ (turnsAt seen) colour)
 
 -- one step of the search, over its test
 module _ (colour : Colour) (least : ℕ) (turns : Colour) (x : ℕ) (xs : List ℕ) where
-  takes : (leb least x && differ turns colour) ≡ true → fromB1 colour least turns (x ∷ xs) ≡ x ∷ xs
+  pub takes : (leb least x && differ turns colour) ≡ true → fromB1 colour least turns (x ∷ xs) ≡ x ∷ xs
   unfolding fromB1
   takes e = rw (fromB1, e)
 
-  leaves : (leb least x && differ turns colour) ≡ false → fromB1 colour least turns (x ∷ xs) ≡ fromB1 colour least (opposite turns) xs
+  pub leaves : (leb least x && differ turns colour) ≡ false → fromB1 colour least turns (x ∷ xs) ≡ fromB1 colour least (opposite turns) xs
   unfolding fromB1
   leaves e = rw (fromB1, e)
 

@@ -79,7 +79,7 @@ overlaid-set n xs p h =
 
 -- ---- The last pixel's colour is the parity of the changes
 
-parity : (zs : List ℕ) → lastColour zs ≡ colourOf (length zs % 2)
+pub parity : (zs : List ℕ) → lastColour zs ≡ colourOf (length zs % 2)
 unfolding lastColour
 parity [] = refl
 parity (z ∷ zs) = ap opposite (parity zs) ∙ turn (length zs % 2) (length zs) refl

@@ -5,4 +5,6 @@ pub mod Offset
 pub mod Reference
 pub mod Coding
 pub mod OneCode
+pub mod Swift
+pub mod Kept
 pub mod OneLine

@@ -1,4 +1,5 @@
 // One line: its state, what codes do to it, and its reading to the width (context.rs).
+mod kept;
 pub mod line;
 pub mod offset;
 pub mod once;
@@ -6,4 +7,5 @@ pub mod read;
 pub mod reference;
 pub mod runs;
 pub mod step;
+pub mod swift;
 pub mod two;

@@ -6,6 +6,7 @@ ghost use Rattle.rules.specs.Lines.{rightOfA0, headOr};
 ghost use Rattle.rules.specs.Pages.{ascends};
 ghost use Rattle.tables.specs.Tables.{colourOf};
 ghost use Rattle.context.specs.Reference.{Passed, Stopped, Searches, Finds, b1Place};
+ghost use Rattle.context.specs.Kept.{B1At};
 
 // Where the next search goes on, and the two changes, each the width where it is absent.
 pub struct Found {
@@ -72,6 +73,21 @@ pub fn find(reference: &[u32], seen: usize, width: u32, position: u32, colour: u
         b1: change_or(reference, place, width),
         b2: change_or(reference, place + 1, width),
     }
+}
+
+// The place of b1 alone.
+pub(crate) fn b1_from(
+    reference: &[u32],
+    seen: usize,
+    width: u32,
+    position: u32,
+    colour: u32,
+) -> usize
+    requires { ⌜ Searches (now reference) seen width position colour ⌝ }
+    ensures { λ r. ⌜ B1At (now (reference .entry)) position colour r ⌝ }
+{
+    let stop = scan(reference, seen, right_of_a0(position));
+    b1_place(stop, colour)
 }
 
 pub fn ascends(row: &[u32], width: u32) -> bool

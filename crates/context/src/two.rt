@@ -1,4 +1,5 @@
 // A 2D line: what one mode code does, given b1 and b2, and codes to the width.
+use crate::kept;
 use crate::line;
 use crate::line::Line;
 use crate::line::Push;
@@ -87,7 +88,7 @@ fn horizontal<'a>(
     unless_idle(step, line, at, rules.exact)
 }
 
-fn code_2d<'a>(
+pub(crate) fn code_2d<'a>(
     white: &'a [u16; 8192],
     black: &'a [u16; 8192],
     src: &[u8],
@@ -152,8 +153,8 @@ fn find(
     }
 }
 
-// A line whose changes go into `changes` from `base` on. Each search goes on where the last one stopped.
-pub fn decode_2d_line<'a>(
+// A line code by code, by the full rules. Each search goes on where the last one stopped.
+fn line_by_codes<'a>(
     white: &'a [u16; 8192],
     black: &'a [u16; 8192],
     src: &[u8],
@@ -195,4 +196,55 @@ pub fn decode_2d_line<'a>(
         }
     }
     Step::On(line, at)
+}
+
+// A line whose changes go into `changes` from `base` on. Where the reference is lent, and by the plain engine (A14), no code is swift.
+pub fn decode_2d_line<'a>(
+    white: &'a [u16; 8192],
+    black: &'a [u16; 8192],
+    src: &[u8],
+    reference: &[u32],
+    changes: &mut [u32],
+    base: usize,
+    place: Reference,
+    width: u32,
+    start: usize,
+    rules: Rules,
+) -> Step
+    requires { ⌜ Lines (now white) (now black) (now src) (now reference) (now changes) base place width start ⌝ }
+    ensures { λ r. ⌜ Lined (now (src .entry)) (now (reference .entry)) (now (changes .entry)) base place width start rules r (now (changes .exit)) ⌝ }
+{
+    if rules.plain {
+        return line_by_codes(
+            white,
+            black,
+            src,
+            reference,
+            changes,
+            base,
+            place,
+            width,
+            start,
+            rules,
+        );
+    }
+    match place {
+        Reference::Kept(first) => {
+            kept::kept_line(white, black, src, changes, first, base, width, start, rules)
+        }
+        Reference::Lent => {
+            line_by_codes(
+                white,
+                black,
+                src,
+                reference,
+                changes,
+                base,
+                place,
+                width,
+                start,
+                rules,
+            )
+        }
+    }
 }

@@ -1,0 +1,107 @@
+// A 2D line under the row before it, which lies in the same array: swift codes, and between them one code by the full rules.
+use crate::line::Line;
+use crate::reference;
+use crate::step::Rules;
+use crate::step::Step;
+use crate::swift;
+use crate::swift::Stand;
+use crate::two;
+ghost use mathlib.Core.Path.{_≡_};
+ghost use mathlib.Core.List.{[]};
+ghost use Prim.Native.Nat.{_-_, min};
+ghost use Rattle.context.specs.declared.two.Reference.the-variants.{Kept};
+ghost use Rattle.context.specs.Coding.{Lines, Lined};
+ghost use Rattle.context.specs.Swift.{lineOf};
+ghost use Rattle.context.specs.Kept.{Restands, Restood};
+
+fn line_at(width: u32, s: Stand, cut: u32) -> Line
+    ensures { λ r. ⌜ r ≡ lineOf width s cut ⌝ }
+{
+    Line {
+        width: width,
+        position: s.position,
+        changes: s.count,
+        colour: (s.place % 2) as u32,
+        cut: cut,
+    }
+}
+
+// From where on b1 is searched, by its last place: the change before that is the first that may lie right of the line.
+fn seen_before(len: usize, place: usize) -> usize
+    ensures { λ r. ⌜ r ≡ min len (place - 1) ⌝ }
+{
+    if place == 0 {
+        return 0;
+    }
+    if len < place {
+        return len;
+    }
+    place - 1
+}
+
+// Where the line stands behind a code.
+fn stand_at(reference: &[u32], place: usize, line: Line, at: usize) -> Stand
+    requires { ⌜ Restands (now reference) place line ⌝ }
+    ensures { λ r. ⌜ Restood (now (reference .entry)) line at r ⌝ }
+{
+    let seen = seen_before(reference.len(), place);
+    let found = reference::b1_from(reference, seen, line.width, line.position, line.colour);
+    Stand {
+        at: at,
+        position: line.position,
+        count: line.changes,
+        place: found,
+    }
+}
+
+// A line whose changes go into `changes` from `base` on; its reference lies from `first` on, up to there.
+pub(crate) fn kept_line<'a>(
+    white: &'a [u16; 8192],
+    black: &'a [u16; 8192],
+    src: &[u8],
+    changes: &mut [u32],
+    first: usize,
+    base: usize,
+    width: u32,
+    start: usize,
+    rules: Rules,
+) -> Step
+    requires { ⌜ Lines (now white) (now black) (now src) [] (now changes) base (Kept first) width start ⌝ }
+    ensures { λ r. ⌜ Lined (now (src .entry)) [] (now (changes .entry)) base (Kept first) width start rules r (now (changes .exit)) ⌝ }
+{
+    let mut s = Stand {
+        at: start,
+        position: 0,
+        count: 0,
+        place: 0,
+    };
+    let mut cut: u32 = 0;
+    loop {
+        let t = swift::swift_codes(white, black, src, changes, first, base, width, s);
+        let line = line_at(width, t, cut);
+        if t.position == width {
+            return Step::On(line, t.at);
+        }
+        let b1 = reference::change_or(&changes[first..base], t.place, width);
+        let b2 = reference::change_or(&changes[first..base], t.place + 1, width);
+        match two::code_2d(
+            white,
+            black,
+            src,
+            &mut changes[base..],
+            line,
+            t.at,
+            b1,
+            b2,
+            rules,
+        ) {
+            Step::Stop(number, stopped, fault) => {
+                return Step::Stop(number, stopped, fault);
+            }
+            Step::On(next, after) => {
+                s = stand_at(&changes[first..base], t.place, next, after);
+                cut = next.cut;
+            }
+        }
+    }
+}
