@@ -15,5 +15,6 @@ pub mod Placing
 pub mod Goes
 pub mod Fronting
 pub mod Swiftly
+pub mod StraightLoop
 pub mod KeptLine
 pub mod OneLine

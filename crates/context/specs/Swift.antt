@@ -126,6 +126,10 @@ abbrev pub TookBits : List ℕ → ℕ → ℕ → ℕ → Stand → ℕ → ℕ
 TookBits xs start base width s bits least next mode r ys =
     (bytes : List ℕ) (live : ℕ) → Ahead bytes (s .at) live bits → least ≤ live → readMode (bitsOf bytes) (s .at) ≡ ok (moded next mode) → TookIn bytes xs start base width s r ys
 
+-- codes walk the line in any data that has these bits at the stand, however few of them
+abbrev pub WalkedBits : List ℕ → ℕ → ℕ → ℕ → Stand → ℕ → Stand → List ℕ → Type 0
+WalkedBits xs start base width s bits t ys = (bytes : List ℕ) (live : ℕ) → Ahead bytes (s .at) live bits → Walked (keptIn start base xs) (bitsOf bytes) base (length xs - base) width xs s ys t
+
 -- in any data that has these bits at the stand, 57 of them at least
 abbrev pub TookAhead : List ℕ → ℕ → ℕ → ℕ → Stand → ℕ → Taken → List ℕ → Type 0
 TookAhead xs start base width s bits r ys = (bytes : List ℕ) (live : ℕ) → Ahead bytes (s .at) live bits → 57 ≤ live → TookIn bytes xs start base width s r ys
@@ -157,6 +161,18 @@ pub record Sided (xs : List ℕ) (start base width : ℕ) (s : Stand) (b1 d twic
   pub sides : (twice ≡ 0) ⊎ (twice ≡ 2 * d)
   pub some-bits : 1 ≤ size
   pub short : size ≤ 7
+
+-- a line behind a code that turned it: its next pixels begin with a change
+pub record Turned (xs : List ℕ) (start base width : ℕ) (s : Stand) : Type 0 where
+  pub placed : (start ≤ base) × (base ≤ length xs)
+  pub narrow : width < 4294967295
+  pub rising : Rising width 0 (keptIn start base xs)
+  pub stands : Stands (keptIn start base xs) (length xs - base) width s
+  pub roomy : Roomy (length xs - base) width s
+  pub begun : 0 < s .position
+  pub turns : s .count % 2 ≡ (s .place + 1) % 2
+  pub low : s .at ≤ mostBits + 1
+  pub long : length xs < 2305843009213693952
 
 -- a line that stands anywhere
 pub record Walks (w b bytes xs : List ℕ) (start base width : ℕ) (s : Stand) : Type 0 where

@@ -11,7 +11,7 @@ ghost use lib.ListN.{length};
 ghost use Rattle.rules.specs.Bits.{bitsOf};
 ghost use Rattle.rules.specs.Modes.{pass, horizontal, VR};
 ghost use Rattle.tables.specs.Tables.{Lookups};
-ghost use Rattle.context.specs.Swift.{Noted, Onward, Reached, Turning, Back, keptIn, Walked, sideMode, TookMode, TookBits, TookAhead, Asks, Sided, Walks, Roomy};
+ghost use Rattle.context.specs.Swift.{Noted, Onward, Reached, Turning, Back, keptIn, Walked, sideMode, TookMode, TookBits, WalkedBits, TookAhead, Asks, Sided, Turned, Walks, Roomy};
 
 // Where a line stands between two codes: the next bit, the position, the changes it has, and b1's place on the reference. Its colour is the
 // place's parity.
@@ -116,7 +116,44 @@ fn vertical(
     })
 }
 
-// One V0: to b1.
+// V0 codes, as long as `ones` begins with a one and the reference has a change. Behind one of them the next pixels begin with a change, right of
+// the position, so nothing is tested.
+fn to_each(
+    changes: &mut [u32],
+    start: usize,
+    base: usize,
+    width: u32,
+    from: Stand,
+    ones: u64,
+) -> Stand
+    requires { ⌜ Turned (now changes) start base width from ⌝ }
+    ensures { λ r. ⌜ WalkedBits (now (changes .entry)) start base width from ones r (now (changes .exit)) ⌝ }
+{
+    let end = base - start;
+    let mut s = from;
+    let mut rest = ones;
+    while rest >> 63 == 1 {
+        let place = s.place;
+        if end <= place {
+            return s;
+        }
+        let last = base + s.count;
+        let position = s.position;
+        changes[last] = position;
+        let next = start + place;
+        let b1 = changes[next];
+        s = Stand {
+            at: s.at + 1,
+            position: b1,
+            count: s.count + 1,
+            place: place + 1,
+        };
+        rest = rest << 1;
+    }
+    s
+}
+
+// As many V0 codes as `bits` begins with, which is one at least.
 fn straight(
     changes: &mut [u32],
     start: usize,
@@ -130,12 +167,14 @@ fn straight(
     ensures { λ r. ⌜ TookBits (now (changes .entry)) start base width s bits 1 (s .at + 1) (VR 0) r (now (changes .exit)) ⌝ }
 {
     let count = note(&mut changes[base..], s);
-    Taken::On(Stand {
+    let first = Stand {
         at: s.at + 1,
         position: b1,
         count: count,
         place: s.place + 1,
-    })
+    };
+    let last = to_each(changes, start, base, width, first, bits << 1);
+    Taken::On(last)
 }
 
 // To b2, in the same colour.

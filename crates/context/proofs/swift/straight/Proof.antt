@@ -1,7 +1,9 @@
--- V0 is one code to b1.
+-- The first V0 by itself, the others behind it.
 use native.Mathlib.Omega.{arith}
 use borrow.Author.Needs.{needs}
-use Rattle.context.proofs.Swiftly.{ready-note, after-length, asks-place, straight-walked}
+use Rattle.bit_reader.proofs.Window.{ahead-shift}
+use Rattle.context.proofs.StraightLoop.{first-turned, first-then}
+use Rattle.context.proofs.Swiftly.{ready-note, after-length, asks-place}
 use Rattle.context.proofs.swift.straight.Statement.{statement}
 use Rattle.context.proofs.swift.straight.Tie as tie
 
@@ -20,17 +22,20 @@ part-note-end c = search needs
 note-requires : tie.Need-note-requires
 note-requires c κs = ready-note (c .before .before .pre .ready)
 
-add-t9 : tie.Need-add-t9
-add-t9 c = omega (arith, c .before .before .before .before .before .before .pre .low)
-
 add-t11 : tie.Need-add-t11
-add-t11 c = omega (arith, asks-place (c .before .before .before .before .before .before .before .pre))
+add-t11 c = omega (arith, c .before .before .before .before .before .before .pre .low)
+
+add-t13 : tie.Need-add-t13
+add-t13 c = omega (arith, asks-place (c .before .before .before .before .before .before .before .pre))
+
+to-each-requires : tie.Need-to-each-requires
+to-each-requires c κs = first-turned (c .before .before .before .before .before .before .before .before .pre) (c .before .before .before .before .before .note .ensures)
 
 same-length : tie.Need-same-length
-same-length c = after-length (c .before .before .before .before .before .before .before .pre .ready) (c .before .before .before .before .note .ensures)
+same-length c = omega (arith, c .before .before .to-each .kept .0, after-length (c .before .before .before .before .before .before .before .before .before .before .before .pre .ready) (c .before .before .before .before .before .before .before .before .note .ensures))
 
 returns : tie.Need-returns
-returns c = λ bytes live h k read. (straight-walked (c .before .before .before .before .before .before .before .pre .ready) (c .before .before .before .before .note .ensures) bytes read, omega arith)
+returns c = λ bytes live h k read. first-then (c .before .before .before .before .before .before .before .before .before .before .before .pre) (c .before .before .before .before .before .before .before .before .note .ensures) bytes read (c .before .before .to-each .ensures bytes _ (ahead-shift h 1 k))
 
 pub straight-spec : {M : Type 1} → statement M
 straight-spec =
@@ -41,7 +46,8 @@ straight-spec =
     part-note-start
     part-note-end
     note-requires
-    add-t9
     add-t11
+    add-t13
+    to-each-requires
     same-length
     returns)
