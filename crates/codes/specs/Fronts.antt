@@ -15,9 +15,9 @@ pub record FrontRun (colour : Colour) (bytes : List ℕ) (at : ℕ) (r : Front) 
   pub within : r .size ≤ 26
   pub same : readRun colour (bitsOf bytes) at ≡ ok (sum (at + r .size) (r .pixels))
 
--- Such a run, if it has pixels, whatever colour's table is lent, and wherever the bits stand in some data. `first` is the table's entry for the first 13 of them.
+-- Such a run, if it has pixels or bits, whatever colour's table is lent, and wherever the bits stand in some data. `first` is the table's entry for the first 13 of them.
 pub record Fronted (table : List ℕ) (first bits : ℕ) (r : Front) : Type 0 where
   pub few : r .size ≤ 30
   pub narrow : r .pixels ≤ 8190
   pub read : (colour : Colour) (bytes : List ℕ) (at live : ℕ) → table ≡ lookupTable colour → Ahead bytes at live bits → 26 ≤ live
-      → first ≡ entryNumber (lookup colour (window 13 (drop at (bitsOf bytes)))) → 0 < r .pixels → FrontRun colour bytes at r
+      → first ≡ entryNumber (lookup colour (window 13 (drop at (bitsOf bytes)))) → 0 < r .pixels + r .size → FrontRun colour bytes at r

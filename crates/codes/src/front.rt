@@ -5,7 +5,7 @@ ghost use Prim.Native.Nat.{_/_, _%_, _^_, _≤_, _<_};
 ghost use lib.ListN.{getD};
 ghost use Rattle.codes.specs.Fronts.{Fronted};
 
-// A run and the bits of its codes; no pixels where it is a run of 0, or no such run.
+// A run and the bits of its codes; no pixels and no bits where it is no such run.
 pub struct Front {
     pub pixels: u32,
     pub size: usize,

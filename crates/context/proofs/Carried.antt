@@ -6,8 +6,8 @@ use mathlib.Core.List.{List, [], _++_}
 use Prim.Native.Nat.{ℕ, _+_, _-_, _≤_, _<_}
 use native.Mathlib.Omega.{arith}
 use lib.Dec.{eqb, leb}
-use lib.ListN.{length, drop, length-append, length-drop}
-use lib.Seq.{drop-append-add, drop-drop}
+use lib.ListN.{length, take, drop, length-append, length-drop}
+use lib.Seq.{drop-append-add, drop-drop, take-at}
 use Rattle.rules.specs.Codes.{Colour, white, black}
 use Rattle.rules.specs.Lines as Rule
 use Rattle.rules.specs.Lines.{Rules, Went, went, failed, movedTo, turned, withCut, recorded, add, push}
@@ -39,6 +39,11 @@ overlaid-over zs ys xs h =
 pub overlaid-length : (ys xs : List ℕ) → length ys ≤ length xs → length (overlaid ys xs) ≡ length xs
 unfolding overlaid
 overlaid-length ys xs h = omega (arith, length-append ys (drop (length ys) xs), length-drop (length ys) xs)
+
+-- the front itself
+pub front-of : (n : ℕ) (qs xs ys : List ℕ) → n ≡ length qs → ys ≡ overlaid qs xs → take n ys ≡ qs
+unfolding overlaid
+front-of n qs xs ys e s = ap (take n) s ∙ take-at qs (drop (length qs) xs) n (sym e)
 
 -- no front at all
 pub overlaid-none : (xs : List ℕ) → xs ≡ overlaid [] xs

@@ -2,7 +2,7 @@
 use mathlib.Core.Path.{_≡_, ap, _∙_}
 use mathlib.Core.Bool.{cond}
 use mathlib.Core.List.{List}
-use Prim.Native.Nat.{ℕ, zero, suc, _/_, _^_, _≤_, _<_}
+use Prim.Native.Nat.{ℕ, zero, suc, _+_, _/_, _^_, _≤_, _<_}
 use native.Mathlib.Omega.{arith}
 use lib.Dec.{eqb}
 use lib.ListN.{getD, drop}
@@ -19,14 +19,14 @@ use Rattle.codes.specs.declared.front.Front.{Front}
 
 -- by the table's entry for the first 13 of 26 bits that are there
 module _ (colour : Colour) {table : List ℕ} (t : table ≡ lookupTable colour) {bytes : List ℕ} {at live bits : ℕ} (h : Ahead bytes at live bits) (enough : 26 ≤ live) {top : ℕ} where
-  pub front-known : top ≡ peek 13 (drop at (bitsOf bytes)) → {r : Front} → Fronted table (getD table top 0) bits r → 0 < r .pixels → FrontRun colour bytes at r
+  pub front-known : top ≡ peek 13 (drop at (bitsOf bytes)) → {r : Front} → Fronted table (getD table top 0) bits r → 0 < r .pixels + r .size → FrontRun colour bytes at r
   front-known k f some =
       f .read colour bytes at live t h enough
       (ap (λ (i : ℕ). getD table i 0) k ∙ ap (λ (l : List ℕ). getD l (peek 13 (drop at (bitsOf bytes))) 0) t ∙ table-at colour (drop at (bitsOf bytes)))
       some
 
   -- or by the first 13 of the bits themselves
-  pub front-reads : top ≡ bits / 2 ^ 51 → {r : Front} → Fronted table (getD table top 0) bits r → 0 < r .pixels → FrontRun colour bytes at r
+  pub front-reads : top ≡ bits / 2 ^ 51 → {r : Front} → Fronted table (getD table top 0) bits r → 0 < r .pixels + r .size → FrontRun colour bytes at r
   front-reads k f some = front-known (k ∙ ahead-first h 13 (omega arith)) f some
 
 -- the table of a colour, and of the other one, by the colour's number

@@ -75,10 +75,16 @@ module _ (R : Rules) (place count : ℕ) (t : Line) (some : 0 < count) (fits : t
 
 -- ---- Runs
 
-module _ (R : Rules) (bs : List Bool) (t : Line) (n pixels : ℕ) (read : readRun (t .colour) bs (t .at) ≡ ok (sum n pixels)) (some : 0 < pixels) (fits : t .position + pixels ≤ R .width) (roomy : length (recorded t) ≤ R .room) where
-  pub run-goes : pushRun R bs t ≡ went (line n (t .position + pixels) (opposite (t .colour)) (recorded t) (t .cut))
+module _ (R : Rules) (bs : List Bool) (t : Line) (n : ℕ) where
+  pub run-goes : (pixels : ℕ) → readRun (t .colour) bs (t .at) ≡ ok (sum n pixels) → 0 < pixels → t .position + pixels ≤ R .width → length (recorded t) ≤ R .room
+      → pushRun R bs t ≡ went (line n (t .position + pixels) (opposite (t .colour)) (recorded t) (t .cut))
   unfolding pushRun recorded
-  run-goes = ap (afterRun R t) read ∙ turn-fits R (t .at) pixels (movedTo n t) some fits roomy
+  run-goes pixels read some fits roomy = ap (afterRun R t) read ∙ turn-fits R (t .at) pixels (movedTo n t) some fits roomy
+
+  -- a run of 0 turns the colour alone
+  pub run-none : readRun (t .colour) bs (t .at) ≡ ok (sum n 0) → pushRun R bs t ≡ went (line n (t .position) (opposite (t .colour)) (t .changes) (t .cut))
+  unfolding pushRun push add
+  run-none read = ap (afterRun R t) read ∙ rw (le-leb 0 (R .width - t .position) (omega arith))
 
 -- the next one begins with a change
 pub recorded-next : (t : Line) (n p : ℕ) → recorded (line n p (opposite (t .colour)) (recorded t) (t .cut)) ≡ recorded t ++ p ∷ []

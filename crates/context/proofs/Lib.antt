@@ -2,6 +2,9 @@
 pub mod State
 pub mod Carried
 pub mod RunLoop
+pub mod Fronting
+pub mod Goes
+pub mod Running
 pub mod Moves
 pub mod Idle
 pub mod RowTest
@@ -12,8 +15,6 @@ pub mod OneCode
 pub mod RowPart
 pub mod LineLoop
 pub mod Placing
-pub mod Goes
-pub mod Fronting
 pub mod Swiftly
 pub mod StraightLoop
 pub mod KeptLine

@@ -7,4 +7,5 @@ pub mod Coding
 pub mod OneCode
 pub mod Swift
 pub mod Kept
+pub mod Pairs
 pub mod OneLine

@@ -64,6 +64,10 @@ rulesFor width rules xs = record { width = width; strict = rules .strict; exact 
 abbrev pub pushRules : ℕ → Bool → List ℕ → Rule.Rules
 pushRules width strict xs = record { width = width; strict = strict; exact = false; room = length xs }
 
+-- the same in full
+abbrev pub ruling : ℕ → ℕ → Bool → Bool → Rule.Rules
+ruling width room strict exact = record { width = width; strict = strict; exact = exact; room = room }
+
 -- what every function asks of a line and the slice that holds its changes
 pub record Holds (xs : List ℕ) (l : Line) : Type 0 where
   pub narrow : l .width < 4294967295

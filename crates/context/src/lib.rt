@@ -3,6 +3,7 @@ mod kept;
 pub mod line;
 pub mod offset;
 pub mod once;
+mod pairs;
 pub mod read;
 pub mod reference;
 pub mod runs;

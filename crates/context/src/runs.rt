@@ -3,6 +3,7 @@
 use crate::line;
 use crate::line::Line;
 use crate::line::Push;
+use crate::pairs;
 use crate::step;
 use crate::step::Rules;
 use crate::step::Step;
@@ -88,6 +89,7 @@ pub fn runs<'a>(
     Step::On(line, buffer.at)
 }
 
+// Pairs of runs while they come, and any other run as in a horizontal code.
 pub fn decode_1d_line<'a>(
     white: &'a [u16; 8192],
     black: &'a [u16; 8192],
@@ -100,14 +102,10 @@ pub fn decode_1d_line<'a>(
     requires { ⌜ Starts (now white) (now black) (now src) width at ⌝ }
     ensures { λ r. ⌜ Steps width (now (changes .entry)) (readLine (rulesFor width rules (now (changes .entry))) one (bitsOf (now (src .entry))) at) r (now (changes .exit)) ⌝ }
 {
-    runs(
-        white,
-        black,
-        src,
-        changes,
-        false,
-        line::new_line(width),
-        at,
-        rules,
-    )
+    let s = pairs::pairs(white, black, src, changes, width, at, rules.plain);
+    let line = pairs::line_of(width, s);
+    if s.position == width {
+        return Step::On(line, s.at);
+    }
+    runs(white, black, src, changes, false, line, s.at, rules)
 }

@@ -114,8 +114,8 @@ returns-4 c = λ bytes live h k read.
     let two = c .before .before .before .before .before .before .before .before .before .before .before .before .before .before .before .before .before .before .before .before .before .front-run2 in
     let some1 : 0 < one .result .pixels = omega (arith, c .before .before .before .before .before .before .before .before .before .before .before .before .before .before .before .before .before .before .before .if1 .left) in
     let some2 : 0 < two .result .pixels = omega (arith, c .before .before .before .before .before .before .before .before .before .before .before .before .before .before .before .before .before .if2 .left) in
-    let first = front-reads (colourOf (s .place % 2)) (c .before .before .before .before .before .before .before .before .before .before .before .before .before .before .before .before .before .before .before .before .before .before .before .before .before .before .pick .ensures ∙ own-table (c .before .before .before .before .before .before .before .before .before .before .before .before .before .before .before .before .before .before .before .before .before .before .before .before .before .before .before .before .before .pre .0) (s .place % 2)) (ahead-shift h 3 (omega arith)) (omega arith) (c .before .before .before .before .before .before .before .before .before .before .before .before .before .before .before .before .before .before .before .before .before .before .before .before .before .top13 .ensures .0) (one .ensures) some1 in
-    let second = front-reads (opposite (colourOf (s .place % 2))) (c .before .before .before .before .before .before .before .before .before .before .before .before .before .before .before .before .before .before .before .before .before .before .before .pick2 .ensures ∙ other-table (c .before .before .before .before .before .before .before .before .before .before .before .before .before .before .before .before .before .before .before .before .before .before .before .before .before .before .before .before .before .pre .0) (s .place % 2)) (ahead-shift (ahead-shift h 3 (omega arith)) (one .result .size) (omega (arith, first .within))) (omega (arith, first .within)) (c .before .before .before .before .before .before .before .before .before .before .before .before .before .before .before .before .before .before .before .before .before .before .top132 .ensures .0) (two .ensures) some2 in
+    let first = front-reads (colourOf (s .place % 2)) (c .before .before .before .before .before .before .before .before .before .before .before .before .before .before .before .before .before .before .before .before .before .before .before .before .before .before .pick .ensures ∙ own-table (c .before .before .before .before .before .before .before .before .before .before .before .before .before .before .before .before .before .before .before .before .before .before .before .before .before .before .before .before .before .pre .0) (s .place % 2)) (ahead-shift h 3 (omega arith)) (omega arith) (c .before .before .before .before .before .before .before .before .before .before .before .before .before .before .before .before .before .before .before .before .before .before .before .before .before .top13 .ensures .0) (one .ensures) (omega (arith, some1)) in
+    let second = front-reads (opposite (colourOf (s .place % 2))) (c .before .before .before .before .before .before .before .before .before .before .before .before .before .before .before .before .before .before .before .before .before .before .before .pick2 .ensures ∙ other-table (c .before .before .before .before .before .before .before .before .before .before .before .before .before .before .before .before .before .before .before .before .before .before .before .before .before .before .before .before .before .pre .0) (s .place % 2)) (ahead-shift (ahead-shift h 3 (omega arith)) (one .result .size) (omega (arith, first .within))) (omega (arith, first .within)) (c .before .before .before .before .before .before .before .before .before .before .before .before .before .before .before .before .before .before .before .before .before .before .top132 .ensures .0) (two .ensures) (omega (arith, some2)) in
     (two-walked (c .before .before .before .before .before .before .before .before .before .before .before .before .before .before .before .before .before .before .before .before .before .before .before .before .before .before .before .before .before .pre .1 .ready) (c .before .before .before .before .before .before .before .before .before .before .before .note .ensures) (one .result .pixels) (two .result .pixels) some1 some2 (c .before .before .before .before .before .before .before .before .before .before .before .before .before .if3 .left) (s .position + one .result .pixels) refl bytes (s .at + 3 + one .result .size) (s .at + 3 + one .result .size + two .result .size) _ _ refl read (first .same) (second .same) (omega arith) (c .before .before .before .onward .ensures), omega arith)
 
 pub two-runs-spec : {M : Type 1} → statement M
