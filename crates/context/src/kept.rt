@@ -78,9 +78,9 @@ pub(crate) fn kept_line<'a>(
     let mut cut: u32 = 0;
     loop {
         let t = swift::swift_codes(white, black, src, changes, first, base, width, s);
-        let line = line_at(width, t, cut);
+        // The line is made only where it is handed on: otherwise it would go through memory at every row's end.
         if t.position == width {
-            return Step::On(line, t.at);
+            return Step::On(line_at(width, t, cut), t.at);
         }
         let b1 = reference::change_or(&changes[first..base], t.place, width);
         let b2 = reference::change_or(&changes[first..base], t.place + 1, width);
@@ -89,7 +89,7 @@ pub(crate) fn kept_line<'a>(
             black,
             src,
             &mut changes[base..],
-            line,
+            line_at(width, t, cut),
             t.at,
             b1,
             b2,

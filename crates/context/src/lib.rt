@@ -8,5 +8,5 @@ pub mod read;
 pub mod reference;
 pub mod runs;
 pub mod step;
-pub mod swift;
+mod swift;
 pub mod two;

@@ -14,8 +14,10 @@ use crate::step::Step;
 use codes::mode;
 use codes::mode::Mode;
 ghost use mathlib.Core.Path.{_≡_};
+ghost use mathlib.Core.Bool.{cond};
 ghost use Prim.Native.Nat.{_≤_};
 ghost use Rattle.tables.specs.Tables.{colourOf};
+ghost use Rattle.context.specs.declared.two.Reference.the-variants.{Lent};
 ghost use Rattle.context.specs.Outcome.{Reads};
 ghost use Rattle.context.specs.Reference.{Finds};
 ghost use Rattle.context.specs.Coding.{Coloured, afterPush, unmovedFor, unlessIdleFor, TwoRuns, Coding, Coded, referenceIn, Seeks, Lines, Lined};
@@ -198,7 +200,18 @@ fn line_by_codes<'a>(
     Step::On(line, at)
 }
 
-// A line whose changes go into `changes` from `base` on. Where the reference is lent, and by the plain engine (A14), no code is swift.
+// Where the reference lies, for swift codes: by the plain engine (A14) it is as if it were lent.
+fn swiftly(place: Reference, plain: bool) -> Reference
+    ensures { λ r. ⌜ r ≡ cond plain Lent place ⌝ }
+{
+    if plain {
+        return Reference::Lent;
+    }
+    place
+}
+
+// A line whose changes go into `changes` from `base` on. Where the reference is lent no code is swift. Each loop has one call alone, so that its answer
+// is made where the caller wants it.
 pub fn decode_2d_line<'a>(
     white: &'a [u16; 8192],
     black: &'a [u16; 8192],
@@ -214,21 +227,7 @@ pub fn decode_2d_line<'a>(
     requires { ⌜ Lines (now white) (now black) (now src) (now reference) (now changes) base place width start ⌝ }
     ensures { λ r. ⌜ Lined (now (src .entry)) (now (reference .entry)) (now (changes .entry)) base place width start rules r (now (changes .exit)) ⌝ }
 {
-    if rules.plain {
-        return line_by_codes(
-            white,
-            black,
-            src,
-            reference,
-            changes,
-            base,
-            place,
-            width,
-            start,
-            rules,
-        );
-    }
-    match place {
+    match swiftly(place, rules.plain) {
         Reference::Kept(first) => {
             kept::kept_line(white, black, src, changes, first, base, width, start, rules)
         }

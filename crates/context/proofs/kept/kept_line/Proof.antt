@@ -26,57 +26,60 @@ same-length : tie.Need-same-length Inv-loop μ-loop
 same-length c = standing-length _ _ _ _ _ _ _ _ _ (standing-walked _ _ _ _ _ _ _ _ _ (c .before .before .before .before .before .before .before .loop .inv) (c .before .before .before .before .before .swift-codes .ensures))
 
 returns : tie.Need-returns Inv-loop μ-loop
-returns c = rw (c .before .before .line-at .ensures) (standing-done _ _ _ _ _ _ _ _ _ (standing-walked _ _ _ _ _ _ _ _ _ (c .before .before .before .before .before .before .before .loop .inv) (c .before .before .before .before .before .swift-codes .ensures)) (c .if1 .taken))
+returns c = rw (c .line-at .ensures) (standing-done _ _ _ _ _ _ _ _ _ (standing-walked _ _ _ _ _ _ _ _ _ (c .before .before .before .before .before .before .before .loop .inv) (c .before .before .before .before .before .swift-codes .ensures)) (c .before .if1 .taken))
 
 mul-change-or : tie.Need-mul-change-or Inv-loop μ-loop
-mul-change-or c = omega (arith, c .before .before .before .before .before .before .before .before .before .before .good .1 .1 .1 .0 .1, c .before .before .before .before .before .before .before .before .before .before .pre .placed)
+mul-change-or c = omega (arith, c .before .before .before .before .before .before .before .before .before .good .1 .1 .1 .0 .1, c .before .before .before .before .before .before .before .before .before .pre .placed)
 
 sub-change-or : tie.Need-sub-change-or Inv-loop μ-loop
-sub-change-or c = omega (arith, c .before .before .before .before .before .before .before .before .before .before .pre .placed)
+sub-change-or c = omega (arith, c .before .before .before .before .before .before .before .before .before .pre .placed)
 
 part-change-or-start : tie.Need-part-change-or-start Inv-loop μ-loop
-part-change-or-start c = omega (arith, c .before .before .before .before .before .before .before .before .before .before .before .pre .placed)
+part-change-or-start c = omega (arith, c .before .before .before .before .before .before .before .before .before .before .pre .placed)
 
 part-change-or-end : tie.Need-part-change-or-end Inv-loop μ-loop
-part-change-or-end c = standing-room _ _ _ _ _ _ _ _ _ (standing-walked _ _ _ _ _ _ _ _ _ (c .before .before .before .before .before .before .before .before .loop .inv) (c .before .before .before .before .before .before .swift-codes .ensures))
+part-change-or-end c = standing-room _ _ _ _ _ _ _ _ _ (standing-walked _ _ _ _ _ _ _ _ _ (c .before .before .before .before .before .before .before .loop .inv) (c .before .before .before .before .before .swift-codes .ensures))
 
 change-or-requires : tie.Need-change-or-requires Inv-loop μ-loop
 change-or-requires c κs = search needs
 
 mul-change-or-2 : tie.Need-mul-change-or-2 Inv-loop μ-loop
-mul-change-or-2 c = omega (arith, c .before .before .before .before .before .before .before .before .before .before .before .before .before .good .1 .1 .1 .0 .1, c .before .before .before .before .before .before .before .before .before .before .before .before .before .pre .placed)
+mul-change-or-2 c = omega (arith, c .before .before .before .before .before .before .before .before .before .before .before .before .good .1 .1 .1 .0 .1, c .before .before .before .before .before .before .before .before .before .before .before .before .pre .placed)
 
 sub-change-or-2 : tie.Need-sub-change-or-2 Inv-loop μ-loop
-sub-change-or-2 c = omega (arith, c .before .before .before .before .before .before .before .before .before .before .before .before .before .pre .placed)
+sub-change-or-2 c = omega (arith, c .before .before .before .before .before .before .before .before .before .before .before .before .pre .placed)
 
 part-change-or-start-2 : tie.Need-part-change-or-start-2 Inv-loop μ-loop
-part-change-or-start-2 c = omega (arith, c .before .before .before .before .before .before .before .before .before .before .before .before .before .before .pre .placed)
+part-change-or-start-2 c = omega (arith, c .before .before .before .before .before .before .before .before .before .before .before .before .before .pre .placed)
 
 part-change-or-end-2 : tie.Need-part-change-or-end-2 Inv-loop μ-loop
-part-change-or-end-2 c = standing-room _ _ _ _ _ _ _ _ _ (standing-walked _ _ _ _ _ _ _ _ _ (c .before .before .before .before .before .before .before .before .before .before .before .loop .inv) (c .before .before .before .before .before .before .before .before .before .swift-codes .ensures))
+part-change-or-end-2 c = standing-room _ _ _ _ _ _ _ _ _ (standing-walked _ _ _ _ _ _ _ _ _ (c .before .before .before .before .before .before .before .before .before .before .loop .inv) (c .before .before .before .before .before .before .before .before .swift-codes .ensures))
 
 add-change-or : tie.Need-add-change-or Inv-loop μ-loop
-add-change-or c = omega (arith, standing-place _ _ _ _ _ _ _ _ _ (standing-walked _ _ _ _ _ _ _ _ _ (c .before .before .before .before .before .before .before .before .before .before .before .before .before .loop .inv) (c .before .before .before .before .before .before .before .before .before .before .before .swift-codes .ensures)) (omega (arith, c .before .before .before .before .before .before .before .before .before .before .before .before .before .before .before .before .good .1 .1 .1 .0 .1)))
+add-change-or c = omega (arith, standing-place _ _ _ _ _ _ _ _ _ (standing-walked _ _ _ _ _ _ _ _ _ (c .before .before .before .before .before .before .before .before .before .before .before .before .loop .inv) (c .before .before .before .before .before .before .before .before .before .before .swift-codes .ensures)) (omega (arith, c .before .before .before .before .before .before .before .before .before .before .before .before .before .before .before .good .1 .1 .1 .0 .1)))
 
 change-or-requires-2 : tie.Need-change-or-requires-2 Inv-loop μ-loop
 change-or-requires-2 c κs = search needs
 
 mul-code-2d : tie.Need-mul-code-2d Inv-loop μ-loop
-mul-code-2d c = omega (arith, c .before .before .before .before .before .before .before .before .before .before .before .before .before .before .before .before .before .good .1 .1 .1 .0 .1, c .before .before .before .before .before .before .before .before .before .before .before .before .before .before .before .before .before .pre .placed)
+mul-code-2d c = omega (arith, c .before .before .before .before .before .before .before .before .before .before .before .before .before .before .before .before .good .1 .1 .1 .0 .1, c .before .before .before .before .before .before .before .before .before .before .before .before .before .before .before .before .pre .placed)
 
 sub-code-2d : tie.Need-sub-code-2d Inv-loop μ-loop
-sub-code-2d c = standing-room _ _ _ _ _ _ _ _ _ (standing-walked _ _ _ _ _ _ _ _ _ (c .before .before .before .before .before .before .before .before .before .before .before .before .before .before .loop .inv) (c .before .before .before .before .before .before .before .before .before .before .before .before .swift-codes .ensures))
+sub-code-2d c = standing-room _ _ _ _ _ _ _ _ _ (standing-walked _ _ _ _ _ _ _ _ _ (c .before .before .before .before .before .before .before .before .before .before .before .before .before .loop .inv) (c .before .before .before .before .before .before .before .before .before .before .before .swift-codes .ensures))
 
 part-code-2d-start : tie.Need-part-code-2d-start Inv-loop μ-loop
-part-code-2d-start c = standing-room _ _ _ _ _ _ _ _ _ (standing-walked _ _ _ _ _ _ _ _ _ (c .before .before .before .before .before .before .before .before .before .before .before .before .before .before .loop .inv) (c .before .before .before .before .before .before .before .before .before .before .before .before .swift-codes .ensures))
+part-code-2d-start c = standing-room _ _ _ _ _ _ _ _ _ (standing-walked _ _ _ _ _ _ _ _ _ (c .before .before .before .before .before .before .before .before .before .before .before .before .before .loop .inv) (c .before .before .before .before .before .before .before .before .before .before .before .swift-codes .ensures))
 
 part-code-2d-end : tie.Need-part-code-2d-end Inv-loop μ-loop
 part-code-2d-end c = search needs
 
+line-at-requires-2 : tie.Need-line-at-requires-2 Inv-loop μ-loop
+line-at-requires-2 c κs = search needs
+
 code-2d-requires : tie.Need-code-2d-requires Inv-loop μ-loop
 code-2d-requires c κs =
     let g = standing-walked _ _ _ _ _ _ _ _ _ (c .before .before .before .before .before .before .before .before .before .before .before .before .before .before .before .loop .inv) (c .before .before .before .before .before .before .before .before .before .before .before .before .before .swift-codes .ensures) in
-    rw (c .before .before .before .before .before .before .before .before .before .before .line-at .ensures) (standing-codes _ _ _ _ _ _ _ _ _ g (c .before .before .before .before .before .before .before .before .if1 .left) (c .before .before .before .before .before .change-or .ensures) (c .before .change-or2 .ensures))
+    rw (c .line-at2 .ensures) (standing-codes _ _ _ _ _ _ _ _ _ g (c .before .before .before .before .before .before .before .before .before .if1 .left) (c .before .before .before .before .before .before .change-or .ensures) (c .before .before .change-or2 .ensures))
 
 enum-known-number : tie.Need-enum-known-number Inv-loop μ-loop
 enum-known-number c = search needs
@@ -89,7 +92,7 @@ same-length-2 c =
 returns-2 : tie.Need-returns-2 Inv-loop μ-loop
 returns-2 c =
     let g = standing-walked _ _ _ _ _ _ _ _ _ (c .before .before .before .before .before .before .before .before .before .before .before .before .before .before .before .before .before .before .before .before .before .loop .inv) (c .before .before .before .before .before .before .before .before .before .before .before .before .before .before .before .before .before .before .before .swift-codes .ensures) in
-    standing-stop _ _ _ _ _ _ _ _ _ g (c .before .before .before .before .before .before .before .before .before .before .before .before .before .before .if1 .left) (c .before .before .before .before .before .before .before .before .before .before .before .change-or .ensures) (c .before .before .before .before .before .before .before .change-or2 .ensures) _ _ (rw (c .before .before .before .before .before .before .before .before .before .before .before .before .before .before .before .before .line-at .ensures) at (c .before .before .before .before .before .code-2d .ensures)) (c .before .number .given .1)
+    standing-stop _ _ _ _ _ _ _ _ _ g (c .before .before .before .before .before .before .before .before .before .before .before .before .before .before .before .if1 .left) (c .before .before .before .before .before .before .before .before .before .before .before .before .change-or .ensures) (c .before .before .before .before .before .before .before .before .change-or2 .ensures) _ _ (rw (c .before .before .before .before .before .before .line-at2 .ensures) at (c .before .before .before .before .before .code-2d .ensures)) (c .before .number .given .1)
 
 enum-known-next : tie.Need-enum-known-next Inv-loop μ-loop
 enum-known-next c = search needs
@@ -111,17 +114,17 @@ part-stand-at-end c =
 stand-at-requires : tie.Need-stand-at-requires Inv-loop μ-loop
 stand-at-requires c κs =
     let g = standing-walked _ _ _ _ _ _ _ _ _ (c .before .before .before .before .before .before .before .before .before .before .before .before .before .before .before .before .before .before .before .before .before .before .before .loop .inv) (c .before .before .before .before .before .before .before .before .before .before .before .before .before .before .before .before .before .before .before .before .before .swift-codes .ensures) in
-    standing-searches _ _ _ _ _ _ _ _ _ g (c .before .before .before .before .before .before .before .before .before .before .before .before .before .before .before .before .if1 .left) (c .before .before .before .before .before .before .before .before .before .before .before .before .before .change-or .ensures) (c .before .before .before .before .before .before .before .before .before .change-or2 .ensures) _ _ (rw (c .before .before .before .before .before .before .before .before .before .before .before .before .before .before .before .before .before .before .line-at .ensures) at (c .before .before .before .before .before .before .before .code-2d .ensures)) (c .before .before .before .next .given .1)
+    standing-searches _ _ _ _ _ _ _ _ _ g (c .before .before .before .before .before .before .before .before .before .before .before .before .before .before .before .before .before .if1 .left) (c .before .before .before .before .before .before .before .before .before .before .before .before .before .before .change-or .ensures) (c .before .before .before .before .before .before .before .before .before .before .change-or2 .ensures) _ _ (rw (c .before .before .before .before .before .before .before .before .line-at2 .ensures) at (c .before .before .before .before .before .before .before .code-2d .ensures)) (c .before .before .before .next .given .1)
 
 loop-less : tie.Need-loop-less Inv-loop μ-loop
 loop-less c =
     let g = standing-walked _ _ _ _ _ _ _ _ _ (c .before .before .before .before .before .before .before .before .before .before .before .before .before .before .before .before .before .before .before .before .before .before .before .before .loop .inv) (c .before .before .before .before .before .before .before .before .before .before .before .before .before .before .before .before .before .before .before .before .before .before .swift-codes .ensures) in
-    omega (arith, standing-less _ _ _ _ _ _ _ _ _ g (c .before .before .before .before .before .before .before .before .before .before .before .before .before .before .before .before .before .if1 .left) (c .before .before .before .before .before .before .before .before .before .before .before .before .before .before .change-or .ensures) (c .before .before .before .before .before .before .before .before .before .before .change-or2 .ensures) _ _ (rw (c .before .before .before .before .before .before .before .before .before .before .before .before .before .before .before .before .before .before .before .line-at .ensures) at (c .before .before .before .before .before .before .before .before .code-2d .ensures)) (c .before .before .before .before .next .given .1), c .before .before .before .before .before .before .before .before .before .before .before .before .before .before .before .before .before .before .before .before .before .before .swift-codes .ensures .forth, c .stand-at .ensures .at-is)
+    omega (arith, standing-less _ _ _ _ _ _ _ _ _ g (c .before .before .before .before .before .before .before .before .before .before .before .before .before .before .before .before .before .before .if1 .left) (c .before .before .before .before .before .before .before .before .before .before .before .before .before .before .before .change-or .ensures) (c .before .before .before .before .before .before .before .before .before .before .before .change-or2 .ensures) _ _ (rw (c .before .before .before .before .before .before .before .before .before .line-at2 .ensures) at (c .before .before .before .before .before .before .before .before .code-2d .ensures)) (c .before .before .before .before .next .given .1), c .before .before .before .before .before .before .before .before .before .before .before .before .before .before .before .before .before .before .before .before .before .before .swift-codes .ensures .forth, c .stand-at .ensures .at-is)
 
 loop-again : tie.Need-loop-again Inv-loop μ-loop
 loop-again c =
     let g = standing-walked _ _ _ _ _ _ _ _ _ (c .before .before .before .before .before .before .before .before .before .before .before .before .before .before .before .before .before .before .before .before .before .before .before .before .loop .inv) (c .before .before .before .before .before .before .before .before .before .before .before .before .before .before .before .before .before .before .before .before .before .before .swift-codes .ensures) in
-    standing-on _ _ _ _ _ _ _ _ _ g (c .before .before .before .before .before .before .before .before .before .before .before .before .before .before .before .before .before .if1 .left) (c .before .before .before .before .before .before .before .before .before .before .before .before .before .before .change-or .ensures) (c .before .before .before .before .before .before .before .before .before .before .change-or2 .ensures) _ _ (rw (c .before .before .before .before .before .before .before .before .before .before .before .before .before .before .before .before .before .before .before .line-at .ensures) at (c .before .before .before .before .before .before .before .before .code-2d .ensures)) (c .before .before .before .before .next .given .1) _ (c .stand-at .ensures)
+    standing-on _ _ _ _ _ _ _ _ _ g (c .before .before .before .before .before .before .before .before .before .before .before .before .before .before .before .before .before .before .if1 .left) (c .before .before .before .before .before .before .before .before .before .before .before .before .before .before .before .change-or .ensures) (c .before .before .before .before .before .before .before .before .before .before .before .change-or2 .ensures) _ _ (rw (c .before .before .before .before .before .before .before .before .before .line-at2 .ensures) at (c .before .before .before .before .before .before .before .before .code-2d .ensures)) (c .before .before .before .before .next .given .1) _ (c .stand-at .ensures)
 
 pub kept-line-spec : {M : Type 1} → statement M
 kept-line-spec =
@@ -149,6 +152,7 @@ kept-line-spec =
     sub-code-2d
     part-code-2d-start
     part-code-2d-end
+    line-at-requires-2
     code-2d-requires
     enum-known-number
     same-length-2
