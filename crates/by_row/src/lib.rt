@@ -237,6 +237,7 @@ fn next_row(
     }
     let white = tables::white_lookup();
     let black = tables::black_lookup();
+    let pairs = tables::pair_lookup();
     let held = state.held;
     let between = State {
         at: state.at,
@@ -248,6 +249,7 @@ fn next_row(
     match ccitt::row_under(
         &white,
         &black,
+        &pairs,
         src,
         ccitt::strict_if_exact(settings),
         &reference[..held],

@@ -9,6 +9,7 @@ ghost use mathlib.Core.Path.{_≡_};
 ghost use mathlib.Core.List.{[]};
 ghost use Prim.Native.Nat.{min};
 ghost use Rattle.rules.specs.Pages.{tooFew};
+ghost use Rattle.tables.specs.Pairs.{pairTable};
 ghost use Rattle.rows.specs.Settings.{settingsOf};
 ghost use Rattle.rows.specs.Between.{RowFrom};
 ghost use Rattle.ccitt.specs.Decode.{Rowed, counted, behindRow, Behind, PageFrom, Reads, strictFor, shortFor, Decodes};
@@ -17,20 +18,39 @@ ghost use Rattle.ccitt.specs.Decode.{Rowed, counted, behindRow, Behind, 
 pub fn row_under<'a>(
     white: &'a [u16; 8192],
     black: &'a [u16; 8192],
+    both: &'a [u16; 2048],
     src: &[u8],
     settings: DecodeSettings,
     lent: &[u32],
     changes: &mut [u32],
     state: State,
 ) -> Row
-    requires { ⌜ RowFrom (now white) (now black) (now src) (now lent) (now changes) settings state ⌝ }
+    requires { ⌜ RowFrom (now white) (now black) (now src) (now lent) (now changes) settings state × (now both ≡ pairTable) ⌝ }
     ensures { λ r. ⌜ Rowed (now (src .entry)) (now (lent .entry)) (now (changes .entry)) settings state r (now (changes .exit)) ⌝ }
 {
     let encoding = settings.encoding;
     match encoding {
         EncodingMode::Group4 => group4::row(white, black, src, settings, lent, changes, state),
-        EncodingMode::Group3_1D => group3::row(white, black, src, settings, lent, changes, state),
-        EncodingMode::Group3_2D => group3::row(white, black, src, settings, lent, changes, state),
+        EncodingMode::Group3_1D => group3::row(
+            white,
+            black,
+            both,
+            src,
+            settings,
+            lent,
+            changes,
+            state,
+        ),
+        EncodingMode::Group3_2D => group3::row(
+            white,
+            black,
+            both,
+            src,
+            settings,
+            lent,
+            changes,
+            state,
+        ),
     }
 }
 
@@ -38,16 +58,17 @@ pub fn row_under<'a>(
 fn row<'a>(
     white: &'a [u16; 8192],
     black: &'a [u16; 8192],
+    both: &'a [u16; 2048],
     src: &[u8],
     settings: DecodeSettings,
     changes: &mut [u32],
     state: State,
 ) -> Row
-    requires { ⌜ RowFrom (now white) (now black) (now src) [] (now changes) settings state ⌝ }
+    requires { ⌜ RowFrom (now white) (now black) (now src) [] (now changes) settings state × (now both ≡ pairTable) ⌝ }
     ensures { λ r. ⌜ Rowed (now (src .entry)) [] (now (changes .entry)) settings state r (now (changes .exit)) ⌝ }
 {
     let lent: [u32; 0] = [];
-    row_under(white, black, src, settings, &lent, changes, state)
+    row_under(white, black, both, src, settings, &lent, changes, state)
 }
 
 // A count in the 64 bits that a row end has: more than 32, since a page may have more entries than those can count (A4).
@@ -103,13 +124,14 @@ fn places(ends: usize, marks: usize) -> usize
 fn page<'a>(
     white: &'a [u16; 8192],
     black: &'a [u16; 8192],
+    both: &'a [u16; 2048],
     src: &[u8],
     settings: DecodeSettings,
     changes: &mut [u32],
     ends: &mut [u64],
     marks: &mut [u8],
 ) -> Answer
-    requires { ⌜ PageFrom (now white) (now black) (now src) settings ⌝ }
+    requires { ⌜ PageFrom (now white) (now black) (now src) settings × (now both ≡ pairTable) ⌝ }
     ensures { λ r. ⌜ Reads (now (src .entry)) settings (now (changes .entry)) (now (ends .entry)) (now (marks .entry)) r (now (changes .exit)) (now (ends .exit)) (now (marks .exit)) ⌝ }
 {
     let places = places(ends.len(), marks.len());
@@ -121,7 +143,7 @@ fn page<'a>(
         eols: false,
     };
     loop {
-        match row(white, black, src, settings, changes, state) {
+        match row(white, black, both, src, settings, changes, state) {
             Row::Stop(number, place, bytes, loose) => {
                 return counts(number, place, state.rows, state.base, loose, bytes);
             }
@@ -211,7 +233,8 @@ pub fn decode(
     }
     let white = tables::white_lookup();
     let black = tables::black_lookup();
+    let both = tables::pair_lookup();
     let reading = strict_if_exact(settings);
-    let answer = page(&white, &black, src, reading, changes, ends, marks);
+    let answer = page(&white, &black, &both, src, reading, changes, ends, marks);
     unless_short(settings, answer)
 }

@@ -5,6 +5,7 @@ pub mod RunLoop
 pub mod Fronting
 pub mod Goes
 pub mod Running
+pub mod PairEntries
 pub mod Moves
 pub mod Idle
 pub mod RowTest

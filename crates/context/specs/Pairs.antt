@@ -2,7 +2,7 @@
 use mathlib.Core.Path.{_≡_}
 use mathlib.Core.Bool.{Bool, true, false}
 use mathlib.Core.List.{List}
-use Prim.Native.Nat.{ℕ, _+_, _*_, _%_, _≤_, _<_}
+use Prim.Native.Nat.{ℕ, _+_, _*_, _/_, _%_, _≤_, _<_}
 use lib.ListN.{length, take, drop}
 use Rattle.rules.specs.Bits.{bitsOf, peek}
 use Rattle.rules.specs.Codes.{white, black}
@@ -11,6 +11,7 @@ use Rattle.rules.specs.Runs.{ok, sum, readRun}
 use Rattle.rules.specs.Lines as Rule
 use Rattle.rules.specs.Lines.{pushRun, lineEnd}
 use Rattle.rules.specs.Pages.{overlaid, mostBytes}
+use Rattle.tables.specs.Pairs.{pairTable}
 use Rattle.tables.specs.Tables.{colourOf, Lookups}
 use Rattle.bit_reader.specs.Cursor.{mostBits}
 use Rattle.bit_reader.specs.Loaded.{Ahead, Loading}
@@ -36,6 +37,10 @@ pub record Paired (w b : List ℕ) (top bits : ℕ) (r : Pair) : Type 0 where
   pub narrow : r .black + r .white ≤ 16380
   pub both : 0 < r .white → 0 < r .black
   pub read : Lookups w b → (bytes : List ℕ) (at live : ℕ) → Ahead bytes at live bits → 57 ≤ live → top ≡ peek 13 (drop at (bitsOf bytes)) → 0 < r .white → PairRun bytes at r
+
+-- by an entry of the pair table
+abbrev pub entryPair : ℕ → Pair
+entryPair entry = record { black = entry % 64; white = entry / 64 % 64; size = entry / 4096 }
 
 -- ---- Bits that are known
 
@@ -117,15 +122,16 @@ pub record Putting (row : List ℕ) (width : ℕ) (s : Pace) (pair : Pair) : Typ
 abbrev pub Puts : List ℕ → ℕ → Pace → Pair → ℕ → Paced → List ℕ → Type 0
 Puts row width s pair bits r ys = (bytes : List ℕ) → (0 < pair .white → PairRun bytes (s .at) pair) → KnownIn bytes (s .at + pair .size) bits → PacedTo bytes row width s r ys
 
-pub record Pacing (w b bytes row : List ℕ) (width last : ℕ) (s : Pace) : Type 0 where
+pub record Pacing (w b both bytes row : List ℕ) (width last : ℕ) (s : Pace) : Type 0 where
   pub lookups : Lookups w b
+  pub pairs : both ≡ pairTable
   pub limit : length bytes ≤ mostBytes
   pub last-is : last + 64 ≡ 8 * length bytes
   pub narrow : width < 4294967295
   pub paces : Paces bytes row width s
 
-pub record Stepping (w b bytes row : List ℕ) (width last : ℕ) (s : Pace) : Type 0 where
-  pub pacing : Pacing w b bytes row width last s
+pub record Stepping (w b both bytes row : List ℕ) (width last : ℕ) (s : Pace) : Type 0 where
+  pub pacing : Pacing w b both bytes row width last s
   pub here : s .at ≤ last
 
 pub record Beginning (width at : ℕ) : Type 0 where
@@ -144,7 +150,8 @@ Begins table width at bits r =
 abbrev pub Fit : ℕ → ℕ → ℕ → ℕ → Bool → Type 0
 Fit room width len at r = r ≡ true → (0 < width) × (width ≤ room) × (at + 64 ≤ 8 * len)
 
-pub record Pairing (w b bytes : List ℕ) (width at : ℕ) : Type 0 where
+pub record Pairing (w b both bytes : List ℕ) (width at : ℕ) : Type 0 where
   pub lookups : Lookups w b
+  pub pairs : both ≡ pairTable
   pub loading : Loading bytes at
   pub narrow : width < 4294967295

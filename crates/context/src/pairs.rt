@@ -7,7 +7,8 @@ ghost use Prim.Native.Nat.{_≤_, _<_};
 ghost use lib.ListN.{length};
 ghost use Rattle.rules.specs.Bits.{bitsOf};
 ghost use Rattle.rules.specs.Pages.{mostBytes};
-ghost use Rattle.context.specs.Pairs.{haltLine, startAt, paceOf, Paired, Leaping, Leapt, Putting, Puts, Stepping, PacedTo, Pacing, Ran, Beginning, Begins, Fit, Pairing};
+ghost use Rattle.tables.specs.Pairs.{pairTable};
+ghost use Rattle.context.specs.Pairs.{haltLine, startAt, paceOf, entryPair, Paired, Leaping, Leapt, Putting, Puts, Stepping, PacedTo, Pacing, Ran, Beginning, Begins, Fit, Pairing};
 
 // Where a line stands before a black run, which begins with a change: the next bit, the position, the changes it has, an even count, and the next
 // bits, 13 of them at least.
@@ -73,6 +74,35 @@ fn by_codes<'a>(white: &'a [u16; 8192], black: &'a [u16; 8192], top: usize, wind
     }
 }
 
+// The two at once, by an entry of the pair table.
+fn by_entry(entry: u16) -> Pair
+    ensures { λ r. ⌜ (r ≡ entryPair entry) × (entry < 65536) ⌝ }
+{
+    Pair {
+        black: (entry % 64) as u32,
+        white: (entry / 64 % 64) as u32,
+        size: (entry / 4096) as usize,
+    }
+}
+
+// The two at the front of some bits, at once where the first 11 of them have both.
+fn pair_at<'a>(
+    white: &'a [u16; 8192],
+    black: &'a [u16; 8192],
+    both: &'a [u16; 2048],
+    top: usize,
+    window: u64,
+) -> Pair
+    requires { ⌜ (top < 8192) × (now both ≡ pairTable) ⌝ }
+    ensures { λ r. ⌜ Paired (now (white .entry)) (now (black .entry)) top window r ⌝ }
+{
+    let entry = both[top / 4];
+    if entry == 0 {
+        return by_codes(white, black, top, window);
+    }
+    by_entry(entry)
+}
+
 // The bits behind a pair of `size` bits at `at`. They are loaded anew where two make-up codes leave fewer than 13, and the data has 64 there.
 fn bits_behind(src: &[u8], last: usize, at: usize, size: usize, window: u64) -> u64
     requires { ⌜ Leaping (now src) last at size ⌝ }
@@ -116,18 +146,19 @@ fn put(row: &mut [u32], width: u32, s: Pace, pair: Pair, bits: u64) -> Paced
 fn step<'a>(
     white: &'a [u16; 8192],
     black: &'a [u16; 8192],
+    both: &'a [u16; 2048],
     src: &[u8],
     row: &mut [u32],
     width: u32,
     last: usize,
     s: Pace,
 ) -> Paced
-    requires { ⌜ Stepping (now white) (now black) (now src) (now row) width last s ⌝ }
+    requires { ⌜ Stepping (now white) (now black) (now both) (now src) (now row) width last s ⌝ }
     ensures { λ r. ⌜ PacedTo (now (src .entry)) (now (row .entry)) width s r (now (row .exit)) ⌝ }
 {
     let window = bit_reader::ahead(src, s.at);
     let top = front::top13(s.bits);
-    let pair = by_codes(white, black, top, window);
+    let pair = pair_at(white, black, both, top, window);
     let bits = bits_behind(src, last, s.at, pair.size, window);
     put(row, width, s, pair, bits)
 }
@@ -136,13 +167,14 @@ fn step<'a>(
 fn pairs_from<'a>(
     white: &'a [u16; 8192],
     black: &'a [u16; 8192],
+    both: &'a [u16; 2048],
     src: &[u8],
     row: &mut [u32],
     width: u32,
     last: usize,
     from: Pace,
 ) -> Pace
-    requires { ⌜ Pacing (now white) (now black) (now src) (now row) width last from ⌝ }
+    requires { ⌜ Pacing (now white) (now black) (now both) (now src) (now row) width last from ⌝ }
     ensures { λ r. ⌜ Ran (bitsOf (now (src .entry))) (length (now (row .entry))) width (now (row .entry)) (paceOf from) (now (row .exit)) (paceOf r) ⌝ }
 {
     let mut s = from;
@@ -150,7 +182,7 @@ fn pairs_from<'a>(
         if last < s.at {
             return s;
         }
-        match step(white, black, src, row, width, last, s) {
+        match step(white, black, both, src, row, width, last, s) {
             Paced::Other => {
                 return s;
             }
@@ -206,13 +238,14 @@ fn fit(plain: bool, room: usize, width: u32, len: usize, at: usize) -> bool
 pub(crate) fn pairs<'a>(
     white: &'a [u16; 8192],
     black: &'a [u16; 8192],
+    both: &'a [u16; 2048],
     src: &[u8],
     row: &mut [u32],
     width: u32,
     at: usize,
     plain: bool,
 ) -> Halt
-    requires { ⌜ Pairing (now white) (now black) (now src) width at ⌝ }
+    requires { ⌜ Pairing (now white) (now black) (now both) (now src) width at ⌝ }
     ensures { λ r. ⌜ Ran (bitsOf (now (src .entry))) (length (now (row .entry))) width (now (row .entry)) (startAt at) (now (row .exit)) r ⌝ }
 {
     let start = Halt {
@@ -228,7 +261,7 @@ pub(crate) fn pairs<'a>(
     match begun(white, width, at, bit_reader::ahead(src, at)) {
         Paced::Other => start,
         Paced::On(from) => {
-            let t = pairs_from(white, black, src, row, width, last, from);
+            let t = pairs_from(white, black, both, src, row, width, last, from);
             Halt {
                 at: t.at,
                 position: t.position,

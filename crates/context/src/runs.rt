@@ -15,6 +15,7 @@ use codes::run::Run;
 ghost use mathlib.Core.Path.{_≡_};
 ghost use Rattle.rules.specs.Bits.{bitsOf};
 ghost use Rattle.rules.specs.Lines.{one, readLine};
+ghost use Rattle.tables.specs.Pairs.{pairTable};
 ghost use Rattle.tables.specs.Tables.{colourOf};
 ghost use Rattle.codes.specs.Runs.{Reading, RunRead};
 ghost use Rattle.context.specs.State.{rulesFor};
@@ -93,16 +94,17 @@ pub fn runs<'a>(
 pub fn decode_1d_line<'a>(
     white: &'a [u16; 8192],
     black: &'a [u16; 8192],
+    both: &'a [u16; 2048],
     src: &[u8],
     changes: &mut [u32],
     width: u32,
     at: usize,
     rules: Rules,
 ) -> Step
-    requires { ⌜ Starts (now white) (now black) (now src) width at ⌝ }
+    requires { ⌜ Starts (now white) (now black) (now src) width at × (now both ≡ pairTable) ⌝ }
     ensures { λ r. ⌜ Steps width (now (changes .entry)) (readLine (rulesFor width rules (now (changes .entry))) one (bitsOf (now (src .entry))) at) r (now (changes .exit)) ⌝ }
 {
-    let s = pairs::pairs(white, black, src, changes, width, at, rules.plain);
+    let s = pairs::pairs(white, black, both, src, changes, width, at, rules.plain);
     let line = pairs::line_of(width, s);
     if s.position == width {
         return Step::On(line, s.at);

@@ -9,10 +9,12 @@ use context::step::Step;
 use rows::DecodeSettings;
 use rows::Row;
 use rows::State;
+ghost use mathlib.Core.Path.{_≡_};
 ghost use Prim.Native.Nat.{_-_};
 ghost use lib.ListN.{length};
 ghost use Rattle.rules.specs.Bits.{bitsOf};
 ghost use Rattle.rules.specs.Group3.{row3};
+ghost use Rattle.tables.specs.Pairs.{pairTable};
 ghost use Rattle.rows.specs.Settings.{settingsOf};
 ghost use Rattle.rows.specs.Between.{stateOf, RowFrom, RowGives};
 ghost use Rattle.group3.specs.Tags.{taggingOf};
@@ -23,6 +25,7 @@ ghost use Rattle.group3.specs.Recovery.{afterLineIn};
 fn row_at<'a>(
     white: &'a [u16; 8192],
     black: &'a [u16; 8192],
+    both: &'a [u16; 2048],
     src: &[u8],
     settings: DecodeSettings,
     lent: &[u32],
@@ -31,10 +34,10 @@ fn row_at<'a>(
     at: usize,
     expected: bool,
 ) -> Row
-    requires { ⌜ LineFrom (now white) (now black) (now src) (now lent) (now changes) settings state at ⌝ }
+    requires { ⌜ LineFrom (now white) (now black) (now src) (now lent) (now changes) settings state at × (now both ≡ pairTable) ⌝ }
     ensures { λ r. ⌜ RowGives (state .base) (now (changes .entry)) (afterLineIn settings (now (src .entry)) (now (lent .entry)) (now (changes .entry)) state at expected (lineIn settings (now (src .entry)) (now (lent .entry)) (now (changes .entry)) state at)) r (now (changes .exit)) ⌝ }
 {
-    match line::decode(white, black, src, settings, lent, changes, state, at) {
+    match line::decode(white, black, both, src, settings, lent, changes, state, at) {
         Step::On(line, next) => Row::Kept(line.changes, line.cut, next, expected),
         Step::Stop(number, line, place) => {
             recover::recover(changes, settings, state, at, expected, number, place, line)
@@ -45,13 +48,14 @@ fn row_at<'a>(
 pub fn row<'a>(
     white: &'a [u16; 8192],
     black: &'a [u16; 8192],
+    both: &'a [u16; 2048],
     src: &[u8],
     settings: DecodeSettings,
     lent: &[u32],
     changes: &mut [u32],
     state: State,
 ) -> Row
-    requires { ⌜ RowFrom (now white) (now black) (now src) (now lent) (now changes) settings state ⌝ }
+    requires { ⌜ RowFrom (now white) (now black) (now src) (now lent) (now changes) settings state × (now both ≡ pairTable) ⌝ }
     ensures { λ r. ⌜ RowGives (state .base) (now (changes .entry)) (row3 (settingsOf settings) (taggingOf (settings .encoding)) (bitsOf (now (src .entry))) (length (now (changes .entry)) - state .base) (stateOf (now (lent .entry)) (now (changes .entry)) state)) r (now (changes .exit)) ⌝ }
 {
     match eob::between(src, settings, state) {
@@ -61,6 +65,7 @@ pub fn row<'a>(
             row_at(
                 white,
                 black,
+                both,
                 src,
                 settings,
                 lent,

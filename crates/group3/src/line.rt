@@ -7,6 +7,8 @@ use context::step::Step;
 use context::two;
 use rows::DecodeSettings;
 use rows::State;
+ghost use mathlib.Core.Path.{_≡_};
+ghost use Rattle.tables.specs.Pairs.{pairTable};
 ghost use Rattle.bit_reader.specs.Loaded.{Loading};
 ghost use Rattle.context.specs.Coding.{StepsAt};
 ghost use Rattle.group3.specs.Tags.{taggingOf};
@@ -38,6 +40,7 @@ fn kind_at(src: &[u8], settings: DecodeSettings, at: usize) -> Kind
 pub(crate) fn decode<'a>(
     white: &'a [u16; 8192],
     black: &'a [u16; 8192],
+    both: &'a [u16; 2048],
     src: &[u8],
     settings: DecodeSettings,
     lent: &[u32],
@@ -45,7 +48,7 @@ pub(crate) fn decode<'a>(
     state: State,
     at: usize,
 ) -> Step
-    requires { ⌜ LineFrom (now white) (now black) (now src) (now lent) (now changes) settings state at ⌝ }
+    requires { ⌜ LineFrom (now white) (now black) (now src) (now lent) (now changes) settings state at × (now both ≡ pairTable) ⌝ }
     ensures { λ r. ⌜ StepsAt (state .base) (settings .columns) (now (changes .entry)) (lineIn settings (now (src .entry)) (now (lent .entry)) (now (changes .entry)) state at) r (now (changes .exit)) ⌝ }
 {
     let columns = settings.columns;
@@ -64,6 +67,7 @@ pub(crate) fn decode<'a>(
             runs::decode_1d_line(
                 white,
                 black,
+                both,
                 src,
                 &mut changes[base..],
                 columns,

@@ -1,14 +1,16 @@
-// The code tables of T.4 and T.6, the two lookup tables made of them, and their readers (tables.rs).
+// The code tables of T.4 and T.6, the two lookup tables made of them, the pair table made of those, and their readers (tables.rs).
 // A constant is built anew on the stack wherever it is used, so a decoder or a writer makes each table once, and lends it.
 ghost use mathlib.Core.Path.{_≡_};
 ghost use Prim.Native.Nat.{_-_, _≤_, _<_};
 ghost use Rattle.rules.specs.Bits.{bitsFor};
 ghost use Rattle.rules.specs.Codes.{white, black, whiteTerminating, whiteMakeup, blackTerminating, blackMakeup, commonMakeup, terminatingOf, makeupOf, codeAt};
 ghost use Rattle.rules.specs.Lookup.{lookup, entryNumber, lookupTable};
+ghost use Rattle.tables.specs.Pairs.{pairTable};
 ghost use Rattle.tables.specs.Tables.{colourOf, rows, codeOf, SameBits, Lookups, Terminating, Makeup};
 
 mod code_tables;
 mod lookup_black;
+mod lookup_pairs;
 mod lookup_white;
 
 // The bits of a code: the lowest `size` bits of `word`, the highest of them first.
@@ -27,6 +29,13 @@ pub fn black_lookup() -> [u16; 8192]
     ensures { λ r. ⌜ r ≡ lookupTable black ⌝ }
 {
     lookup_black::BLACK_LOOKUP
+}
+
+// A black run and a white one behind it at once.
+pub fn pair_lookup() -> [u16; 2048]
+    ensures { λ r. ⌜ r ≡ pairTable ⌝ }
+{
+    lookup_pairs::PAIR_LOOKUP
 }
 
 pub fn white_terminating() -> [[u16; 3]; 64]

@@ -34,23 +34,26 @@ white-lookup-requires c κs = search needs
 black-lookup-requires : tie.Need-black-lookup-requires
 black-lookup-requires c κs = search needs
 
+pair-lookup-requires : tie.Need-pair-lookup-requires
+pair-lookup-requires c κs = search needs
+
 strict-if-exact-requires : tie.Need-strict-if-exact-requires
 strict-if-exact-requires c κs = search needs
 
 slice-aggregate-row-under : tie.Need-slice-aggregate-row-under
 slice-aggregate-row-under c =
-    let g = c .before .before .before .before .before .before .before .before in
+    let g = c .before .before .before .before .before .before .before .before .before .before in
     let s = g .before .before .before .before .before in
     held-length (now (s .args .src)) (s .args .settings) (s .args .state) (now (s .args .reference)) (now (s .args .changes)) (s .pre) (sym (not-false _ (g .if1 .left)) ∙ g .before .is-sound .ensures)
 
 row-under-requires : tie.Need-row-under-requires
 row-under-requires c κs =
     let e = c .before .before in
-    let t = e .before .before .before .before .before in
+    let t = e .before .before .before .before .before .before .before in
     let g = t .before .before in
     let s = g .before .before .before .before .before in
     rw (e .strict-if-exact .ensures)
-    (next-asks (now (s .args .src)) (s .args .settings) (s .args .state) (now (s .args .reference)) (now (s .args .changes)) (s .pre) (sym (not-false _ (g .if1 .left)) ∙ g .before .is-sound .ensures) (t .if2 .left) (record { of-white = e .before .before .before .before .white-lookup .ensures; of-black = e .before .before .before .black-lookup .ensures }))
+    (next-asks (now (s .args .src)) (s .args .settings) (s .args .state) (now (s .args .reference)) (now (s .args .changes)) (s .pre) (sym (not-false _ (g .if1 .left)) ∙ g .before .is-sound .ensures) (t .if2 .left) (record { of-white = e .before .before .before .before .before .before .white-lookup .ensures; of-black = e .before .before .before .before .before .black-lookup .ensures }), e .before .before .before .before .pair-lookup .ensures)
 
 enum-known-count : tie.Need-enum-known-count
 enum-known-count c = search needs
@@ -59,7 +62,7 @@ given-requires : tie.Need-given-requires
 given-requires c κs =
     let u = c .before .before .before .before .before in
     let e = u .before .before .before in
-    let t = e .before .before .before .before .before in
+    let t = e .before .before .before .before .before .before .before in
     let g = t .before .before in
     let s = g .before .before .before .before .before in
     grows (now (s .args .src)) (s .args .settings) (s .args .state) (now (s .args .reference)) (now (s .args .changes)) (s .pre) (sym (not-false _ (g .if1 .left)) ∙ g .before .is-sound .ensures) (t .if2 .left) _ _ (rw (e .strict-if-exact .ensures) at (u .row-under .ensures)) _ _ _ _ (c .before .count .given .1)
@@ -80,7 +83,7 @@ returns-3 : tie.Need-returns-3
 returns-3 c =
     let u = c .before .before .before .before .before .before .before .before in
     let e = u .before .before .before in
-    let t = e .before .before .before .before .before in
+    let t = e .before .before .before .before .before .before .before in
     let g = t .before .before in
     let s = g .before .before .before .before .before in
     next-short (now (s .args .src)) (s .args .settings) (s .args .state) (now (s .args .reference)) (now (s .args .changes)) (s .pre) (sym (not-false _ (g .if1 .left)) ∙ g .before .is-sound .ensures) (t .if2 .left) _ _ (rw (e .strict-if-exact .ensures) at (u .row-under .ensures)) _ _ _ _ (c .before .before .before .before .number .given .1)
@@ -90,7 +93,7 @@ ends-requires-2 : tie.Need-ends-requires-2
 ends-requires-2 c κs =
     let u = c .before .before .before .before .before .before .before in
     let e = u .before .before .before in
-    let t = e .before .before .before .before .before in
+    let t = e .before .before .before .before .before .before .before in
     let g = t .before .before in
     let s = g .before .before .before .before .before in
     inl (few (now (s .args .src)) (s .args .settings) (s .args .state) (now (s .args .reference)) (now (s .args .changes)) (s .pre) (sym (not-false _ (g .if1 .left)) ∙ g .before .is-sound .ensures) (t .if2 .left) _ _ (rw (e .strict-if-exact .ensures) at (u .row-under .ensures)) _ _ _ _ (c .before .before .before .number .given .1))
@@ -102,7 +105,7 @@ returns-4 : tie.Need-returns-4
 returns-4 c =
     let u = c .before .before .before .before .before .before in
     let e = u .before .before .before in
-    let t = e .before .before .before .before .before in
+    let t = e .before .before .before .before .before .before .before in
     let g = t .before .before in
     let s = g .before .before .before .before .before in
     rw (c .given .ensures)
@@ -115,7 +118,7 @@ returns-5 : tie.Need-returns-5
 returns-5 c =
     let u = c .before .before .before .before .before .before .before .before in
     let e = u .before .before .before in
-    let t = e .before .before .before .before .before in
+    let t = e .before .before .before .before .before .before .before in
     let g = t .before .before in
     let s = g .before .before .before .before .before in
     next-ended (now (s .args .src)) (s .args .settings) (s .args .state) (now (s .args .reference)) (now (s .args .changes)) (s .pre) (sym (not-false _ (g .if1 .left)) ∙ g .before .is-sound .ensures) (t .if2 .left) _ _ (rw (e .strict-if-exact .ensures) at (u .row-under .ensures)) _ _ _ _ (c .before .before .before .before .number .given .1)
@@ -132,6 +135,7 @@ next-row-spec =
     returns-2
     white-lookup-requires
     black-lookup-requires
+    pair-lookup-requires
     strict-if-exact-requires
     slice-aggregate-row-under
     row-under-requires

@@ -29,11 +29,23 @@ white-lookup-requires c κs = search needs
 black-lookup-requires : tie.Need-black-lookup-requires
 black-lookup-requires c κs = search needs
 
+pair-lookup-requires : tie.Need-pair-lookup-requires
+pair-lookup-requires c κs = search needs
+
 strict-if-exact-requires : tie.Need-strict-if-exact-requires
 strict-if-exact-requires c κs = search needs
 
 page-requires : tie.Need-page-requires
-page-requires c κs = rw (c .before .before .before .before .before .strict-if-exact .ensures) (search needs)
+page-requires c κs =
+    rw (c .before .before .before .before .before .before .strict-if-exact .ensures) (
+      record {
+        lookups = record { of-white = c .before .before .before .before .before .before .before .before .before .white-lookup .ensures; of-black = c .before .before .before .before .before .before .before .before .black-lookup .ensures };
+        size = search needs;
+        wide = search needs;
+        narrow = search needs;
+      },
+      c .before .before .before .before .before .before .before .pair-lookup .ensures,
+    )
 
 unless-short-requires : tie.Need-unless-short-requires
 unless-short-requires c κs = search needs
@@ -49,9 +61,9 @@ same-length-3 c = search needs
 
 returns-4 : tie.Need-returns-4
 returns-4 c =
-    let s = c .before .before .before .before .before .before .before .before .before .before .before .before .before .before .before .before .before .before .before .before .before .before .before .before .before .args in
+    let s = c .before .before .before .before .before .before .before .before .before .before .before .before .before .before .before .before .before .before .before .before .before .before .before .before .before .before .before .args in
     rw (c .unless-short .ensures)
-    (page-read (now (s .src)) (s .settings) (now (s .changes)) (now (s .ends)) (now (s .marks)) (c .before .before .before .before .before .before .before .before .before .before .before .before .before .before .before .before .before .before .before .if1 .left) (c .before .before .before .before .before .before .before .before .before .before .before .before .before .before .before .before .before .before .if2 .left) (c .before .before .before .before .before .before .before .before .before .before .before .before .before .before .before .before .if3 .left) (rw (c .before .before .before .before .before .before .before .before .before .before .before .before .before .strict-if-exact .ensures) at (c .before .before .before .before .before .before .before .page .ensures)))
+    (page-read (now (s .src)) (s .settings) (now (s .changes)) (now (s .ends)) (now (s .marks)) (c .before .before .before .before .before .before .before .before .before .before .before .before .before .before .before .before .before .before .before .before .before .if1 .left) (c .before .before .before .before .before .before .before .before .before .before .before .before .before .before .before .before .before .before .before .before .if2 .left) (c .before .before .before .before .before .before .before .before .before .before .before .before .before .before .before .before .before .before .if3 .left) (rw (c .before .before .before .before .before .before .before .before .before .before .before .before .before .before .strict-if-exact .ensures) at (c .before .before .before .before .before .before .before .page .ensures)))
 
 pub decode-spec : {M : Type 1} → statement M
 decode-spec =
@@ -65,6 +77,7 @@ decode-spec =
     returns-3
     white-lookup-requires
     black-lookup-requires
+    pair-lookup-requires
     strict-if-exact-requires
     page-requires
     unless-short-requires

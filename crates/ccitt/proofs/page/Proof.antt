@@ -9,20 +9,20 @@ use Rattle.ccitt.proofs.page.Statement.{statement}
 use Rattle.ccitt.proofs.page.Tie as tie
 
 abbrev Inv-loop : tie.InvT-loop
-Inv-loop white black src settings changes₀ ends₀ marks₀ places state₀ changes ends marks state =
+Inv-loop white black both src settings changes₀ ends₀ marks₀ places state₀ changes ends marks state =
     (places ≡ placesIn ends₀ marks₀) × Turn src settings changes₀ ends₀ marks₀ changes ends marks state
 
 abbrev μ-loop : tie.MeasureT-loop
-μ-loop white black src settings changes₀ ends₀ marks₀ places state₀ changes ends marks state = turnsLeft src state
+μ-loop white black both src settings changes₀ ends₀ marks₀ places state₀ changes ends marks state = turnsLeft src state
 
 places-requires : tie.Need-places-requires Inv-loop μ-loop
 places-requires c κs = search needs
 
 loop-holds : tie.Need-loop-holds Inv-loop μ-loop
-loop-holds c = let s = c .before .before .before .before .before in (c .places .ensures, turn-start (now (s .args .src)) (s .args .settings) (now (s .args .changes)) (now (s .args .ends)) (now (s .args .marks)) (s .pre))
+loop-holds c = let s = c .before .before .before .before .before in (c .places .ensures, turn-start (now (s .args .src)) (s .args .settings) (now (s .args .changes)) (now (s .args .ends)) (now (s .args .marks)) (s .pre .0))
 
 row-requires : tie.Need-row-requires Inv-loop μ-loop
-row-requires c κs = turn-asked (c .before .loop .inv .1) (c .before .before .before .before .before .before .before .pre .lookups)
+row-requires c κs = let pre = c .before .before .before .before .before .before .before .pre in (turn-asked (c .before .loop .inv .1) (pre .0 .lookups), pre .1)
 
 enum-known-number : tie.Need-enum-known-number Inv-loop μ-loop
 enum-known-number c = search needs

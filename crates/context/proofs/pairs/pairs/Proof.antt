@@ -39,7 +39,7 @@ pairs-from-requires : tie.Need-pairs-from-requires
 pairs-from-requires c κs =
     let f = c .before .before .before .before .before .before .before .fit .ensures (not-false _ (c .before .before .before .before .before .before .if1 .left)) in
     let b = subst (λ (r : Paced). BegunTo (now (c .before .before .before .before .before .before .before .before .before .before .args .src)) (now (c .before .before .before .before .before .before .before .before .before .before .args .row)) (c .before .before .before .before .before .before .before .before .before .before .args .width) (c .before .before .before .before .before .before .before .before .before .before .args .at) r) (c .before .before .from .given .1) (c .before .before .before .before .begun .ensures (c .before .before .before .before .before .before .before .before .before .before .pre .lookups .of-white) (now (c .before .before .before .before .before .before .before .before .before .before .args .src)) (now (c .before .before .before .before .before .before .before .before .before .before .args .row)) _ (c .before .before .before .before .before .ahead .ensures) (omega arith) (f .1)) in
-    record { lookups = c .before .before .before .before .before .before .before .before .before .before .pre .lookups; limit = c .before .before .before .before .before .before .before .before .before .before .pre .loading .size; last-is = omega (arith, f .2); narrow = c .before .before .before .before .before .before .before .before .before .before .pre .narrow; paces = b .1 }
+    record { lookups = c .before .before .before .before .before .before .before .before .before .before .pre .lookups; pairs = c .before .before .before .before .before .before .before .before .before .before .pre .pairs; limit = c .before .before .before .before .before .before .before .before .before .before .pre .loading .size; last-is = omega (arith, f .2); narrow = c .before .before .before .before .before .before .before .before .before .before .pre .narrow; paces = b .1 }
 
 returns-2 : tie.Need-returns-2
 returns-2 c = ran-none (record { fits = omega arith; held = omega arith; coloured = omega arith }) (omega arith) (omega (arith, c .before .before .before .before .before .before .before .before .pre .loading .inside, length-bitsOf (now (c .before .before .before .before .before .before .before .before .args .src))))
