@@ -7,7 +7,7 @@ use Prim.Native.Nat.{ℕ, zero, suc, _+_, _-_, _*_, _%_, _≤_, _<_}
 use native.Mathlib.Omega.{arith}
 use lib.Dec.{eqb}
 use lib.ListN.{length, take, drop, set, length-append, length-take, length-drop, length-set}
-use lib.Seq.{length-take-le, take-at, take-set-le, drop-set-add}
+use lib.Seq.{length-take-le, take-set-le, drop-set-add}
 use borrow.Author.Tests.{eq-eqb, ne-eqb}
 use borrow.Rule.Slice.PartMut.{midOf, putMid}
 use Rattle.rules.specs.Bits.{bitsOf}
@@ -25,11 +25,11 @@ use Rattle.context.specs.declared.two.Reference.the-variants.{Kept}
 use Rattle.context.specs.declared.swift.Stand.{Stand}
 use Rattle.context.specs.declared.swift.Taken.{Taken}
 use Rattle.context.specs.declared.swift.Taken.the-variants.{On, Other}
-use Rattle.context.specs.State.{turns}
+use Rattle.context.specs.State.{ruling, turns}
 use Rattle.context.specs.Offset.{moveBy}
-use Rattle.context.specs.Swift.{standing, Left, Seen, Stands, Roomy, Reached, Onward, Turning, keptIn, ruling, Noted, Walked, Took, sideMode, Ready, Asks, Sided, Walks}
+use Rattle.context.specs.Swift.{standing, Left, Seen, Stands, Roomy, Reached, Onward, Turning, keptIn, Noted, Walked, Took, sideMode, Ready, Asks, Sided, Walks}
 use Rattle.context.proofs.State.{turns-is, overlaid-same, overlaid-set}
-use Rattle.context.proofs.Carried.{overlaid-over, overlaid-length}
+use Rattle.context.proofs.Carried.{front-of, overlaid-over, overlaid-length}
 use Rattle.context.proofs.Search.{right-more}
 use Rattle.context.proofs.Moves.{Upright}
 use Rattle.context.proofs.RowPart.{reference-same, row-lent, row-back, back-front, back-row}
@@ -65,11 +65,6 @@ module _ (row : List ℕ) (s : Stand) (h : s .count < length row) where
       }
 
 -- ---- One code
-
--- what was written in front of a row is its front
-pub front-of : (n : ℕ) (qs row ys : List ℕ) → n ≡ length qs → ys ≡ overlaid qs row → take n ys ≡ qs
-unfolding overlaid
-front-of n qs row ys e s = ap (take n) s ∙ take-at qs (drop (length qs) row) n (sym e)
 
 module _ {reference : List ℕ} {bs : List Bool} {base room width : ℕ} {xs : List ℕ} {s : Stand} where
   -- A code that takes the line of the rules from one stand to another takes the array with it.

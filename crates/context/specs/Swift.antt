@@ -10,7 +10,7 @@ use Rattle.rules.specs.Bits.{bitsOf}
 use Rattle.rules.specs.Runs.{ok}
 use Rattle.rules.specs.Modes.{Mode, VR, VL, moded, readMode}
 use Rattle.rules.specs.Lines as Rule
-use Rattle.rules.specs.Lines.{Rules, recorded, rightOfA0, headOr, code2D, lineEnd}
+use Rattle.rules.specs.Lines.{recorded, rightOfA0, headOr, code2D, lineEnd}
 use Rattle.rules.specs.Pages.{overlaid}
 use Rattle.rules.proofs.Ascending.{Rising}
 use Rattle.tables.specs.Tables.{colourOf, Lookups}
@@ -20,6 +20,7 @@ use Rattle.context.specs.declared.line.Line.{Line}
 use Rattle.context.specs.declared.swift.Stand.{Stand}
 use Rattle.context.specs.declared.swift.Taken.{Taken}
 use Rattle.context.specs.declared.swift.Taken.the-variants.{On, Other}
+use Rattle.context.specs.State.{ruling}
 
 -- ---- A stand
 
@@ -83,9 +84,6 @@ Back reference place a1 false = (j : ℕ) → suc j ≡ place → j < length ref
 -- the row before, from `start` on, in the array that holds the row from `base` on
 abbrev pub keptIn : ℕ → ℕ → List ℕ → List ℕ
 keptIn start base xs = take (base - start) (drop start xs)
-
-abbrev pub ruling : ℕ → ℕ → Bool → Bool → Rules
-ruling width room strict exact = record { width = width; strict = strict; exact = exact; room = room }
 
 -- pixels of the line's colour follow
 pub record Noted (row : List ℕ) (s : Stand) (r : ℕ) (ys : List ℕ) : Type 0 where
