@@ -10,6 +10,9 @@ ghost use mathlib.Core.Path.{_≡_};
 ghost use Prim.Native.Nat.{_≤_};
 ghost use Rattle.rules.specs.Pages.{mostBytes};
 ghost use Rattle.rules.specs.ByRow.{ended, rowStart};
+ghost use Rattle.tables.specs.Pairs.{pairTable};
+ghost use Rattle.rows.specs.Between.{RowFrom};
+ghost use Rattle.ccitt.specs.Decode.{Rowed};
 ghost use Rattle.by_row.specs.ByRow.{otherSide, endOf, Ending, rowStateOf, toldFor, saidFor, refusedFor, noneFor, soundFor, Grows, givenFor, Ends, NextFrom, Next, Tested, ReadsRow};
 
 // One of the two line arrays.
@@ -217,6 +220,26 @@ fn ends(state: RowState, number: u32, place: usize, bytes: usize, loose: usize) 
     said(number, place, bytes, loose, ended)
 }
 
+// What one row does, by the encoding.
+fn row_under<'a>(
+    white: &'a [u16; 8192],
+    black: &'a [u16; 8192],
+    both: &'a [u16; 2048],
+    src: &[u8],
+    settings: DecodeSettings,
+    lent: &[u32],
+    changes: &mut [u32],
+    state: State,
+) -> Row
+    requires { ⌜ RowFrom (now white) (now black) (now src) (now lent) (now changes) settings state × (now both ≡ pairTable) ⌝ }
+    ensures { λ r. ⌜ Rowed (now (src .entry)) (now (lent .entry)) (now (changes .entry)) settings state r (now (changes .exit)) ⌝ }
+{
+    if ccitt::is_group4(settings) {
+        return group4::row(white, black, src, settings, lent, changes, state);
+    }
+    group3::row(white, black, both, src, settings, lent, changes, state)
+}
+
 // The row under the reference, which lies in an array of its own. The lookup tables are made here, once the tests are passed: a constant
 // is built anew wherever it is used.
 fn next_row(
@@ -246,7 +269,7 @@ fn next_row(
         base: 0,
         eols: state.eols,
     };
-    match ccitt::row_under(
+    match row_under(
         &white,
         &black,
         &pairs,

@@ -39,7 +39,7 @@ use Rattle.rows.specs.declared.EncodingMode.the-variants.{Group4, «Group3_1D»
 use Rattle.rows.specs.Settings.{encodingOf, settingsOf}
 use Rattle.group3.specs.Tags.{taggingOf}
 use Rattle.rows.specs.Between.{stateOf, rowFor, changesIn, RowFrom, RowGives}
-use Rattle.ccitt.specs.Decode.{Rowed, counted, behindRow, Behind, PageFrom, Gives, Reads, strictFor, shortFor}
+use Rattle.ccitt.specs.Decode.{isGroup4, Rowed, counted, behindRow, Behind, PageFrom, Gives, Reads, strictFor, shortFor}
 
 -- ---- What an answer of the code says of the outcome
 
@@ -417,14 +417,20 @@ module _ (bytes lent xs : List ℕ) (settings : DecodeSettings) (st : State) {r 
       subst (λ (d : EncodingMode). RowGives (st .base) xs (rowOf (encodingOf d) (settingsOf settings) (bitsOf bytes) (length xs - st .base) (stateOf lent xs st)) r ys) (sym q)
       (subst (λ (w : RowOut). RowGives (st .base) xs w r ys) (by-encoding e (settingsOf settings) (bitsOf bytes) (length xs - st .base) (stateOf lent xs st)) g)
 
-  pub rowed-4 : settings .encoding ≡ Group4 → RowGives (st .base) xs (row4 (settingsOf settings) (bitsOf bytes) (length xs - st .base) (stateOf lent xs st)) r ys → Rowed bytes lent xs settings st r ys
+  pub rowed-4 : isGroup4 (settings .encoding) ≡ true → RowGives (st .base) xs (row4 (settingsOf settings) (bitsOf bytes) (length xs - st .base) (stateOf lent xs st)) r ys → Rowed bytes lent xs settings st r ys
   unfolding byEncoding
-  rowed-4 q g = rowed Group4 q g
+  rowed-4 k g = rowed Group4 (only (settings .encoding) k) g
+    where
+      only : (e : EncodingMode) → isGroup4 e ≡ true → e ≡ Group4
+      only Group4 k = refl
+      only «Group3_1D» k = absurd (let z : _≡_ {A = ℕ} 0 1 = cc in omega arith)
+      only «Group3_2D» k = absurd (let z : _≡_ {A = ℕ} 0 1 = cc in omega arith)
 
-  pub rowed-1D : settings .encoding ≡ «Group3_1D» → RowGives (st .base) xs (row3 (settingsOf settings) (taggingOf (settings .encoding)) (bitsOf bytes) (length xs - st .base) (stateOf lent xs st)) r ys → Rowed bytes lent xs settings st r ys
+  pub rowed-3 : isGroup4 (settings .encoding) ≡ false → RowGives (st .base) xs (row3 (settingsOf settings) (taggingOf (settings .encoding)) (bitsOf bytes) (length xs - st .base) (stateOf lent xs st)) r ys → Rowed bytes lent xs settings st r ys
   unfolding byEncoding
-  rowed-1D q g = rowed «Group3_1D» q (subst (λ (d : EncodingMode). RowGives (st .base) xs (row3 (settingsOf settings) (taggingOf d) (bitsOf bytes) (length xs - st .base) (stateOf lent xs st)) r ys) q g)
-
-  pub rowed-2D : settings .encoding ≡ «Group3_2D» → RowGives (st .base) xs (row3 (settingsOf settings) (taggingOf (settings .encoding)) (bitsOf bytes) (length xs - st .base) (stateOf lent xs st)) r ys → Rowed bytes lent xs settings st r ys
-  unfolding byEncoding
-  rowed-2D q g = rowed «Group3_2D» q (subst (λ (d : EncodingMode). RowGives (st .base) xs (row3 (settingsOf settings) (taggingOf d) (bitsOf bytes) (length xs - st .base) (stateOf lent xs st)) r ys) q g)
+  rowed-3 k g = rowed (settings .encoding) refl (subst (λ (w : RowOut). RowGives (st .base) xs w r ys) (same (settings .encoding) k) g)
+    where
+      same : (e : EncodingMode) → isGroup4 e ≡ false → row3 (settingsOf settings) (taggingOf e) (bitsOf bytes) (length xs - st .base) (stateOf lent xs st) ≡ byEncoding e (settingsOf settings) (bitsOf bytes) (length xs - st .base) (stateOf lent xs st)
+      same Group4 k = absurd (let z : _≡_ {A = ℕ} 0 1 = cc in omega arith)
+      same «Group3_1D» k = refl
+      same «Group3_2D» k = refl

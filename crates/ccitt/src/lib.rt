@@ -12,49 +12,20 @@ ghost use Rattle.rules.specs.Pages.{tooFew};
 ghost use Rattle.tables.specs.Pairs.{pairTable};
 ghost use Rattle.rows.specs.Settings.{settingsOf};
 ghost use Rattle.rows.specs.Between.{RowFrom};
-ghost use Rattle.ccitt.specs.Decode.{Rowed, counted, behindRow, Behind, PageFrom, Reads, strictFor, shortFor, Decodes};
+ghost use Rattle.ccitt.specs.Decode.{isGroup4, Rowed, counted, behindRow, Behind, PageFrom, Reads, strictFor, shortFor, Decodes};
 
-// What one row does, by the encoding, where the reference is lent or lies in the store.
-pub fn row_under<'a>(
-    white: &'a [u16; 8192],
-    black: &'a [u16; 8192],
-    both: &'a [u16; 2048],
-    src: &[u8],
-    settings: DecodeSettings,
-    lent: &[u32],
-    changes: &mut [u32],
-    state: State,
-) -> Row
-    requires { ⌜ RowFrom (now white) (now black) (now src) (now lent) (now changes) settings state × (now both ≡ pairTable) ⌝ }
-    ensures { λ r. ⌜ Rowed (now (src .entry)) (now (lent .entry)) (now (changes .entry)) settings state r (now (changes .exit)) ⌝ }
+pub fn is_group4(settings: DecodeSettings) -> bool
+    ensures { λ r. ⌜ r ≡ isGroup4 (settings .encoding) ⌝ }
 {
     let encoding = settings.encoding;
     match encoding {
-        EncodingMode::Group4 => group4::row(white, black, src, settings, lent, changes, state),
-        EncodingMode::Group3_1D => group3::row(
-            white,
-            black,
-            both,
-            src,
-            settings,
-            lent,
-            changes,
-            state,
-        ),
-        EncodingMode::Group3_2D => group3::row(
-            white,
-            black,
-            both,
-            src,
-            settings,
-            lent,
-            changes,
-            state,
-        ),
+        EncodingMode::Group4 => true,
+        EncodingMode::Group3_1D => false,
+        EncodingMode::Group3_2D => false,
     }
 }
 
-// The reference lies in the store, so none is lent.
+// What one row does, by the encoding. The reference lies in the store, so none is lent. Each call has no other of its kind, and is so compiled in place.
 fn row<'a>(
     white: &'a [u16; 8192],
     black: &'a [u16; 8192],
@@ -68,7 +39,10 @@ fn row<'a>(
     ensures { λ r. ⌜ Rowed (now (src .entry)) [] (now (changes .entry)) settings state r (now (changes .exit)) ⌝ }
 {
     let lent: [u32; 0] = [];
-    row_under(white, black, both, src, settings, &lent, changes, state)
+    if is_group4(settings) {
+        return group4::swift_row(white, black, src, settings, &lent, changes, state);
+    }
+    group3::swift_row(white, black, both, src, settings, &lent, changes, state)
 }
 
 // A count in the 64 bits that a row end has: more than 32, since a page may have more entries than those can count (A4).

@@ -4,3 +4,4 @@ pub mod Judging
 pub mod Starts
 pub mod Mending
 pub mod Outcomes
+pub mod Swiftly

@@ -3,9 +3,10 @@ use mathlib.Core.Path.{_≡_}
 use mathlib.Core.Bool.{Bool, not, _&&_}
 use mathlib.Core.List.{List, []}
 use mathlib.Core.Option.{none}
-use Prim.Native.Nat.{ℕ}
+use Prim.Native.Nat.{ℕ, _+_}
+use lib.Dec.{eqb}
 use lib.ListN.{drop}
-use Rattle.rules.specs.Bits.{bitsOf}
+use Rattle.rules.specs.Bits.{bitsOf, peek}
 use Rattle.rules.specs.Eols.{zeroRun, eolAfter}
 use Rattle.rules.specs.Rows.{Settings, alignedIf}
 use Rattle.rules.specs.Group3 as Rule
@@ -19,7 +20,7 @@ use Rattle.rows.specs.Settings.{settingsOf}
 use Rattle.rows.specs.Between.{stateOf}
 use Rattle.group3.specs.declared.eob.Before.{Before}
 use Rattle.group3.specs.declared.eob.Before.the-variants.{Line, End, NoEol}
-use Rattle.group3.specs.Tags.{taggingOf}
+use Rattle.group3.specs.Tags.{taggingOf, isTagged}
 
 -- "Without EOLs, we need to align first"
 abbrev pub alignedFrom : DecodeSettings → State → ℕ
@@ -29,6 +30,16 @@ alignedFrom s st = alignedIf (s .«rows_are_byte_aligned» && not (st .eols)) (s
 pub record NoEolAt (bytes : List ℕ) (at : ℕ) : Type 0 where
   pub loading : Loading bytes at
   pub no-eol : eolAfter at (zeroRun (drop at (bitsOf bytes))) ≡ none
+
+-- exactly one EOL begins at a bit, without fill: eleven zeros and a one, and then a one among eleven bits
+abbrev pub singleAt : List ℕ → ℕ → Bool
+singleAt bytes at = eqb (peek 12 (drop at (bitsOf bytes))) 1 && not (eqb (peek 11 (drop (at + 12) (bitsOf bytes))) 0)
+
+-- another row without a tag bit, behind an EOL that is expected
+abbrev pub usual : DecodeSettings → List ℕ → State → Bool
+usual s bytes st =
+    not (eqb (st .rows) 0)
+    && (st .eols && (not (eqb (st .rows) (s .rows)) && (not (isTagged (taggingOf (s .encoding))) && singleAt bytes (st .at))))
 
 -- an EOL is lacking after the row, whatever the settings
 abbrev pub Lacks : List ℕ → Bool → State → Eols → Bool → Type 0

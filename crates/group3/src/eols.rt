@@ -10,6 +10,7 @@ ghost use Rattle.rules.specs.Group3.{betweenTags, eols3};
 ghost use Rattle.bit_reader.specs.Loaded.{Loading};
 ghost use Rattle.codes.specs.Eols.{eolsOf};
 ghost use Rattle.group3.specs.Tags.{taggingOf, isTagged, EolsRead};
+ghost use Rattle.group3.specs.Ahead.{singleAt};
 
 pub(crate) fn is_tagged(settings: DecodeSettings) -> bool
     ensures { λ r. ⌜ r ≡ isTagged (taggingOf (settings .encoding)) ⌝ }
@@ -66,4 +67,16 @@ pub(crate) fn read_eols(src: &[u8], settings: DecodeSettings, at: usize) -> Eols
         return first;
     }
     between_tags(src, first)
+}
+
+// Whether exactly one EOL begins here, without fill: seen at once, in 32 bits.
+pub(crate) fn is_single(src: &[u8], at: usize) -> bool
+    requires { ⌜ Loading (now src) at ⌝ }
+    ensures { λ r. ⌜ r ≡ singleAt (now (src .entry)) at ⌝ }
+{
+    let ahead = bit_reader::peek(src, at);
+    if ahead >> 20 != 1 {
+        return false;
+    }
+    (ahead >> 9) % 2048 != 0
 }

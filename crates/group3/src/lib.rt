@@ -77,3 +77,51 @@ pub fn row<'a>(
         }
     }
 }
+
+// A function of its own, so that the state is put into memory only where a row is not swift.
+fn any_row<'a>(
+    white: &'a [u16; 8192],
+    black: &'a [u16; 8192],
+    both: &'a [u16; 2048],
+    src: &[u8],
+    settings: DecodeSettings,
+    lent: &[u32],
+    changes: &mut [u32],
+    state: State,
+) -> Row
+    requires { ⌜ RowFrom (now white) (now black) (now src) (now lent) (now changes) settings state × (now both ≡ pairTable) ⌝ }
+    ensures { λ r. ⌜ RowGives (state .base) (now (changes .entry)) (row3 (settingsOf settings) (taggingOf (settings .encoding)) (bitsOf (now (src .entry))) (length (now (changes .entry)) - state .base) (stateOf (now (lent .entry)) (now (changes .entry)) state)) r (now (changes .exit)) ⌝ }
+{
+    row(white, black, both, src, settings, lent, changes, state)
+}
+
+// The same row, with what is usual first. The page loop alone calls it, so that it is compiled in place there.
+pub fn swift_row<'a>(
+    white: &'a [u16; 8192],
+    black: &'a [u16; 8192],
+    both: &'a [u16; 2048],
+    src: &[u8],
+    settings: DecodeSettings,
+    lent: &[u32],
+    changes: &mut [u32],
+    state: State,
+) -> Row
+    requires { ⌜ RowFrom (now white) (now black) (now src) (now lent) (now changes) settings state × (now both ≡ pairTable) ⌝ }
+    ensures { λ r. ⌜ RowGives (state .base) (now (changes .entry)) (row3 (settingsOf settings) (taggingOf (settings .encoding)) (bitsOf (now (src .entry))) (length (now (changes .entry)) - state .base) (stateOf (now (lent .entry)) (now (changes .entry)) state)) r (now (changes .exit)) ⌝ }
+{
+    if !eob::is_usual(src, settings, state) {
+        return any_row(white, black, both, src, settings, lent, changes, state);
+    }
+    row_at(
+        white,
+        black,
+        both,
+        src,
+        settings,
+        lent,
+        changes,
+        state,
+        state.at + 12,
+        state.eols,
+    )
+}

@@ -34,6 +34,7 @@ use Rattle.rows.specs.declared.Row.the-variants.{Kept, Stop}
 use Rattle.rows.specs.Settings.{settingsOf}
 use Rattle.rows.specs.Between.{stateOf, rowFor, changesIn, RowFrom, RowGives}
 use Rattle.rows.proofs.Ended.{gives-stop}
+use Rattle.group4.specs.Lined.{LineFrom, rowAt}
 
 -- ---- The page's end
 
@@ -54,74 +55,80 @@ module _ (S : Rule.Settings) (bs : List Bool) (st : Rule.State) (e : Eol.Eols) w
   pub over-data : (S .endOfBlock && leb 2 (e .count)) ≡ false → (not (eqb (S .rows) 0) && eqb (st .count) (S .rows)) ≡ false → leb (length bs) (e .at) ≡ over S bs st e
   over-data p q = rw (p, q)
 
--- ---- A row
+-- ---- A row whose line begins at a bit
 
-module _ {w b bytes lent xs : List ℕ} {settings : DecodeSettings} {st : State} (h : RowFrom w b bytes lent xs settings st) (e : Eols) where
+module _ {w b bytes lent xs : List ℕ} {settings : DecodeSettings} {st : State} {start : ℕ} (h : LineFrom w b bytes lent xs settings st start) where
   abbrev S : Rule.Settings
   S = settingsOf settings
 
   abbrev bs : List Bool
   bs = bitsOf bytes
 
-  abbrev room : ℕ
-  room = length xs - st .base
+  pub row-asks : Lines w b bytes lent xs (st .base) (st .reference) (settings .columns) start
+  row-asks = record { starts = record { lookups = h .row .lookups; loading = h .loading; narrow = h .row .narrow }; placed = h .row .placed; rising = h .row .rising }
 
+  -- the line was read
+  module _ (r : Step) (ys : List ℕ)
+      (l : Lined bytes lent xs (st .base) (st .reference) (settings .columns) start (record { strict = settings .strict; exact = settings .exact; plain = settings .plain }) r ys) where
+    abbrev lined : ℕ → Went
+    lined n = readLine (rulesOf S n) (two (stateOf lent xs st .reference)) bs start
+
+    room-is : length (drop (st .base) xs) ≡ length xs - st .base
+    room-is = length-drop (st .base) xs
+
+    -- where the line comes to an outcome, so does the row
+    gives : (o : Went) → lined (length (drop (st .base) xs)) ≡ o → (a : Row) → a ≡ rowFor (afterLine4 S bs (stateOf lent xs st) o) → changesIn (afterLine4 S bs (stateOf lent xs st) o) ≡ changesOf o → RowGives (st .base) xs (rowAt settings bytes lent xs st start) a ys
+    gives o t a k c =
+        subst (λ (u : RowOut). RowGives (st .base) xs u a ys)
+        (sym (ap (afterLine4 S bs (stateOf lent xs st)) (ap lined (sym room-is) ∙ t)))
+        (record {
+          answer = k;
+          store = l .store ∙ ap (λ (o : Went). take (st .base) xs ++ overlaid (changesOf o) (drop (st .base) xs)) t ∙ ap (λ (c : List ℕ). take (st .base) xs ++ overlaid c (drop (st .base) xs)) (sym c);
+        })
+
+    pub line-inside : (m : Line) (at : ℕ) → r ≡ Step.On m at → at ≤ mostBits
+    line-inside m at a =
+        let (t, o, same, there) = step-on (settings .columns) (lined (length (drop (st .base) xs))) m at (sym a ∙ l .answer) in
+        let f = read-whole (rulesOf S (length (drop (st .base) xs))) (h .row .wide) (two (stateOf lent xs st .reference)) bs start t o in
+        omega (arith, there, f .inside, length-bitsOf bytes, h .loading .size)
+
+    pub row-kept : (m : Line) (at next : ℕ) → r ≡ Step.On m at → next ≡ alignedIf (settings .«rows_are_byte_aligned») at → RowGives (st .base) xs (rowAt settings bytes lent xs st start) (Kept (m .changes) (m .cut) next (st .eols)) ys
+    row-kept m at next a n =
+        let (t, o, same, there) = step-on (settings .columns) (lined (length (drop (st .base) xs))) m at (sym a ∙ l .answer) in
+        gives (went t) o (Kept (m .changes) (m .cut) next (st .eols))
+        (λ i. Kept (same i .changes) (mark-is (settings .columns) t m same i) ((n ∙ ap (alignedIf (settings .«rows_are_byte_aligned»)) there) i) (st .eols)) refl
+
+    pub row-stops : (n place : ℕ) (m : Line) → r ≡ Step.Stop n m place → RowGives (st .base) xs (rowAt settings bytes lent xs st start) (Stop n place 0 (m .changes)) ys
+    row-stops n place m a =
+        let (t, o, same) = step-stop (settings .columns) (lined (length (drop (st .base) xs))) n place m (sym a ∙ l .answer) in
+        gives (failed n place t) o (Stop n place 0 (m .changes)) (λ i. Stop n place 0 (same i .changes)) refl
+
+-- ---- A row, behind the EOLs before it
+
+module _ {w b bytes lent xs : List ℕ} {settings : DecodeSettings} {st : State} (h : RowFrom w b bytes lent xs settings st) (e : Eols) (q : eolsOf e ≡ eolsBefore (settingsOf settings) (bitsOf bytes) (stateOf [] [] st)) where
   abbrev outcome : RowOut
-  outcome = row4 S bs room (stateOf lent xs st)
+  outcome = row4 (settingsOf settings) (bitsOf bytes) (length xs - st .base) (stateOf lent xs st)
 
-  module _ (q : eolsOf e ≡ eolsBefore S bs (stateOf [] [] st)) where
-    pub eols-loading : Loading bytes (e .at)
-    eols-loading =
-        let a = eols-ahead (cond (S .endOfBlock) 2 (length bs)) bs (st .at) .inside (omega (arith, h .loading .inside, length-bitsOf bytes)) in
-        record { size = h .loading .size; inside = omega (arith, ap (λ (e : Eol.Eols). e .at) q, length-bitsOf bytes) }
+  eols-loading : Loading bytes (e .at)
+  eols-loading =
+      let a = eols-ahead (cond (settings .«end_of_block») 2 (length (bitsOf bytes))) (bitsOf bytes) (st .at) .inside (omega (arith, h .loading .inside, length-bitsOf bytes)) in
+      record { size = h .loading .size; inside = omega (arith, ap (λ (e : Eol.Eols). e .at) q, length-bitsOf bytes) }
 
-    pub end-loading : e .at ≤ mostBits
-    end-loading = omega (arith, eols-loading .inside, eols-loading .size)
+  pub end-loading : e .at ≤ mostBits
+  end-loading = omega (arith, eols-loading .inside, eols-loading .size)
 
-    outcome-is : (o : Bool) → o ≡ over S bs (stateOf [] [] st) (eolsOf e) → outcome ≡ lineOrEnd S bs room (stateOf lent xs st) (eolsOf e) o
-    unfolding row4
-    outcome-is o p =
-        (λ i. lineOrEnd S bs room (stateOf lent xs st) (sym q i) (over S bs (stateOf lent xs st) (sym q i)))
-        ∙ ap (lineOrEnd S bs room (stateOf lent xs st) (eolsOf e)) (sym p)
+  pub line-from : LineFrom w b bytes lent xs settings st (e .at)
+  line-from = record { row = h; loading = eols-loading }
 
-    pub row-ends : true ≡ over S bs (stateOf [] [] st) (eolsOf e) → (r : Row) → r ≡ rowFor (finished (e .at)) → RowGives (st .base) xs outcome r xs
-    row-ends p r a = subst (λ (o : RowOut). RowGives (st .base) xs o r xs) (sym (outcome-is true p)) (gives-stop (st .base) xs 0 0 _ r a)
+  outcome-is : (o : Bool) → o ≡ over (settingsOf settings) (bitsOf bytes) (stateOf [] [] st) (eolsOf e) → outcome ≡ lineOrEnd (settingsOf settings) (bitsOf bytes) (length xs - st .base) (stateOf lent xs st) (eolsOf e) o
+  unfolding row4
+  outcome-is o p =
+      (λ i. lineOrEnd (settingsOf settings) (bitsOf bytes) (length xs - st .base) (stateOf lent xs st) (sym q i) (over (settingsOf settings) (bitsOf bytes) (stateOf lent xs st) (sym q i)))
+      ∙ ap (lineOrEnd (settingsOf settings) (bitsOf bytes) (length xs - st .base) (stateOf lent xs st) (eolsOf e)) (sym p)
 
-    pub row-asks : Lines w b bytes lent xs (st .base) (st .reference) (settings .columns) (e .at)
-    row-asks = record { starts = record { lookups = h .lookups; loading = eols-loading; narrow = h .narrow }; placed = h .placed; rising = h .rising }
+  pub row-ends : true ≡ over (settingsOf settings) (bitsOf bytes) (stateOf [] [] st) (eolsOf e) → (r : Row) → r ≡ rowFor (finished (e .at)) → RowGives (st .base) xs outcome r xs
+  row-ends p r a = subst (λ (o : RowOut). RowGives (st .base) xs o r xs) (sym (outcome-is true p)) (gives-stop (st .base) xs 0 0 _ r a)
 
-    -- the page goes on, and the line was read
-    module _ (p : false ≡ over S bs (stateOf [] [] st) (eolsOf e)) (r : Step) (ys : List ℕ)
-        (l : Lined bytes lent xs (st .base) (st .reference) (settings .columns) (e .at) (record { strict = settings .strict; exact = settings .exact; plain = settings .plain }) r ys) where
-      abbrev lined : ℕ → Went
-      lined n = readLine (rulesOf S n) (two (stateOf lent xs st .reference)) bs (e .at)
-
-      room-is : length (drop (st .base) xs) ≡ room
-      room-is = length-drop (st .base) xs
-
-      -- where the line comes to an outcome, so does the row
-      gives : (o : Went) → lined (length (drop (st .base) xs)) ≡ o → (a : Row) → a ≡ rowFor (afterLine4 S bs (stateOf lent xs st) o) → changesIn (afterLine4 S bs (stateOf lent xs st) o) ≡ changesOf o → RowGives (st .base) xs outcome a ys
-      gives o t a k c =
-          subst (λ (u : RowOut). RowGives (st .base) xs u a ys)
-          (sym (outcome-is false p ∙ ap (afterLine4 S bs (stateOf lent xs st)) (ap lined (sym room-is) ∙ t)))
-          (record {
-            answer = k;
-            store = l .store ∙ ap (λ (o : Went). take (st .base) xs ++ overlaid (changesOf o) (drop (st .base) xs)) t ∙ ap (λ (c : List ℕ). take (st .base) xs ++ overlaid c (drop (st .base) xs)) (sym c);
-          })
-
-      pub line-inside : (m : Line) (at : ℕ) → r ≡ Step.On m at → at ≤ mostBits
-      line-inside m at a =
-          let (t, o, same, there) = step-on (settings .columns) (lined (length (drop (st .base) xs))) m at (sym a ∙ l .answer) in
-          let f = read-whole (rulesOf S (length (drop (st .base) xs))) (h .wide) (two (stateOf lent xs st .reference)) bs (e .at) t o in
-          omega (arith, there, f .inside, length-bitsOf bytes, h .loading .size)
-
-      pub row-kept : (m : Line) (at next : ℕ) → r ≡ Step.On m at → next ≡ alignedIf (settings .«rows_are_byte_aligned») at → RowGives (st .base) xs outcome (Kept (m .changes) (m .cut) next (st .eols)) ys
-      row-kept m at next a n =
-          let (t, o, same, there) = step-on (settings .columns) (lined (length (drop (st .base) xs))) m at (sym a ∙ l .answer) in
-          gives (went t) o (Kept (m .changes) (m .cut) next (st .eols))
-          (λ i. Kept (same i .changes) (mark-is (settings .columns) t m same i) ((n ∙ ap (alignedIf (settings .«rows_are_byte_aligned»)) there) i) (st .eols)) refl
-
-      pub row-stops : (n place : ℕ) (m : Line) → r ≡ Step.Stop n m place → RowGives (st .base) xs outcome (Stop n place 0 (m .changes)) ys
-      row-stops n place m a =
-          let (t, o, same) = step-stop (settings .columns) (lined (length (drop (st .base) xs))) n place m (sym a ∙ l .answer) in
-          gives (failed n place t) o (Stop n place 0 (m .changes)) (λ i. Stop n place 0 (same i .changes)) refl
+  -- the page goes on with the line behind them
+  pub row-lined : false ≡ over (settingsOf settings) (bitsOf bytes) (stateOf [] [] st) (eolsOf e) → (r : Row) (ys : List ℕ) → RowGives (st .base) xs (rowAt settings bytes lent xs st (e .at)) r ys → RowGives (st .base) xs outcome r ys
+  row-lined p r ys g = subst (λ (o : RowOut). RowGives (st .base) xs o r ys) (sym (outcome-is false p)) g

@@ -4,14 +4,15 @@ use codes::eol::Eols;
 use context::step::Rules;
 use context::step::Step;
 use context::two;
+use context::two::Reference;
 use rows::DecodeSettings;
 use rows::Row;
 use rows::State;
 ghost use mathlib.Core.Path.{_≡_};
-ghost use mathlib.Core.Bool.{not, _&&_};
+ghost use mathlib.Core.Bool.{_&&_};
 ghost use mathlib.Core.List.{[]};
-ghost use Prim.Native.Nat.{_-_};
-ghost use lib.Dec.{eqb, leb};
+ghost use Prim.Native.Nat.{_-_, _*_, _≤_, _<_};
+ghost use lib.Dec.{leb};
 ghost use lib.ListN.{length};
 ghost use Rattle.rules.specs.Bits.{bitsOf};
 ghost use Rattle.rules.specs.Group4.{eolsBefore, over, row4};
@@ -19,6 +20,7 @@ ghost use Rattle.bit_reader.specs.Loaded.{Loading};
 ghost use Rattle.codes.specs.Eols.{eolsOf};
 ghost use Rattle.rows.specs.Settings.{settingsOf};
 ghost use Rattle.rows.specs.Between.{stateOf, RowFrom, RowGives};
+ghost use Rattle.group4.specs.Lined.{LineFrom, rowAt, fullAt, begun, underWhite, whiteAt};
 
 // EOLs are no part of Group 4, but PDF wants them accepted. Data behind an EOFB may begin like an EOL, so no more than its two are read.
 fn eols_before(src: &[u8], settings: DecodeSettings, state: State) -> Eols
@@ -43,7 +45,7 @@ fn is_eofb(settings: DecodeSettings, count: usize) -> bool
 
 // 0 rows in the settings stand for any number.
 fn is_full(settings: DecodeSettings, rows: usize) -> bool
-    ensures { λ r. ⌜ r ≡ not (eqb (settings .rows) 0) && eqb rows (settings .rows) ⌝ }
+    ensures { λ r. ⌜ r ≡ fullAt settings rows ⌝ }
 {
     if settings.rows == 0 {
         return false;
@@ -63,6 +65,45 @@ pub fn is_over(src: &[u8], settings: DecodeSettings, state: State, eols: Eols) -
     bit_reader::at_end(src.len(), eols.at)
 }
 
+// A row whose line begins at a bit.
+fn row_at<'a>(
+    white: &'a [u16; 8192],
+    black: &'a [u16; 8192],
+    src: &[u8],
+    settings: DecodeSettings,
+    lent: &[u32],
+    changes: &mut [u32],
+    state: State,
+    start: usize,
+) -> Row
+    requires { ⌜ LineFrom (now white) (now black) (now src) (now lent) (now changes) settings state start ⌝ }
+    ensures { λ r. ⌜ RowGives (state .base) (now (changes .entry)) (rowAt settings (now (src .entry)) (now (lent .entry)) (now (changes .entry)) state start) r (now (changes .exit)) ⌝ }
+{
+    let place = state.reference;
+    match two::decode_2d_line(
+        white,
+        black,
+        src,
+        lent,
+        changes,
+        state.base,
+        place,
+        settings.columns,
+        start,
+        Rules {
+            strict: settings.strict,
+            exact: settings.exact,
+            plain: settings.plain,
+        },
+    ) {
+        Step::On(line, at) => {
+            let next = rows::align_if(settings.rows_are_byte_aligned, at);
+            Row::Kept(line.changes, line.cut, next, state.eols)
+        }
+        Step::Stop(number, line, place) => Row::Stop(number, place, 0, line.changes),
+    }
+}
+
 pub fn row<'a>(
     white: &'a [u16; 8192],
     black: &'a [u16; 8192],
@@ -79,27 +120,76 @@ pub fn row<'a>(
     if is_over(src, settings, state, eols) {
         return rows::end_at(eols.at);
     }
-    let place = state.reference;
-    match two::decode_2d_line(
-        white,
-        black,
-        src,
-        lent,
-        changes,
-        state.base,
-        place,
-        settings.columns,
-        eols.at,
-        Rules {
-            strict: settings.strict,
-            exact: settings.exact,
-            plain: settings.plain,
-        },
-    ) {
-        Step::On(line, at) => {
-            let next = rows::align_if(settings.rows_are_byte_aligned, at);
-            Row::Kept(line.changes, line.cut, next, state.eols)
-        }
-        Step::Stop(number, line, place) => Row::Stop(number, place, 0, line.changes),
+    row_at(white, black, src, settings, lent, changes, state, eols.at)
+}
+
+// Whether the next bits are a line's, seen at once: the page goes on, and no EOL begins here.
+fn begins(src: &[u8], settings: DecodeSettings, state: State) -> bool
+    requires { ⌜ state .at ≤ 8 * length (now src) ⌝ }
+    ensures { λ r. ⌜ r ≡ begun settings (now (src .entry)) state ⌝ }
+{
+    if is_full(settings, state.rows) {
+        return false;
     }
+    bit_reader::peek13(src, state.at) >> 2 != 0
+}
+
+fn is_under_white(lent: &[u32], state: State) -> bool
+    ensures { λ r. ⌜ r ≡ underWhite (state .reference) (state .base) (now (lent .entry)) ⌝ }
+{
+    let place = state.reference;
+    match place {
+        Reference::Lent => lent.len() == 0,
+        Reference::Kept(start) => start == state.base,
+    }
+}
+
+// A white row under a white one is the one bit of V(0).
+fn is_white(src: &[u8], lent: &[u32], state: State) -> bool
+    requires { ⌜ state .at < 8 * length (now src) ⌝ }
+    ensures { λ r. ⌜ r ≡ whiteAt (now (src .entry)) (now (lent .entry)) state ⌝ }
+{
+    if is_under_white(lent, state) {
+        return bit_reader::bit(src, state.at) == 1;
+    }
+    false
+}
+
+// A function of its own, so that the state is put into memory only where a row is not swift.
+fn any_row<'a>(
+    white: &'a [u16; 8192],
+    black: &'a [u16; 8192],
+    src: &[u8],
+    settings: DecodeSettings,
+    lent: &[u32],
+    changes: &mut [u32],
+    state: State,
+) -> Row
+    requires { ⌜ RowFrom (now white) (now black) (now src) (now lent) (now changes) settings state ⌝ }
+    ensures { λ r. ⌜ RowGives (state .base) (now (changes .entry)) (row4 (settingsOf settings) (bitsOf (now (src .entry))) (length (now (changes .entry)) - state .base) (stateOf (now (lent .entry)) (now (changes .entry)) state)) r (now (changes .exit)) ⌝ }
+{
+    row(white, black, src, settings, lent, changes, state)
+}
+
+// The same row, with what is usual first. The page loop alone calls it, so that it is compiled in place there.
+pub fn swift_row<'a>(
+    white: &'a [u16; 8192],
+    black: &'a [u16; 8192],
+    src: &[u8],
+    settings: DecodeSettings,
+    lent: &[u32],
+    changes: &mut [u32],
+    state: State,
+) -> Row
+    requires { ⌜ RowFrom (now white) (now black) (now src) (now lent) (now changes) settings state ⌝ }
+    ensures { λ r. ⌜ RowGives (state .base) (now (changes .entry)) (row4 (settingsOf settings) (bitsOf (now (src .entry))) (length (now (changes .entry)) - state .base) (stateOf (now (lent .entry)) (now (changes .entry)) state)) r (now (changes .exit)) ⌝ }
+{
+    if !begins(src, settings, state) {
+        return any_row(white, black, src, settings, lent, changes, state);
+    }
+    if is_white(src, lent, state) {
+        let next = rows::align_if(settings.rows_are_byte_aligned, state.at + 1);
+        return Row::Kept(0, 0, next, state.eols);
+    }
+    row_at(white, black, src, settings, lent, changes, state, state.at)
 }

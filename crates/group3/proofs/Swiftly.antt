@@ -1,0 +1,127 @@
+-- A row behind one EOL that was expected. Assumes nothing.
+use mathlib.Core.Path.{_≡_, refl, sym, ap, _∙_}
+use mathlib.Core.Bool.{Bool, true, false, not, _&&_}
+use mathlib.Core.List.{List}
+use Prim.Native.Nat.{ℕ, zero, suc, _+_, _-_, _*_, _/_, _%_, _^_, _≤_, _<_}
+use native.Mathlib.Omega.{arith}
+use lib.Dec.{eqb, leb}
+use lib.ListN.{length, drop}
+use lib.Seq.{drop-drop}
+use borrow.Author.Tests.{not-true, eqb-true, eqb-false, lt-leb}
+use Rattle.rules.specs.Bits.{bitsOf, peek}
+use Rattle.rules.specs.Eols.{allEols}
+use Rattle.rules.specs.Rows as Page
+use Rattle.rules.specs.Group3.{Tagging, eols3, row3}
+use Rattle.rules.proofs.Bits.{both-true, length-bitsOf, peek-high, peek-low}
+use Rattle.bit_reader.specs.Loaded.{Loading}
+use Rattle.bit_reader.proofs.Clear.{zeros-few, some-one}
+use Rattle.codes.specs.declared.eol.Eols.{Eols}
+use Rattle.codes.specs.Eols.{eolsOf}
+use Rattle.codes.proofs.Eols.{Closed, closing, plain-eol, none-yet, eol, no-eol}
+use Rattle.rows.specs.declared.DecodeSettings.{DecodeSettings}
+use Rattle.rows.specs.declared.State.{State}
+use Rattle.rows.specs.declared.Row.{Row}
+use Rattle.rows.specs.Settings.{settingsOf}
+use Rattle.rows.specs.Between.{stateOf, RowFrom, RowGives}
+use Rattle.group3.specs.declared.eob.Before.the-variants.{Line}
+use Rattle.group3.specs.Tags.{taggingOf, isTagged}
+use Rattle.group3.specs.Ahead.{alignedFrom, singleAt, usual, beforeOf, beforeIn}
+use Rattle.group3.specs.Lined.{LineFrom, lineIn}
+use Rattle.group3.specs.Recovery.{afterLineIn}
+use Rattle.group3.proofs.TagBits.{eols-untagged}
+use Rattle.group3.proofs.Judging.{unaligned, lacks-none, judged-on, before-judged}
+use Rattle.group3.proofs.Outcomes.{row-line, row-gives}
+
+-- ---- One EOL, in 32 bits
+
+module _ (bytes : List ℕ) (at w : ℕ) (window : w ≡ peek 32 (drop at (bitsOf bytes))) where
+  pub twelve : w / 2 ^ 20 ≡ peek 12 (drop at (bitsOf bytes))
+  twelve = rw window (peek-high 12 20 (drop at (bitsOf bytes)))
+
+  pub eleven-behind : w / 2 ^ 9 % 2048 ≡ peek 11 (drop (at + 12) (bitsOf bytes))
+  eleven-behind =
+      ap (λ (n : ℕ). n % 2048) (rw window (peek-high 23 9 (drop at (bitsOf bytes))))
+      ∙ peek-low 12 11 (drop at (bitsOf bytes))
+      ∙ ap (peek 11) (drop-drop 12 at (bitsOf bytes))
+
+module _ {bytes : List ℕ} {at : ℕ} (h : Loading bytes at) (single : singleAt bytes at ≡ true) where
+  abbrev bs : List Bool
+  bs = bitsOf bytes
+
+  parts : (eqb (peek 12 (drop at bs)) 1 ≡ true) × (not (eqb (peek 11 (drop (at + 12) bs)) 0) ≡ true)
+  parts = both-true (eqb (peek 12 (drop at bs)) 1) (not (eqb (peek 11 (drop (at + 12) bs)) 0)) single
+
+  some-bit : 0 < peek 11 (drop (at + 12) bs)
+  some-bit = positive (peek 11 (drop (at + 12) bs)) (eqb-false (peek 11 (drop (at + 12) bs)) 0 (not-true (eqb (peek 11 (drop (at + 12) bs)) 0) (parts .1)))
+    where
+      positive : (n : ℕ) → (n ≡ 0 → ⊥) → 0 < n
+      positive zero k = absurd (k refl)
+      positive (suc n) k = omega arith
+
+  pub behind-inside : at + 12 < 8 * length bytes
+  behind-inside = omega (arith, closing bytes (at + 12) (some-one 11 (drop (at + 12) bs) some-bit) .inside)
+
+  one-eol : Closed bytes at 11 (at + 12)
+  one-eol = plain-eol bytes at refl (peek-high 12 20 (drop at bs) ∙ eqb-true (peek 12 (drop at bs)) 1 (parts .0))
+
+  abbrev here : Eols
+  here = record { count = 1; at = at + 12 }
+
+  pub single-eol : eolsOf here ≡ allEols bs at
+  single-eol =
+      no-eol (eol (none-yet (length bs) (h .inside)) (omega (arith, behind-inside, length-bitsOf bytes)) one-eol (omega arith)) (omega (arith, behind-inside, length-bitsOf bytes))
+      (closing bytes (at + 12) (some-one 11 (drop (at + 12) bs) some-bit)) (zeros-few 11 (drop (at + 12) bs) some-bit)
+
+-- ---- The row behind it
+
+module _ {w b bytes lent xs : List ℕ} {settings : DecodeSettings} {st : State} (h : RowFrom w b bytes lent xs settings st) (seen : usual settings bytes st ≡ true) where
+  abbrev S : Page.Settings
+  S = settingsOf settings
+
+  abbrev t : Tagging
+  t = taggingOf (settings .encoding)
+
+  record Parts : Type 0 where
+    later : eqb (st .rows) 0 ≡ false
+    expected : st .eols ≡ true
+    going : eqb (st .rows) (settings .rows) ≡ false
+    bare : isTagged t ≡ false
+    single : singleAt bytes (st .at) ≡ true
+
+  parts-of : (a b c d e : Bool) → (not a && (b && (not c && (not d && e)))) ≡ true → (a ≡ false) × (b ≡ true) × (c ≡ false) × (d ≡ false) × (e ≡ true)
+  parts-of false true false false true q = (refl, refl, refl, refl, refl)
+  parts-of true b c d e q = absurd (let z : _≡_ {A = ℕ} 0 1 = cc in omega arith)
+  parts-of false false c d e q = absurd (let z : _≡_ {A = ℕ} 0 1 = cc in omega arith)
+  parts-of false true true d e q = absurd (let z : _≡_ {A = ℕ} 0 1 = cc in omega arith)
+  parts-of false true false true e q = absurd (let z : _≡_ {A = ℕ} 0 1 = cc in omega arith)
+  parts-of false true false false false q = absurd (let z : _≡_ {A = ℕ} 0 1 = cc in omega arith)
+
+  parts-seen : Parts
+  parts-seen =
+      let (a, b, c, d, e) = parts-of (eqb (st .rows) 0) (st .eols) (eqb (st .rows) (settings .rows)) (isTagged t) (singleAt bytes (st .at)) seen in
+      record { later = a; expected = b; going = c; bare = d; single = e }
+
+  before-is : beforeOf settings bytes (Line (st .at + 12) (st .eols)) ≡ beforeIn settings bytes st (eqb (st .rows) 0)
+  before-is =
+      let p = parts-seen in
+      let e : Eols = record { count = 1; at = st .at + 12 } in
+      let q : eolsOf e ≡ eols3 (bitsOf bytes) t (st .at) = eols-untagged (bitsOf bytes) (st .at) t (eolsOf e) (single-eol (h .loading) (p .single)) (p .bare) in
+      before-judged settings bytes st e (st .at) (unaligned (settings .«rows_are_byte_aligned») (st .eols) (st .at) (p .expected)) q
+      (lacks-none false (st .eols) (eqb (st .rows) (settings .rows)) (leb (length (bitsOf bytes)) (st .at + 12)) refl) _
+      (judged-on settings bytes (eqb (st .rows) (settings .rows)) (st .eols) e (few (settings .«end_of_block»)) (p .going)
+      (lt-leb (length (bitsOf bytes)) (st .at + 12) (omega (arith, behind-inside (h .loading) (p .single), length-bitsOf bytes))))
+      ∙ ap (beforeIn settings bytes st) (sym (p .later))
+    where
+      few : (t : Bool) → (t && leb 6 1) ≡ false
+      few true = refl
+      few false = refl
+
+  pub behind-fits : st .at + 12 < 8 * length bytes
+  behind-fits = behind-inside (h .loading) (parts-seen .single)
+
+  pub line-seen : LineFrom w b bytes lent xs settings st (st .at + 12)
+  line-seen = row-line h (Line (st .at + 12) (st .eols)) before-is (st .at + 12) (st .eols) refl
+
+  pub row-seen : (r : Row) (ys : List ℕ) → RowGives (st .base) xs (afterLineIn settings bytes lent xs st (st .at + 12) (st .eols) (lineIn settings bytes lent xs st (st .at + 12))) r ys
+      → RowGives (st .base) xs (row3 S t (bitsOf bytes) (length xs - st .base) (stateOf lent xs st)) r ys
+  row-seen r ys g = row-gives h (Line (st .at + 12) (st .eols)) before-is (st .at + 12) (st .eols) refl r ys g

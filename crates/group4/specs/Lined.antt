@@ -1,0 +1,45 @@
+-- The row whose line begins at a bit, and the tests that see it at once.
+use mathlib.Core.Bool.{Bool, not, _&&_}
+use mathlib.Core.List.{List}
+use Prim.Native.Nat.{ℕ, _-_}
+use lib.Dec.{eqb}
+use lib.ListN.{length, drop}
+use Rattle.rules.specs.Bits.{bitsOf, peek}
+use Rattle.rules.specs.Lines.{two, readLine}
+use Rattle.rules.specs.Rows.{RowOut, rulesOf}
+use Rattle.rules.specs.Group4.{afterLine4}
+use Rattle.bit_reader.specs.Loaded.{Loading}
+use Rattle.context.specs.declared.two.Reference.{Reference}
+use Rattle.context.specs.declared.two.Reference.the-variants.{Lent, Kept}
+use Rattle.rows.specs.declared.DecodeSettings.{DecodeSettings}
+use Rattle.rows.specs.declared.State.{State}
+use Rattle.rows.specs.Settings.{settingsOf}
+use Rattle.rows.specs.Between.{stateOf, RowFrom}
+
+-- what a line asks: a row that may begin, and a bit inside the data
+pub record LineFrom (w b bytes lent xs : List ℕ) (s : DecodeSettings) (st : State) (at : ℕ) : Type 0 where
+  pub row : RowFrom w b bytes lent xs s st
+  pub loading : Loading bytes at
+
+-- the row of the line that begins at a bit, in the room that the store has
+abbrev pub rowAt : DecodeSettings → List ℕ → List ℕ → List ℕ → State → ℕ → RowOut
+rowAt s bytes lent xs st at =
+    afterLine4 (settingsOf s) (bitsOf bytes) (stateOf lent xs st)
+    (readLine (rulesOf (settingsOf s) (length xs - st .base)) (two (stateOf lent xs st .reference)) (bitsOf bytes) at)
+
+-- so many rows fill the page; 0 in the settings stands for any number
+abbrev pub fullAt : DecodeSettings → ℕ → Bool
+fullAt s rows = not (eqb (s .rows) 0) && eqb rows (s .rows)
+
+-- the page is not full, and no EOL begins at the next bit: one of eleven is a one
+abbrev pub begun : DecodeSettings → List ℕ → State → Bool
+begun s bytes st = not (fullAt s (st .rows)) && not (eqb (peek 11 (drop (st .at) (bitsOf bytes))) 0)
+
+-- the reference has no changes
+abbrev pub underWhite : Reference → ℕ → List ℕ → Bool
+underWhite Lent base lent = eqb (length lent) 0
+underWhite (Kept start) base lent = eqb start base
+
+-- and the next bit is a one, which is the code V(0)
+abbrev pub whiteAt : List ℕ → List ℕ → State → Bool
+whiteAt bytes lent st = underWhite (st .reference) (st .base) lent && eqb (peek 1 (drop (st .at) (bitsOf bytes))) 1
