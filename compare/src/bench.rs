@@ -4,10 +4,16 @@
 
 use std::io;
 
+#[cfg(all(feature = "linked", feature = "writers"))]
+mod canvas;
+#[cfg(all(feature = "linked", feature = "writers"))]
+mod drawn;
 #[cfg(feature = "linked")]
 mod fill;
 #[cfg(feature = "linked")]
 mod readers;
+#[cfg(all(feature = "linked", feature = "writers"))]
+mod set;
 #[cfg(feature = "linked")]
 mod timing;
 #[cfg(feature = "libtiff")]

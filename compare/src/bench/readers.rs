@@ -1,6 +1,8 @@
 //! The page form against the crate's, its plain engine against its lookup, and the row form and the unit form against it.
 
 use super::fill;
+#[cfg(feature = "writers")]
+use super::{drawn::{self, Drawn}, set};
 use super::timing::{RUNS, report};
 use crate::by_row::{self, RowForm, STATE};
 use crate::by_unit::{self, UnitForm};
@@ -10,8 +12,9 @@ use crate::settings::{Encoding, Settings};
 use crate::truth::Outcome;
 use std::time::{Duration, Instant};
 
-/// More than any of the pages needs.
-const CHANGES: usize = 1 << 20;
+/// More than any of the pages needs; and how many of them are cleared for a page that needs no more.
+const CHANGES: usize = 1 << 22;
+const FEW: usize = 1 << 20;
 const ENDS: usize = 1 << 15;
 
 /// A page, and the answer and rows that both must give.
@@ -20,12 +23,18 @@ pub struct Page {
     src: Vec<u8>,
     number: u32,
     rows: usize,
+    entries: usize,
 }
 
 impl Page {
     pub fn of(settings: Settings, src: Vec<u8>) -> Self {
         let outcome = Outcome::of_page(&settings, &src, 0);
-        Page { settings, src, number: outcome.number, rows: outcome.ends.len() }
+        Page { settings, src, number: outcome.number, rows: outcome.ends.len(), entries: outcome.changes.len() }
+    }
+
+    #[cfg(feature = "writers")]
+    pub fn is_whole(&self, rows: usize) -> bool {
+        self.number == 0 && self.rows == rows
     }
 }
 
@@ -37,8 +46,8 @@ struct Store {
 }
 
 impl Store {
-    fn cleared(&mut self) -> &mut Self {
-        self.changes.fill(0);
+    fn cleared(&mut self, page: &Page) -> &mut Self {
+        self.changes[..page.entries.max(FEW)].fill(0);
         self.ends.fill(0);
         self.marks.fill(0);
         self
@@ -62,16 +71,17 @@ impl hayro_ccitt::Decoder for Sink<'_> {
     }
 }
 
+/// A page, and what it is called where it is timed by itself.
+pub type Named = (String, Page);
+
 pub fn run(texts: &[Text]) {
     let mut store = Store { changes: vec![0; CHANGES], ends: vec![0; ENDS], marks: vec![0; ENDS] };
     println!("median of {RUNS} runs, release builds, arrays cleared before each; the crate's sink copies rows into one array");
-    let pages: Vec<Page> = texts.iter().map(|text| Page::of(text.settings, text.src.clone())).collect();
-    let mut sets: Vec<(String, Vec<&Page>)> = Vec::new();
-    for encoding in [Encoding::Group4, Encoding::Group3OneD] {
-        let some: Vec<&Page> = pages.iter().filter(|page| page.settings.encoding == encoding).collect();
-        sets.push((format!("{} pages, {encoding:?}", some.len()), some));
-    }
-    sets.push((format!("all {} pages", pages.len()), pages.iter().collect()));
+    #[cfg(feature = "writers")]
+    run_set(&mut store);
+    println!("pages of rendered text");
+    let pages: Vec<Named> = texts.iter().map(|text| (text.name.clone(), Page::of(text.settings, text.src.clone()))).collect();
+    let sets = by_encoding(&pages);
     for (name, some) in &sets {
         compare(name, some, &mut store);
     }
@@ -91,8 +101,46 @@ pub fn run(texts: &[Text]) {
         longest_calls(n, group4, &mut store);
     }
     println!("fill, likewise, in Group 3 1D pages with EOLs");
-    for (name, page) in fill::pages() {
-        compare(&name, &[&page], &mut store);
+    compare_each(&fill::pages(), &mut store);
+}
+
+/// The set of 02's A8: each page, each encoding, all of them; then what is beside it.
+#[cfg(feature = "writers")]
+fn run_set(store: &mut Store) {
+    let drawn = drawn::pages();
+    let in_both = |drawn: &[Drawn], strict: bool| -> Vec<Named> {
+        [Encoding::Group4, Encoding::Group3OneD].into_iter().flat_map(|encoding| set::written(drawn, encoding, strict)).collect()
+    };
+    println!("the set: {} drawn pages as our own writers write them", drawn.len());
+    let pages = in_both(&drawn, true);
+    compare_each(&pages, store);
+    for (name, some) in by_encoding(&pages) {
+        compare(&name, &some, store);
+    }
+    println!("the same, read leniently; in 2D lines, strictly; a row at a time");
+    for (name, some) in by_encoding(&in_both(&drawn, false)) {
+        compare(&format!("{name}, leniently"), &some, store);
+    }
+    let two_d = set::written(&drawn, Encoding::Group3TwoD, true);
+    compare(&format!("{} pages, Group3TwoD", two_d.len()), &two_d.iter().map(|(_, page)| page).collect::<Vec<_>>(), store);
+    for (name, some) in by_encoding(&pages) {
+        compare_forms(&format!("{name}, a row at a time"), &some, store);
+    }
+    println!("pages that no office faxes");
+    compare_each(&in_both(&drawn::odd_pages(), true), store);
+}
+
+/// The pages of each encoding, and all of them.
+fn by_encoding(pages: &[Named]) -> Vec<(String, Vec<&Page>)> {
+    let all: Vec<&Page> = pages.iter().map(|(_, page)| page).collect();
+    let of = |encoding: Encoding| -> Vec<&Page> { all.iter().copied().filter(|page| page.settings.encoding == encoding).collect() };
+    let each = [Encoding::Group4, Encoding::Group3OneD].map(|encoding| (format!("{} pages, {encoding:?}", of(encoding).len()), of(encoding)));
+    each.into_iter().chain([(format!("all {} pages", all.len()), all.clone())]).collect()
+}
+
+fn compare_each(pages: &[Named], store: &mut Store) {
+    for (name, page) in pages {
+        compare(name, &[page], store);
     }
 }
 
@@ -117,7 +165,7 @@ fn compare_forms(name: &str, pages: &[&Page], store: &mut Store) {
 }
 
 fn time_by_row(page: &Page, store: &mut Store) -> Duration {
-    let (first, second) = store.cleared().changes.split_at_mut(CHANGES / 2);
+    let (first, second) = store.cleared(page).changes.split_at_mut(CHANGES / 2);
     let columns = page.settings.columns as usize;
     let call = by_row::Page {
         settings: &page.settings,
@@ -162,7 +210,7 @@ fn longest_calls(n: u64, pages: &[&Page], store: &mut Store) {
 
 /// How long each call of the unit form takes.
 fn time_calls(page: &Page, n: u64, store: &mut Store) -> Vec<Duration> {
-    let Store { changes, ends, marks } = store.cleared();
+    let Store { changes, ends, marks } = store.cleared(page);
     let call = by_unit::Page { settings: &page.settings, exact: false, plain: false, src: &page.src };
     let mut state = [0; by_unit::STATE];
     let mut times = Vec::new();
@@ -180,7 +228,7 @@ fn time_calls(page: &Page, n: u64, store: &mut Store) -> Vec<Duration> {
 }
 
 fn time_ours(page: &Page, plain: bool, store: &mut Store) -> Duration {
-    let store = store.cleared();
+    let store = store.cleared(page);
     let began = Instant::now();
     let answer = linked::page(&page.settings, false, plain, &page.src, &mut store.changes, &mut store.ends, &mut store.marks);
     let took = began.elapsed();
@@ -189,7 +237,7 @@ fn time_ours(page: &Page, plain: bool, store: &mut Store) -> Duration {
 }
 
 fn time_crate(page: &Page, store: &mut Store) -> Duration {
-    let mut sink = Sink { store: store.cleared(), entries: 0, rows: 0 };
+    let mut sink = Sink { store: store.cleared(page), entries: 0, rows: 0 };
     let mut context = hayro_ccitt::DecoderContext::new(page.settings.for_crate());
     let began = Instant::now();
     let bytes = hayro_ccitt::decode(&page.src, &mut sink, &mut context);
