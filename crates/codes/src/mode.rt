@@ -64,7 +64,7 @@ fn side(bits: u32, zeros: u32, right: i64, left: i64) -> i64
 }
 
 // The mode by the next 32 bits.
-fn by_zeros(src: &[u8], at: usize, bits: u32) -> Mode
+pub fn by_zeros(src: &[u8], at: usize, bits: u32) -> Mode
     requires { ⌜ (Loading (now src) at) × (bits ≡ peek 32 (drop at (bitsOf (now src)))) ⌝ }
     ensures { λ r. ⌜ modeOf at r ≡ readMode (bitsOf (now (src .entry))) at ⌝ }
 {

@@ -1,16 +1,21 @@
 // A 2D line under the row before it, which lies in the same array: swift codes, and between them one code by the full rules.
+use crate::line;
 use crate::line::Line;
+use crate::offset;
+use crate::offset::Move;
 use crate::reference;
 use crate::step::Rules;
 use crate::step::Step;
 use crate::swift;
 use crate::swift::Stand;
 use crate::two;
+use codes::mode;
+use codes::mode::Mode;
 ghost use mathlib.Core.Path.{_≡_};
 ghost use mathlib.Core.List.{[]};
 ghost use Prim.Native.Nat.{_-_, min};
 ghost use Rattle.context.specs.declared.two.Reference.the-variants.{Kept};
-ghost use Rattle.context.specs.Coding.{Lines, Lined};
+ghost use Rattle.context.specs.Coding.{Coding, Coded, Lines, Lined};
 ghost use Rattle.context.specs.Swift.{lineOf};
 ghost use Rattle.context.specs.Kept.{Restands, Restood};
 
@@ -54,6 +59,45 @@ fn stand_at(reference: &[u32], place: usize, line: Line, at: usize) -> Stand
     }
 }
 
+// A code by the full rules, as `two::code_2d`: with this caller too that one would no longer be compiled in place in the loop of a line whose
+// reference is lent, which feels it.
+fn full_code<'a>(
+    white: &'a [u16; 8192],
+    black: &'a [u16; 8192],
+    src: &[u8],
+    changes: &mut [u32],
+    line: Line,
+    at: usize,
+    b1: u32,
+    b2: u32,
+    rules: Rules,
+) -> Step
+    requires { ⌜ Coding (now white) (now black) (now src) (now changes) line at b2 ⌝ }
+    ensures { λ r. ⌜ Coded (now (src .entry)) (now (changes .entry)) line at b1 b2 rules r (now (changes .exit)) ⌝ }
+{
+    let bits = bit_reader::peek(src, at);
+    match mode::by_zeros(src, at, bits) {
+        Mode::Bad(e) => Step::Stop(error::number(e), line, at),
+        Mode::Horizontal(next) => {
+            two::horizontal(white, black, src, changes, line, at, next, rules)
+        }
+        Mode::Pass(next) => {
+            let pushed = line::push_pixels(changes, line, b2 - line.position, rules.strict);
+            two::after_push(pushed, at, next, false)
+        }
+        Mode::Vertical(offset, next) => match offset::moved(b1, offset, line.position) {
+            Move::Over => Step::Stop(3, line, at),
+            Move::By(count) => {
+                if count == 0 {
+                    return two::unmoved(line, at, next, rules.exact);
+                }
+                let pushed = line::push_pixels(changes, line, count, rules.strict);
+                two::after_push(pushed, at, next, true)
+            }
+        },
+    }
+}
+
 // A line whose changes go into `changes` from `base` on; its reference lies from `first` on, up to there.
 pub(crate) fn kept_line<'a>(
     white: &'a [u16; 8192],
@@ -84,7 +128,7 @@ pub(crate) fn kept_line<'a>(
         }
         let b1 = reference::change_or(&changes[first..base], t.place, width);
         let b2 = reference::change_or(&changes[first..base], t.place + 1, width);
-        match two::code_2d(
+        match full_code(
             white,
             black,
             src,

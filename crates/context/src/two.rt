@@ -73,7 +73,7 @@ pub(crate) fn unless_idle(step: Step, line: Line, at: usize, exact: bool) -> Ste
 }
 
 // A function of its own, so that the line is put into memory for `runs` only where a code is horizontal, and not at every code.
-fn horizontal<'a>(
+pub(crate) fn horizontal<'a>(
     white: &'a [u16; 8192],
     black: &'a [u16; 8192],
     src: &[u8],
@@ -90,7 +90,7 @@ fn horizontal<'a>(
     unless_idle(step, line, at, rules.exact)
 }
 
-pub(crate) fn code_2d<'a>(
+fn code_2d<'a>(
     white: &'a [u16; 8192],
     black: &'a [u16; 8192],
     src: &[u8],

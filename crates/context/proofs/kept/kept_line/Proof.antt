@@ -61,23 +61,23 @@ add-change-or c = omega (arith, standing-place _ _ _ _ _ _ _ _ _ (standing-walke
 change-or-requires-2 : tie.Need-change-or-requires-2 Inv-loop μ-loop
 change-or-requires-2 c κs = search needs
 
-mul-code-2d : tie.Need-mul-code-2d Inv-loop μ-loop
-mul-code-2d c = omega (arith, c .before .before .before .before .before .before .before .before .before .before .before .before .before .before .before .before .good .1 .1 .1 .0 .1, c .before .before .before .before .before .before .before .before .before .before .before .before .before .before .before .before .pre .placed)
+mul-full-code : tie.Need-mul-full-code Inv-loop μ-loop
+mul-full-code c = omega (arith, c .before .before .before .before .before .before .before .before .before .before .before .before .before .before .before .before .good .1 .1 .1 .0 .1, c .before .before .before .before .before .before .before .before .before .before .before .before .before .before .before .before .pre .placed)
 
-sub-code-2d : tie.Need-sub-code-2d Inv-loop μ-loop
-sub-code-2d c = standing-room _ _ _ _ _ _ _ _ _ (standing-walked _ _ _ _ _ _ _ _ _ (c .before .before .before .before .before .before .before .before .before .before .before .before .before .loop .inv) (c .before .before .before .before .before .before .before .before .before .before .before .swift-codes .ensures))
+sub-full-code : tie.Need-sub-full-code Inv-loop μ-loop
+sub-full-code c = standing-room _ _ _ _ _ _ _ _ _ (standing-walked _ _ _ _ _ _ _ _ _ (c .before .before .before .before .before .before .before .before .before .before .before .before .before .loop .inv) (c .before .before .before .before .before .before .before .before .before .before .before .swift-codes .ensures))
 
-part-code-2d-start : tie.Need-part-code-2d-start Inv-loop μ-loop
-part-code-2d-start c = standing-room _ _ _ _ _ _ _ _ _ (standing-walked _ _ _ _ _ _ _ _ _ (c .before .before .before .before .before .before .before .before .before .before .before .before .before .loop .inv) (c .before .before .before .before .before .before .before .before .before .before .before .swift-codes .ensures))
+part-full-code-start : tie.Need-part-full-code-start Inv-loop μ-loop
+part-full-code-start c = standing-room _ _ _ _ _ _ _ _ _ (standing-walked _ _ _ _ _ _ _ _ _ (c .before .before .before .before .before .before .before .before .before .before .before .before .before .loop .inv) (c .before .before .before .before .before .before .before .before .before .before .before .swift-codes .ensures))
 
-part-code-2d-end : tie.Need-part-code-2d-end Inv-loop μ-loop
-part-code-2d-end c = search needs
+part-full-code-end : tie.Need-part-full-code-end Inv-loop μ-loop
+part-full-code-end c = search needs
 
 line-at-requires-2 : tie.Need-line-at-requires-2 Inv-loop μ-loop
 line-at-requires-2 c κs = search needs
 
-code-2d-requires : tie.Need-code-2d-requires Inv-loop μ-loop
-code-2d-requires c κs =
+full-code-requires : tie.Need-full-code-requires Inv-loop μ-loop
+full-code-requires c κs =
     let g = standing-walked _ _ _ _ _ _ _ _ _ (c .before .before .before .before .before .before .before .before .before .before .before .before .before .before .before .loop .inv) (c .before .before .before .before .before .before .before .before .before .before .before .before .before .swift-codes .ensures) in
     rw (c .line-at2 .ensures) (standing-codes _ _ _ _ _ _ _ _ _ g (c .before .before .before .before .before .before .before .before .before .if1 .left) (c .before .before .before .before .before .before .change-or .ensures) (c .before .before .change-or2 .ensures))
 
@@ -87,12 +87,12 @@ enum-known-number c = search needs
 same-length-2 : tie.Need-same-length-2 Inv-loop μ-loop
 same-length-2 c =
     let g = standing-walked _ _ _ _ _ _ _ _ _ (c .before .before .before .before .before .before .before .before .before .before .before .before .before .before .before .before .before .before .before .before .before .loop .inv) (c .before .before .before .before .before .before .before .before .before .before .before .before .before .before .before .before .before .before .before .swift-codes .ensures) in
-    standing-back _ _ _ _ _ _ _ _ _ g (c .before .before .before .before .before .code-2d .last .1 .1 .1 .0) (c .before .before .before .before .before .code-2d .kept .1 .1 .1 .0)
+    standing-back _ _ _ _ _ _ _ _ _ g (c .before .before .before .before .before .full-code .last .1 .1 .1 .0) (c .before .before .before .before .before .full-code .kept .1 .1 .1 .0)
 
 returns-2 : tie.Need-returns-2 Inv-loop μ-loop
 returns-2 c =
     let g = standing-walked _ _ _ _ _ _ _ _ _ (c .before .before .before .before .before .before .before .before .before .before .before .before .before .before .before .before .before .before .before .before .before .loop .inv) (c .before .before .before .before .before .before .before .before .before .before .before .before .before .before .before .before .before .before .before .swift-codes .ensures) in
-    standing-stop _ _ _ _ _ _ _ _ _ g (c .before .before .before .before .before .before .before .before .before .before .before .before .before .before .before .if1 .left) (c .before .before .before .before .before .before .before .before .before .before .before .before .change-or .ensures) (c .before .before .before .before .before .before .before .before .change-or2 .ensures) _ _ (rw (c .before .before .before .before .before .before .line-at2 .ensures) at (c .before .before .before .before .before .code-2d .ensures)) (c .before .number .given .1)
+    standing-stop _ _ _ _ _ _ _ _ _ g (c .before .before .before .before .before .before .before .before .before .before .before .before .before .before .before .if1 .left) (c .before .before .before .before .before .before .before .before .before .before .before .before .change-or .ensures) (c .before .before .before .before .before .before .before .before .change-or2 .ensures) _ _ (rw (c .before .before .before .before .before .before .line-at2 .ensures) at (c .before .before .before .before .before .full-code .ensures)) (c .before .number .given .1)
 
 enum-known-next : tie.Need-enum-known-next Inv-loop μ-loop
 enum-known-next c = search needs
@@ -109,22 +109,22 @@ part-stand-at-start c = omega (arith, c .before .before .before .before .before 
 part-stand-at-end : tie.Need-part-stand-at-end Inv-loop μ-loop
 part-stand-at-end c =
     let g = standing-walked _ _ _ _ _ _ _ _ _ (c .before .before .before .before .before .before .before .before .before .before .before .before .before .before .before .before .before .before .before .before .before .before .loop .inv) (c .before .before .before .before .before .before .before .before .before .before .before .before .before .before .before .before .before .before .before .before .swift-codes .ensures) in
-    omega (arith, c .before .before .before .before .before .before .before .before .before .before .before .before .before .before .before .before .before .before .before .before .before .before .before .before .before .pre .placed, standing-back _ _ _ _ _ _ _ _ _ g (c .before .before .before .before .before .before .code-2d .last .1 .1 .1 .0) (c .before .before .before .before .before .before .code-2d .kept .1 .1 .1 .0))
+    omega (arith, c .before .before .before .before .before .before .before .before .before .before .before .before .before .before .before .before .before .before .before .before .before .before .before .before .before .pre .placed, standing-back _ _ _ _ _ _ _ _ _ g (c .before .before .before .before .before .before .full-code .last .1 .1 .1 .0) (c .before .before .before .before .before .before .full-code .kept .1 .1 .1 .0))
 
 stand-at-requires : tie.Need-stand-at-requires Inv-loop μ-loop
 stand-at-requires c κs =
     let g = standing-walked _ _ _ _ _ _ _ _ _ (c .before .before .before .before .before .before .before .before .before .before .before .before .before .before .before .before .before .before .before .before .before .before .before .loop .inv) (c .before .before .before .before .before .before .before .before .before .before .before .before .before .before .before .before .before .before .before .before .before .swift-codes .ensures) in
-    standing-searches _ _ _ _ _ _ _ _ _ g (c .before .before .before .before .before .before .before .before .before .before .before .before .before .before .before .before .before .if1 .left) (c .before .before .before .before .before .before .before .before .before .before .before .before .before .before .change-or .ensures) (c .before .before .before .before .before .before .before .before .before .before .change-or2 .ensures) _ _ (rw (c .before .before .before .before .before .before .before .before .line-at2 .ensures) at (c .before .before .before .before .before .before .before .code-2d .ensures)) (c .before .before .before .next .given .1)
+    standing-searches _ _ _ _ _ _ _ _ _ g (c .before .before .before .before .before .before .before .before .before .before .before .before .before .before .before .before .before .if1 .left) (c .before .before .before .before .before .before .before .before .before .before .before .before .before .before .change-or .ensures) (c .before .before .before .before .before .before .before .before .before .before .change-or2 .ensures) _ _ (rw (c .before .before .before .before .before .before .before .before .line-at2 .ensures) at (c .before .before .before .before .before .before .before .full-code .ensures)) (c .before .before .before .next .given .1)
 
 loop-less : tie.Need-loop-less Inv-loop μ-loop
 loop-less c =
     let g = standing-walked _ _ _ _ _ _ _ _ _ (c .before .before .before .before .before .before .before .before .before .before .before .before .before .before .before .before .before .before .before .before .before .before .before .before .loop .inv) (c .before .before .before .before .before .before .before .before .before .before .before .before .before .before .before .before .before .before .before .before .before .before .swift-codes .ensures) in
-    omega (arith, standing-less _ _ _ _ _ _ _ _ _ g (c .before .before .before .before .before .before .before .before .before .before .before .before .before .before .before .before .before .before .if1 .left) (c .before .before .before .before .before .before .before .before .before .before .before .before .before .before .before .change-or .ensures) (c .before .before .before .before .before .before .before .before .before .before .before .change-or2 .ensures) _ _ (rw (c .before .before .before .before .before .before .before .before .before .line-at2 .ensures) at (c .before .before .before .before .before .before .before .before .code-2d .ensures)) (c .before .before .before .before .next .given .1), c .before .before .before .before .before .before .before .before .before .before .before .before .before .before .before .before .before .before .before .before .before .before .swift-codes .ensures .forth, c .stand-at .ensures .at-is)
+    omega (arith, standing-less _ _ _ _ _ _ _ _ _ g (c .before .before .before .before .before .before .before .before .before .before .before .before .before .before .before .before .before .before .if1 .left) (c .before .before .before .before .before .before .before .before .before .before .before .before .before .before .before .change-or .ensures) (c .before .before .before .before .before .before .before .before .before .before .before .change-or2 .ensures) _ _ (rw (c .before .before .before .before .before .before .before .before .before .line-at2 .ensures) at (c .before .before .before .before .before .before .before .before .full-code .ensures)) (c .before .before .before .before .next .given .1), c .before .before .before .before .before .before .before .before .before .before .before .before .before .before .before .before .before .before .before .before .before .before .swift-codes .ensures .forth, c .stand-at .ensures .at-is)
 
 loop-again : tie.Need-loop-again Inv-loop μ-loop
 loop-again c =
     let g = standing-walked _ _ _ _ _ _ _ _ _ (c .before .before .before .before .before .before .before .before .before .before .before .before .before .before .before .before .before .before .before .before .before .before .before .before .loop .inv) (c .before .before .before .before .before .before .before .before .before .before .before .before .before .before .before .before .before .before .before .before .before .before .swift-codes .ensures) in
-    standing-on _ _ _ _ _ _ _ _ _ g (c .before .before .before .before .before .before .before .before .before .before .before .before .before .before .before .before .before .before .if1 .left) (c .before .before .before .before .before .before .before .before .before .before .before .before .before .before .before .change-or .ensures) (c .before .before .before .before .before .before .before .before .before .before .before .change-or2 .ensures) _ _ (rw (c .before .before .before .before .before .before .before .before .before .line-at2 .ensures) at (c .before .before .before .before .before .before .before .before .code-2d .ensures)) (c .before .before .before .before .next .given .1) _ (c .stand-at .ensures)
+    standing-on _ _ _ _ _ _ _ _ _ g (c .before .before .before .before .before .before .before .before .before .before .before .before .before .before .before .before .before .before .if1 .left) (c .before .before .before .before .before .before .before .before .before .before .before .before .before .before .before .change-or .ensures) (c .before .before .before .before .before .before .before .before .before .before .before .change-or2 .ensures) _ _ (rw (c .before .before .before .before .before .before .before .before .before .line-at2 .ensures) at (c .before .before .before .before .before .before .before .before .full-code .ensures)) (c .before .before .before .before .next .given .1) _ (c .stand-at .ensures)
 
 pub kept-line-spec : {M : Type 1} → statement M
 kept-line-spec =
@@ -148,12 +148,12 @@ kept-line-spec =
     part-change-or-end-2
     add-change-or
     change-or-requires-2
-    mul-code-2d
-    sub-code-2d
-    part-code-2d-start
-    part-code-2d-end
+    mul-full-code
+    sub-full-code
+    part-full-code-start
+    part-full-code-end
     line-at-requires-2
-    code-2d-requires
+    full-code-requires
     enum-known-number
     same-length-2
     returns-2
