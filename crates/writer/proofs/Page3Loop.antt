@@ -19,43 +19,9 @@ use Rattle.writer.specs.Coding.{Rowed}
 use Rattle.writer.specs.Paging.{Sheet, Pages}
 use Rattle.writer.specs.Paging3.{Laid, kindFrom, lineFrom, row3Of, page3Of}
 use Rattle.writer.proofs.Owing.{owes-last}
-use Rattle.writer.proofs.RunCodes.{run-few}
-use Rattle.writer.proofs.Turns.{line-few}
 use Rattle.writer.proofs.GoodRows.{rowTo}
+use Rattle.writer.proofs.Bounds.{kind-few, ahead-few, end-few}
 use Rattle.writer.proofs.BetweenRows.{Between, before-rows, tested, row-fits, too-long, row-behind, page-is}
-
--- ---- How many bits
-
--- few to each run, and one to each pixel
-runs-few : (width : ℕ) (c : Colour) (p : ℕ) (rest : List ℕ) → p ≤ width → Rising width p rest → length (bits1D mostMakeup width c p rest) ≤ 13 * length rest + 13 + (width - p)
-unfolding bits1D
-runs-few width c p [] k none = omega (arith, run-few c (width - p))
-runs-few width c p (x ∷ xs) k (some a b r) =
-    omega (
-      arith,
-      length-append (runBits mostMakeup c (x - p)) (bits1D mostMakeup width (opposite c) x xs),
-      run-few c (x - p),
-      runs-few width (opposite c) x xs (omega arith) (rises-lower (omega arith) r),
-    )
-
--- a line of either kind
-kind-few : (width : ℕ) (single : Bool) (above row : List ℕ) → Rising width 0 above → Rising width 0 row → length (lineFrom width single above row) ≤ 34 * width + 33 * length row + 33
-unfolding lineBits
-kind-few width true above row rises rises′ = omega (arith, runs-few width white 0 row (omega arith) rises′)
-kind-few width false above row rises rises′ = line-few width above row rises rises′
-
--- what stands before it, and the end
-ahead-few : (layout : Layout) → Laid layout → (kind : Kind) → length (ahead layout kind) ≤ 76
-unfolding eolBits
-ahead-few bare h kind = omega arith
-ahead-few (filled fill) h kind = omega (arith, length-append (replicate fill false) eolBits, length-replicate fill false)
-ahead-few (mixed k) h kind = omega arith
-
-end-few : (layout : Layout) → Laid layout → length (ending layout) ≤ 136
-unfolding times eolBits
-end-few bare h = omega arith
-end-few (filled fill) h = omega (arith, length-append (replicate fill false) (times 6 eolBits), length-replicate fill false)
-end-few (mixed k) h = omega arith
 
 -- a 1D line where no 2D line may come
 kind-is : (left : ℕ) (single : Bool) (above : List ℕ) → single ≡ eqb left 0 → kindNext left above ≡ kindFrom single above
@@ -125,6 +91,7 @@ module _ (layout : Layout) where
               length-append (ahead layout (kindFrom single above)) (lineFrom width single above row),
               ahead-few layout laid (kindFrom single above),
               kind-few width single above row (g .rises) (t .rises),
+              rises-length (omega arith) (g .rises),
               rises-length (omega arith) (t .rises),
               s .narrow,
             ));

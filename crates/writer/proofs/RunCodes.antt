@@ -94,16 +94,16 @@ largest-held n h = by (leb mostMakeup (n / 64)) refl
 
 -- ---- How many bits
 
--- a code has few, and stands for more pixels unless it is the last
-codes-few : {colour : Colour} {n : ℕ} {cs : List Rule.Code} → Made colour n cs → length (codesBits cs) ≤ 13 + n
+-- a code has at most 13, and stands for 64 pixels at least unless it is the last
+codes-few : {colour : Colour} {n : ℕ} {cs : List Rule.Code} → Made colour n cs → length (codesBits cs) ≤ 13 + 13 * (n / 64)
 unfolding codesBits
 codes-few {colour} (last {c = c} f h) =
     omega (arith, length-append (codeBits c) [], length-codeBits c, shape colour c (f .member) .few-bits)
 codes-few {colour} (next {c = c} {cs = cs} f h m) =
     omega (arith, length-append (codeBits c) (codesBits cs), length-codeBits c, shape colour c (f .member) .few-bits, codes-few m)
 
--- a run has few more bits than pixels
-pub run-few : (colour : Colour) (n : ℕ) → length (runBits mostMakeup colour n) ≤ 13 + n
+-- so has a run
+pub run-few : (colour : Colour) (n : ℕ) → length (runBits mostMakeup colour n) ≤ 13 + 13 * (n / 64)
 unfolding runBits
 run-few colour n = codes-few (made-run mostMakeup (omega arith) (omega arith) colour n)
 

@@ -1,20 +1,22 @@
 -- One code of a 2D line, by its three cases: what it takes the place of, how far it goes, and how many bits it has. Assumes nothing.
 use mathlib.Core.Path.{_≡_, refl}
 use mathlib.Core.Bool.{Bool, true, false}
-use mathlib.Core.List.{List, [], _++_, append-assoc}
-use Prim.Native.Nat.{ℕ, zero, suc, _+_, _-_, _*_, _≤_, _<_}
+use mathlib.Core.List.{List, [], _∷_, _++_, append-assoc}
+use Prim.Native.Nat.{ℕ, zero, suc, _+_, _-_, _*_, _/_, _≤_, _<_}
 use native.Mathlib.Omega.{arith}
 use lib.Dec.{eqb, leb, ltb}
 use lib.ListN.{length, length-append}
 use borrow.Author.Tests.{lt-ltb, le-ltb, ne-eqb, eq-eqb, ltb-true, ltb-false, leb-true, leb-false}
 use Rattle.rules.specs.Codes.{Colour, white, opposite}
 use Rattle.rules.specs.Modes.{Mode, pass, horizontal, VR, VL, modeBits}
-use Rattle.rules.specs.Lines.{headOr, tail, b1, b2}
+use Rattle.rules.specs.Lines.{rightOfA0, headOr, tail, b1, b2}
 use Rattle.rules.specs.Write.{mostMakeup, runBits, verticalTo, near, bits2D, lineBits}
 use Rattle.rules.proofs.Ascending.{Rising, rises-lower, head-low, head-fits, tail-rises}
 use Rattle.rules.proofs.Ahead.{above, b2-behind, leftOver, no-longer, shorter}
+use Rattle.context.proofs.Search.{right-grows}
 use Rattle.writer.specs.Coding.{across, lineOf}
 use Rattle.writer.proofs.RunCodes.{run-few}
+use Rattle.writer.proofs.OnReference.{right, right-few, right-less, pass-behind}
 
 -- ---- A mode's bits
 
@@ -34,9 +36,23 @@ mode-few (VL (suc (suc zero))) = omega arith
 mode-few (VL (suc (suc (suc zero)))) = omega arith
 mode-few (VL (suc (suc (suc (suc k))))) = omega arith
 
+pass-bits : length (modeBits pass) ≡ 4
+unfolding modeBits
+pass-bits = refl
+
 -- ---- A code
 
+-- a change before the width is one of those that are left
+one-less : {width : ℕ} (rest : List ℕ) → headOr width rest < width → length rest ≡ suc (length (tail rest))
+one-less [] h = absurd (omega arith)
+one-less (x ∷ xs) h = refl
+
 module _ (width : ℕ) (reference : List ℕ) where
+  -- The bits of a line at most, from a position on: two to each change of the reference that lies ahead, since a pass of 4 has two of them behind it;
+  -- 15 to each change that is left, since a horizontal code of 3 and two codes of 13 has two; 13 to each 64 pixels, for make-up codes; and the last code's.
+  abbrev pub most : ℕ → List ℕ → ℕ
+  most p rest = 2 * right (rightOfA0 p) reference + 15 * length rest + 13 * ((width - p) / 64) + 30
+
   -- at position p in colour c, with the changes `rest` left, the bits xs come next, and then those at p′ in c′ with rest′
   pub record Turn (c : Colour) (p : ℕ) (rest : List ℕ) (xs : List Bool) (c′ : Colour) (p′ : ℕ) (rest′ : List ℕ) : Type 0 where
     pub bits : (n : ℕ) → bits2D mostMakeup width reference (suc n) c p rest ≡ xs ++ bits2D mostMakeup width reference n c′ p′ rest′
@@ -44,7 +60,8 @@ module _ (width : ℕ) (reference : List ℕ) where
     pub fits : p′ ≤ width
     pub rises : Rising width p′ rest′
     pub less : leftOver width p′ rest′ < leftOver width p rest
-    pub few : length xs ≤ 33 + (p′ - p)
+    pub few : p′ < width → length xs + most p′ rest′ ≤ most p rest
+    pub last : length xs ≤ most p rest
 
   -- at the width no bits come
   pub bits-end : (n : ℕ) (c : Colour) (p : ℕ) (rest : List ℕ) → p ≡ width → bits2D mostMakeup width reference n c p rest ≡ []
@@ -75,6 +92,21 @@ module _ (width : ℕ) (reference : List ℕ) where
     after : Rising width A1 (tail rest)
     after = rises-lower (omega arith) (tail-rises r)
 
+    -- of the changes ahead there are no more behind it
+    fewer-right : (q : ℕ) → p ≤ q → right (rightOfA0 q) reference ≤ right (rightOfA0 p) reference
+    fewer-right q k = right-less (rightOfA0 p) (rightOfA0 q) (right-grows p q k) reference
+
+    across-few : length (across c (A1 - p) (A2 - A1)) ≤ 29 + 13 * ((A1 - p) / 64) + 13 * ((A2 - A1) / 64)
+    unfolding across modeBits
+    across-few =
+        omega (
+          arith,
+          length-append (modeBits horizontal) (runBits mostMakeup c (A1 - p) ++ runBits mostMakeup (opposite c) (A2 - A1)),
+          length-append (runBits mostMakeup c (A1 - p)) (runBits mostMakeup (opposite c) (A2 - A1)),
+          run-few c (A1 - p),
+          run-few (opposite c) (A2 - A1),
+        )
+
     -- pass, where b2 lies before a1
     pub pass-turn : Rising width 0 reference → B2 < A1 → Turn c p rest (modeBits pass) c B2 rest
     unfolding bits2D
@@ -87,7 +119,8 @@ module _ (width : ℕ) (reference : List ℕ) where
           fits = omega arith;
           rises = rises-lower (omega arith) (above k r);
           less = omega arith;
-          few = omega (arith, mode-few pass);
+          few = λ l. omega (arith, pass-bits, pass-behind rises p c l);
+          last = omega (arith, mode-few pass);
         }
 
     module _ (k : A1 ≤ B2) where
@@ -100,7 +133,8 @@ module _ (width : ℕ) (reference : List ℕ) where
         fits = head-fits r;
         rises = after;
         less = shorter h r;
-        few = omega (arith, mode-few (verticalTo B1 A1));
+        few = λ l. omega (arith, mode-few (verticalTo B1 A1), fewer-right A1 low, one-less {width = width} rest l, low);
+        last = omega (arith, mode-few (verticalTo B1 A1));
       }
 
       -- horizontal, where it is not
@@ -115,15 +149,8 @@ module _ (width : ℕ) (reference : List ℕ) where
             fits = head-fits after;
             rises = rises-lower (omega arith) (tail-rises after);
             less = omega (arith, shorter h r, no-longer (head-fits r) after);
-            few =
-                omega (
-                  arith,
-                  length-append (modeBits horizontal) (runBits mostMakeup c (A1 - p) ++ runBits mostMakeup (opposite c) (A2 - A1)),
-                  length-append (runBits mostMakeup c (A1 - p)) (runBits mostMakeup (opposite c) (A2 - A1)),
-                  mode-few horizontal,
-                  run-few c (A1 - p),
-                  run-few (opposite c) (A2 - A1),
-                );
+            few = λ n. omega (arith, across-few, fewer-right A2 (omega arith), one-less {width = width} rest (omega arith), one-less {width = width} (tail rest) n, l, m, head-fits after);
+            last = omega (arith, across-few, l, m, head-fits after);
           }
 
   -- ---- How many bits
@@ -142,28 +169,31 @@ module _ (width : ℕ) (reference : List ℕ) where
       tests false e true f = by (vertical-turn c p rest h r (ltb-false (b2 width reference p c) (headOr width rest) e) f)
       tests false e false f = by (horizontal-turn c p rest h r (ltb-false (b2 width reference p c) (headOr width rest) e) f)
 
-  -- few to each code, and one to each position
   abbrev Few : ℕ → Type 0
   Few n =
-      (c : Colour) (p : ℕ) (rest : List ℕ) → p ≤ width → Rising width p rest → length (bits2D mostMakeup width reference n c p rest) ≤ 33 * n + (width - p)
+      (c : Colour) (p : ℕ) (rest : List ℕ) → p ≤ width → Rising width p rest → length (bits2D mostMakeup width reference n c p rest) ≤ most p rest
 
   bits-few : Rising width 0 reference → (n : ℕ) → Few n
   unfolding bits2D
   bits-few rises zero c p rest k r = omega arith
   bits-few rises (suc n) c p rest k r = tests (bits-few rises n) (leb width p) (leb-true width p) (leb-false width p)
     where
-      later : Few n → Next c p rest → length (bits2D mostMakeup width reference (suc n) c p rest) ≤ 33 * suc n + (width - p)
+      later : Few n → Next c p rest → length (bits2D mostMakeup width reference (suc n) c p rest) ≤ most p rest
       later ih (by {xs} {c′} {p′} {rest′} t) =
           rw (t .bits n)
-          (omega (arith, length-append xs (bits2D mostMakeup width reference n c′ p′ rest′), ih c′ p′ rest′ (t .fits) (t .rises), t .few, t .on, t .fits))
+          (omega (arith, length-append xs (bits2D mostMakeup width reference n c′ p′ rest′), here (leb width p′) (leb-true width p′) (leb-false width p′)))
+        where
+          here : (b : Bool) → (b ≡ true → width ≤ p′) → (b ≡ false → p′ < width) → length xs + length (bits2D mostMakeup width reference n c′ p′ rest′) ≤ most p rest
+          here true f g = rw (bits-end n c′ p′ rest′ (omega (arith, f refl, t .fits))) (omega (arith, t .last))
+          here false f g = omega (arith, ih c′ p′ rest′ (t .fits) (t .rises), t .few (g refl))
 
-      tests : Few n → (b : Bool) → (b ≡ true → width ≤ p) → (b ≡ false → p < width)
-          → length (bits2D mostMakeup width reference (suc n) c p rest) ≤ 33 * suc n + (width - p)
+      tests : Few n → (b : Bool) → (b ≡ true → width ≤ p) → (b ≡ false → p < width) → length (bits2D mostMakeup width reference (suc n) c p rest) ≤ most p rest
       tests ih true f g = rw (bits-end (suc n) c p rest (omega (arith, f refl))) (omega arith)
       tests ih false f g = later ih (next-turn rises c p rest (g refl) r)
 
--- a line's bits can be counted
+-- a line's bits at most
 pub line-few : (width : ℕ) (reference row : List ℕ) → Rising width 0 reference → Rising width 0 row
-    → length (lineOf width reference row) ≤ 34 * width + 33 * length row + 33
+    → length (lineOf width reference row) ≤ 2 * length reference + 15 * length row + 13 * (width / 64) + 30
 unfolding lineBits
-line-few width reference row rises rises′ = omega (arith, bits-few width reference rises (suc (width + length row)) white 0 row (omega arith) rises′)
+line-few width reference row rises rises′ =
+    omega (arith, bits-few width reference rises (suc (width + length row)) white 0 row (omega arith) rises′, right-few (rightOfA0 0) reference)

@@ -4,3 +4,4 @@ pub mod Coding
 pub mod Paging
 pub mod Paging3
 pub mod Outcome
+pub mod Bounds
