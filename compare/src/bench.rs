@@ -1,5 +1,5 @@
 //! Times on full pages and on long fill: of the page form against the crate's, of its plain engine against its lookup, of the row form and the unit form against the page form, and of
-//! the page writers against libtiff's.
+//! the page writers against a plain one and against libtiff's.
 //! Only a library that is linked in can be timed: under an emulator a time says nothing.
 
 use std::io;
@@ -10,13 +10,15 @@ mod canvas;
 mod drawn;
 #[cfg(feature = "linked")]
 mod fill;
+#[cfg(all(feature = "linked", feature = "writers"))]
+mod plain_writer;
 #[cfg(feature = "linked")]
 mod readers;
 #[cfg(all(feature = "linked", feature = "writers"))]
 mod set;
 #[cfg(feature = "linked")]
 mod timing;
-#[cfg(feature = "libtiff")]
+#[cfg(all(feature = "linked", feature = "writers"))]
 mod writers;
 
 #[cfg(not(feature = "linked"))]
@@ -31,9 +33,7 @@ pub fn run() -> io::Result<bool> {
     // a page by two decoders is one page
     pages.dedup_by(|a, b| a.src == b.src);
     readers::run(&pages);
-    #[cfg(feature = "libtiff")]
+    #[cfg(feature = "writers")]
     writers::run(&pages);
-    #[cfg(not(feature = "libtiff"))]
-    println!("writing: not timed; that needs our writers, a C compiler and libtiff (Debian: libtiff-dev)");
     Ok(true)
 }

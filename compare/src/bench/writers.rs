@@ -1,16 +1,17 @@
-//! The page writers against libtiff's, on the rows of the Group 4 pages.
+//! The page writers, on the rows of the Group 4 pages: against a plain writer, and against libtiff's where that is at hand.
 
+use super::plain_writer::{self, Codes};
 use super::timing::report;
 use crate::call::{Answer, Layout};
 use crate::checks::other_decoder::Text;
-use crate::linked::{self, libtiff};
+use crate::linked;
+#[cfg(feature = "libtiff")]
+use crate::linked::libtiff;
+#[cfg(feature = "libtiff")]
 use crate::pixels::packed;
 use crate::settings::{Encoding, Settings};
 use crate::truth::Outcome;
 use std::time::{Duration, Instant};
-
-/// More than any of the pages needs.
-const ROOM: usize = 1 << 18;
 
 /// What is written.
 #[derive(Clone, Copy)]
@@ -28,6 +29,7 @@ impl Kind {
         }
     }
 
+    #[cfg(feature = "libtiff")]
     fn scheme(self) -> libtiff::Scheme {
         match self {
             Kind::Group4 => libtiff::Scheme::Group4,
@@ -52,14 +54,25 @@ struct Page {
     columns: u32,
     rows: Outcome,
     ends: Vec<u64>,
+    #[cfg(feature = "libtiff")]
     packed: Vec<u8>,
 }
 
 impl Page {
     fn of(text: &Text) -> Self {
         let rows = Outcome::of_page(&text.settings, &text.src, 0);
-        let ends = rows.ends.iter().copied().map(u64::from).collect();
-        Page { columns: text.settings.columns, packed: packed(text.settings.columns, rows.rows()), ends, rows }
+        Page {
+            columns: text.settings.columns,
+            #[cfg(feature = "libtiff")]
+            packed: packed(text.settings.columns, rows.rows()),
+            ends: rows.ends.iter().copied().map(u64::from).collect(),
+            rows,
+        }
+    }
+
+    /// The bytes of its bitmap, which are more than any writer needs for a page of text.
+    fn bitmap(&self) -> usize {
+        self.columns.div_ceil(8) as usize * self.ends.len()
     }
 
     /// Whether a strip holds the page's rows: otherwise the two writers did not do the same work.
@@ -71,7 +84,43 @@ impl Page {
 
 pub fn run(texts: &[Text]) {
     let pages: Vec<Page> = texts.iter().filter(|text| text.settings.encoding == Encoding::Group4).map(Page::of).collect();
-    let mut out = vec![0; ROOM];
+    let mut out = vec![0; pages.iter().map(Page::bitmap).max().unwrap_or(0)];
+    against_plain(&pages, &mut out);
+    #[cfg(feature = "libtiff")]
+    against_libtiff(&pages, &mut out);
+    #[cfg(not(feature = "libtiff"))]
+    println!("writing against libtiff: not timed; that needs a C compiler and libtiff (Debian: libtiff-dev)");
+}
+
+/// In the room of the bitmap, where a page surely fits, and in no more room than it needs, where it is counted first.
+fn against_plain(pages: &[Page], out: &mut Vec<u8>) {
+    let codes = Codes::new();
+    let sizes: Vec<usize> = pages.iter().map(|page| plainly(&codes, page).len()).collect();
+    println!("writing, likewise, against a plain writer, which tests nothing");
+    let theirs = |_: &mut Vec<u8>| pages.iter().map(|page| time_plain(&codes, page)).sum();
+    let roomy = |out: &mut Vec<u8>| pages.iter().map(|page| time_ours(page, Kind::Group4, &mut out[..page.bitmap()])).sum();
+    report(&format!("{} pages, written as Group 4", pages.len()), out, roomy, "a plain writer", theirs);
+    let exact = |out: &mut Vec<u8>| pages.iter().zip(&sizes).map(|(page, size)| time_ours(page, Kind::Group4, &mut out[..*size])).sum();
+    report(&format!("{} pages, written as Group 4 into no more room than they need", pages.len()), out, exact, "a plain writer", theirs);
+}
+
+fn plainly(codes: &Codes, page: &Page) -> Vec<u8> {
+    let mut out = Vec::with_capacity(page.bitmap());
+    plain_writer::write_page(codes, page.columns, &page.rows.changes, &page.ends, &mut out);
+    out
+}
+
+fn time_plain(codes: &Codes, page: &Page) -> Duration {
+    let mut out = Vec::with_capacity(page.bitmap());
+    let began = Instant::now();
+    plain_writer::write_page(codes, page.columns, &page.rows.changes, &page.ends, &mut out);
+    let took = began.elapsed();
+    assert!(page.is_read_from(Kind::Group4, &out, true), "the plain writer's page is read back");
+    took
+}
+
+#[cfg(feature = "libtiff")]
+fn against_libtiff(pages: &[Page], out: &mut Vec<u8>) {
     println!(
         "writing, likewise: ours is given changes and row ends, libtiff packed rows, made before the clock starts; \
          libtiff's time is from open to close in memory"
@@ -84,7 +133,7 @@ pub fn run(texts: &[Text]) {
     for (name, kind) in kinds {
         let ours = |out: &mut Vec<u8>| pages.iter().map(|page| time_ours(page, kind, out)).sum();
         let theirs = |out: &mut Vec<u8>| pages.iter().map(|page| time_libtiff(page, kind, out)).sum();
-        report(&format!("{} pages, written as {name}", pages.len()), &mut out, ours, "libtiff", theirs);
+        report(&format!("{} pages, written as {name}", pages.len()), out, ours, "libtiff", theirs);
     }
 }
 
@@ -97,6 +146,7 @@ fn time_ours(page: &Page, kind: Kind, out: &mut [u8]) -> Duration {
     took
 }
 
+#[cfg(feature = "libtiff")]
 fn time_libtiff(page: &Page, kind: Kind, out: &mut [u8]) -> Duration {
     out.fill(0);
     let began = Instant::now();
