@@ -1,0 +1,178 @@
+// A page as a portable bitmap (PBM, P4): 1 is black, each row begins at a byte.
+use crate::pbm;
+use crate::say;
+use crate::walk;
+use error::Answer;
+use rows::DecodeSettings;
+
+// Whether the colour turns at a pixel.
+fn turns(row: &[u32], count: usize, k: usize, x: u32) -> bool {
+    if count <= k {
+        return false;
+    }
+    if row.len() <= k {
+        return false;
+    }
+    row[k] == x
+}
+
+fn mask(x: u32) -> u8 {
+    match x % 8 {
+        0 => 128,
+        1 => 64,
+        2 => 32,
+        3 => 16,
+        4 => 8,
+        5 => 4,
+        6 => 2,
+        _ => 1,
+    }
+}
+
+fn with_pixel(byte: u8, x: u32, black: bool) -> u8 {
+    if black {
+        return byte | mask(x);
+    }
+    byte & (255 - mask(x))
+}
+
+// One pixel of the row that begins at a byte of `out`.
+fn put(out: &mut [u8], from: usize, x: u32, black: bool) {
+    let i = (x / 8) as usize;
+    if out.len() <= i {
+        return;
+    }
+    if out.len() - i <= from {
+        return;
+    }
+    let at = from + i;
+    let byte = out[at];
+    out[at] = with_pixel(byte, x, black);
+}
+
+fn turned(black: bool, turn: bool) -> bool {
+    if turn { !black } else { black }
+}
+
+fn passed(k: usize, turn: bool) -> usize {
+    if !turn {
+        return k;
+    }
+    if k < 4294967296 { k + 1 } else { k }
+}
+
+// The pixels of a row. Those behind its width stay as they are, which is white: each row of a picture is as wide.
+fn paint(row: &[u32], count: usize, columns: u32, out: &mut [u8], from: usize) {
+    let mut k = 0;
+    let mut black = false;
+    let mut x: u32 = 0;
+    while x < columns {
+        let turn = turns(row, count, k, x);
+        black = turned(black, turn);
+        k = passed(k, turn);
+        put(out, from, x, black);
+        x += 1;
+    }
+}
+
+// Twelve of the sixteen pixels of a margin are black beside a row that is not clean.
+fn bar(from: usize) -> u32 {
+    if from == 0 { 0 } else { 12 }
+}
+
+fn margin(out: &mut [u8], bar: u32, clean: bool) {
+    let mut x: u32 = 0;
+    while x < bar {
+        put(out, 0, x, !clean);
+        x += 1;
+    }
+}
+
+// The width of a picture: a margin of sixteen pixels has two bytes.
+fn width(columns: u32, from: usize) -> u32 {
+    if from == 0 {
+        return columns;
+    }
+    if columns < 4294967280 {
+        columns + 16
+    } else {
+        columns
+    }
+}
+
+pub(crate) fn row(
+    answer: Answer,
+    row: &[u32],
+    count: usize,
+    columns: u32,
+    out: &mut [u8],
+    from: usize,
+) {
+    margin(out, bar(from), answer.mark == 0);
+    paint(row, count, columns, out, from);
+    say::bytes(out, pbm::row_bytes(width(columns, from)));
+}
+
+fn head(width: u32, rows: u64) {
+    say::text(b"P4\n");
+    say::number(width as u64);
+    say::text(b" ");
+    say::number(rows);
+    say::text(b"\n");
+}
+
+fn painted(
+    src: &[u8],
+    settings: DecodeSettings,
+    rows: u64,
+    from: usize,
+    first: &mut [u32],
+    second: &mut [u32],
+    out: &mut [u8],
+) {
+    head(width(settings.columns, from), rows);
+    walk::page(src, settings, walk::Show::Pixels(from), first, second, out);
+}
+
+fn short_of(number: u32) {
+    if number == 0 {
+        return;
+    }
+    say::complain_of(
+        b"the page is not read to its end, answer ",
+        number as u64,
+        b": the picture has the rows before that",
+    );
+}
+
+// A picture has 1 to 65,536 rows, as many as `pbm` reads.
+fn fits(rows: u64) -> bool {
+    if rows == 0 {
+        say::complain(b"there is no row to show");
+        return false;
+    }
+    if 65536 < rows {
+        say::complain(b"a picture has at most 65536 rows");
+        return false;
+    }
+    true
+}
+
+// How the page ends is read before it is painted, as a bitmap begins with its number of rows. A page that is not read to its end is shown as far as it was read.
+pub(crate) fn page(
+    src: &[u8],
+    settings: DecodeSettings,
+    marks: bool,
+    first: &mut [u32],
+    second: &mut [u32],
+    out: &mut [u8],
+) {
+    let read = walk::page(src, settings, walk::Show::Nothing, first, second, out);
+    let end = read.end;
+    if !fits(end.rows) {
+        return;
+    }
+    short_of(end.number);
+    let from = if marks { 2 } else { 0 };
+    painted(src, settings, end.rows, from, first, second, out);
+}
