@@ -1,0 +1,119 @@
+//! Finds the static library, or has `rt` prove and build it, and links it in.
+
+use std::path::{Path, PathBuf};
+use std::process::{Command, Stdio};
+use std::{env, fs};
+
+/// Names a folder with a libexports.a to take, instead of the repository's own.
+const FOLDER: &str = "CCITT_LIBRARY";
+const FILE: &str = "libexports.a";
+
+/// What is called of it. A library without one of these is older than this package.
+const FUNCTIONS: [&str; 7] = [
+    "ccitt_decode_group4",
+    "ccitt_decode_group3_1d",
+    "ccitt_decode_group3_2d",
+    "ccitt_read_line",
+    "ccitt_read_row",
+    "ccitt_write_line",
+    "ccitt_write_page",
+];
+
+fn main() {
+    println!("cargo:rerun-if-env-changed={FOLDER}");
+    if let Err(missing) = link() {
+        eprintln!("\nhayro-ccitt (the proved one): {missing}\n");
+        std::process::exit(1);
+    }
+}
+
+fn link() -> Result<(), String> {
+    test_target()?;
+    let folder = match env::var_os(FOLDER) {
+        Some(folder) => named(PathBuf::from(folder))?,
+        None => of_repository()?,
+    };
+    let file = folder.join(FILE);
+    println!("cargo:rerun-if-changed={}", file.display());
+    test_functions(&file)?;
+    println!("cargo:rustc-link-search=native={}", folder.display());
+    println!("cargo:rustc-link-lib=static=exports");
+    Ok(())
+}
+
+/// The library is machine code for x86-64, called as the System V convention has it.
+fn test_target() -> Result<(), String> {
+    let of = |name: &str| env::var(format!("CARGO_CFG_TARGET_{name}")).unwrap_or_default();
+    let (arch, width, system, vendor) = (of("ARCH"), of("POINTER_WIDTH"), of("OS"), of("VENDOR"));
+    if arch != "x86_64" || width != "64" {
+        return Err(format!("{FILE} is for x86-64, and this is a build for {arch} with {width}-bit pointers."));
+    }
+    if ["windows", "uefi", "cygwin"].contains(&system.as_str()) || vendor == "apple" {
+        return Err(format!(
+            "{FILE} is for systems with ELF and the System V calling convention, as Linux, and this is a build for {system}."
+        ));
+    }
+    Ok(())
+}
+
+fn named(folder: PathBuf) -> Result<PathBuf, String> {
+    // the linker is not started in this folder
+    let whole = folder.canonicalize().unwrap_or(folder);
+    if whole.join(FILE).is_file() { Ok(whole) } else { Err(format!("{FOLDER} names {}, and there is no {FILE} there.", whole.display())) }
+}
+
+/// The repository's own library, which `rt` proves and builds where it is not there.
+fn of_repository() -> Result<PathBuf, String> {
+    let package = PathBuf::from(env::var_os("CARGO_MANIFEST_DIR").expect("cargo says where the package is"));
+    let root = package.parent().expect("the package lies in the repository").to_path_buf();
+    let folder = root.join("target").join("staticlib");
+    if !folder.join(FILE).is_file() {
+        prove(&root, &folder)?;
+    } else if is_newer(&root.join("include").join("ccitt.h"), &folder.join(FILE)) {
+        println!(
+            "cargo:warning={FILE} is older than include/ccitt.h: if the interface has changed, run `rt staticlib exports` in {}",
+            root.display()
+        );
+    }
+    Ok(folder)
+}
+
+fn is_newer(one: &Path, other: &Path) -> bool {
+    let time = |path: &Path| fs::metadata(path).and_then(|data| data.modified()).ok();
+    matches!((time(one), time(other)), (Some(one), Some(other)) if one > other)
+}
+
+fn prove(root: &Path, folder: &Path) -> Result<(), String> {
+    let lacking = format!("there is no {FILE} in {}", folder.display());
+    let instead = format!("Or name a folder that has one, in {FOLDER}.");
+    if !root.join("crates.txt").is_file() {
+        return Err(format!("{lacking}, and {} is not the repository that it is built from. {instead}", root.display()));
+    }
+    let run = Command::new("rt").args(["staticlib", "exports"]).current_dir(root).stdin(Stdio::null()).output();
+    match run {
+        Err(error) => Err(format!(
+            "{lacking}, and `rt staticlib exports`, which proves and builds it, could not be started ({error}): \
+             put the Rattle toolchain's rt on the PATH. {instead}"
+        )),
+        Ok(done) if done.status.success() && folder.join(FILE).is_file() => Ok(()),
+        Ok(done) => Err(format!(
+            "{lacking}, and `rt staticlib exports` in {} did not build it ({}):\n{}{}\n{instead}",
+            root.display(),
+            done.status,
+            String::from_utf8_lossy(&done.stdout),
+            String::from_utf8_lossy(&done.stderr)
+        )),
+    }
+}
+
+fn test_functions(file: &Path) -> Result<(), String> {
+    let bytes = fs::read(file).map_err(|error| format!("{} cannot be read: {error}.", file.display()))?;
+    let has = |name: &str| bytes.windows(name.len()).any(|part| part == name.as_bytes());
+    match FUNCTIONS.iter().find(|name| !has(name)) {
+        None => Ok(()),
+        Some(name) => Err(format!(
+            "{} has no {name}: it is older than this package. `rt staticlib exports` in the repository builds it anew.",
+            file.display()
+        )),
+    }
+}

@@ -1,0 +1,106 @@
+//! What the crate has not: marks, the place of a fault, exact reading, rows one at a time, one line alone, and writers.
+//!
+//! A program that is written for the crate needs nothing of this.
+
+mod fault;
+mod line;
+mod rows;
+mod writers;
+// The Group 3 writers come to writers.rs, and the heads reading to a module of its own, with the library's functions for them.
+
+pub use fault::Fault;
+pub use line::{Line, read_line};
+pub use rows::{OwnedRow, Rows};
+pub use writers::{write_line, write_page};
+
+use crate::DecodeSettings;
+use crate::page::{MOST, Memory};
+
+/// How a page is read: the crate's settings, and two more.
+#[derive(Copy, Clone, Debug)]
+pub struct Settings {
+    /// The crate's settings.
+    pub settings: DecodeSettings,
+    /// Whether to reject codes that move nothing, and a page with fewer rows than it is to have. It is stricter than `strict`, which it implies.
+    ///
+    /// A vertical move to the position that it starts from, other than the line's first code moving to 0, and a horizontal code with two zero runs are
+    /// [`InvalidCode`](crate::DecodeError::InvalidCode). A page that ends with fewer rows than `rows`, if that is not 0, is [`Fault::TooFewRows`]; its rows
+    /// are handed over all the same.
+    pub exact: bool,
+    /// Whether to read runs by an engine without a lookup, which compares one bit after another with the code tables. It is slower, and by proof
+    /// everything that it gives is the same.
+    pub plain: bool,
+}
+
+impl From<DecodeSettings> for Settings {
+    /// As the crate reads: not exactly, and by the lookup.
+    fn from(settings: DecodeSettings) -> Self {
+        Self { settings, exact: false, plain: false }
+    }
+}
+
+/// How a row was read.
+#[derive(Copy, Clone, Debug, PartialEq, Eq)]
+pub enum Mark {
+    /// As it was written.
+    Clean,
+    /// With more pixels than the page is wide, and cut to the width. Lenient reading alone does that.
+    Cut,
+    /// With a fault: it is white from there on. Lenient Group 3 reading alone does that, and goes on at the next end-of-line marker.
+    Recovered,
+}
+
+impl Mark {
+    /// Of the library's number.
+    pub(crate) fn of(number: u32) -> Self {
+        match number {
+            0 => Self::Clean,
+            1 => Self::Cut,
+            _ => Self::Recovered,
+        }
+    }
+}
+
+/// A row as it is handed over.
+#[derive(Copy, Clone, Debug, PartialEq, Eq)]
+pub struct Row<'a> {
+    /// The positions at which the color changes, as [`Decoder::push_row`](crate::Decoder::push_row) has them.
+    pub changes: &'a [u32],
+    /// How it was read.
+    pub mark: Mark,
+}
+
+/// Reads a page, and hands over each of its rows with its mark. The bytes that have been read in total, or why it was not read to its end, and where.
+/// The rows before a fault have been handed over.
+///
+/// Its memory is that of a [`DecoderContext`](crate::DecoderContext).
+///
+/// ```
+/// use hayro_ccitt::beyond::{Fault, Mark, Settings, read_page};
+/// use hayro_ccitt::{DecodeError, DecodeSettings, EncodingMode};
+///
+/// let settings = DecodeSettings {
+///     columns: 8,
+///     rows: 2,
+///     end_of_block: false,
+///     end_of_line: false,
+///     rows_are_byte_aligned: false,
+///     encoding: EncodingMode::Group3_1D,
+///     strict: false,
+/// };
+/// // an EOL, a damaged row, an EOL, a white row
+/// let data = [0x00, 0x17, 0x80, 0x06, 0x60];
+/// let mut rows = Vec::new();
+/// assert_eq!(read_page(&data, settings, |row| rows.push((row.changes.to_vec(), row.mark))), Ok(5));
+/// assert_eq!(rows, [(vec![2, 5], Mark::Recovered), (vec![], Mark::Clean)]);
+///
+/// // exactly, the damage is a fault, at the bit at which the failing code begins
+/// let exactly = Settings { exact: true, ..settings.into() };
+/// let fault = read_page(&data, exactly, |_| unreachable!("there is no row before it")).unwrap_err();
+/// assert_eq!(fault, Fault::Code { error: DecodeError::InvalidCode, bit: 18 });
+/// assert_eq!(fault.to_string(), "invalid CCITT code sequence at bit 18");
+/// ```
+pub fn read_page(data: &[u8], settings: impl Into<Settings>, push_row: impl FnMut(Row<'_>)) -> Result<usize, Fault> {
+    let answer = Memory::default().read(data, &settings.into(), MOST, push_row);
+    Fault::unless_done(&answer).map(|()| answer.bytes as usize)
+}

@@ -1,0 +1,94 @@
+//! The writers. Of T.6 so far; those of T.4 (Group 3 1D and 2D) stand here once the library has them.
+
+use super::Fault;
+use crate::library::{self, Answer};
+use alloc::vec;
+use alloc::vec::Vec;
+
+/// The most bytes of output that the library takes.
+const LIMIT: usize = 1 << 32;
+/// The answer to bits that do not fit.
+const NO_ROOM: u32 = 9;
+
+/// Writes a page by T.6 (Group 4), with EOFB at its end. Each row has the positions at which the color changes, ascending strictly below the columns.
+///
+/// By proof the page, read strictly as Group 4 with `end_of_block`, gives back these rows and its length, whatever bytes follow it; cut after any byte it
+/// gives only its own first rows.
+///
+/// ```
+/// use hayro_ccitt::beyond::{Fault, Rows, write_page};
+/// use hayro_ccitt::{DecodeSettings, EncodingMode};
+///
+/// let rows = [vec![3, 5], vec![], vec![0]];
+/// let page = write_page(8, &rows)?;
+///
+/// let settings = DecodeSettings {
+///     columns: 8,
+///     rows: 0,
+///     end_of_block: true,
+///     end_of_line: false,
+///     rows_are_byte_aligned: false,
+///     encoding: EncodingMode::Group4,
+///     strict: true,
+/// };
+/// let back: Result<Vec<_>, Fault> = Rows::new(&page, settings).map(|row| Ok(row?.changes)).collect();
+/// assert_eq!(back?, rows);
+///
+/// assert_eq!(write_page(8, [[5, 3]]), Err(Fault::NotARow));
+/// # Ok::<(), Fault>(())
+/// ```
+pub fn write_page<R: AsRef<[u32]>>(columns: u32, rows: impl IntoIterator<Item = R>) -> Result<Vec<u8>, Fault> {
+    let (mut changes, mut ends) = (Vec::new(), Vec::new());
+    for row in rows {
+        changes.extend_from_slice(row.as_ref());
+        ends.push(changes.len() as u64);
+    }
+    let some = changes.len() + ends.len() + 16;
+    let mut out = vec![0; some.min(LIMIT)];
+    let answer = write(&mut out, some, |out| library::write_page(columns, &changes, &ends, out))?;
+    out.truncate(answer.bytes as usize);
+    Ok(out)
+}
+
+/// Writes a row as one T.6 line under a reference line, from bit `at` of `out` on, and says which bit is the next. What stands before it stays, and so do
+/// bytes behind it; the unused bits of its last byte become 0. Where `out` is too short, it grows by as many bytes as are needed.
+///
+/// By proof the line, read strictly under the same reference, gives back the row and takes exactly its bits, whatever bits follow it.
+///
+/// ```
+/// use hayro_ccitt::beyond::{Fault, read_line, write_line};
+///
+/// let mut out = Vec::new();
+/// let first = write_line(8, &[], &[3, 5], &mut out, 0)?;
+/// let end = write_line(8, &[3, 5], &[3, 5], &mut out, first)?;
+/// assert_eq!((first, end, out.as_slice()), (10, 13, &[0b0011_0001, 0b1111_1000][..]));
+/// assert_eq!(read_line(&out, first, 8, true, &[3, 5])?.changes, [3, 5]);
+///
+/// assert_eq!(write_line(8, &[], &[3, 5], &mut out, 17), Err(Fault::Start));
+/// # Ok::<(), Fault>(())
+/// ```
+pub fn write_line(columns: u32, reference: &[u32], row: &[u32], out: &mut Vec<u8>, at: u64) -> Result<u64, Fault> {
+    let before = out.len();
+    if at > 8 * before as u64 {
+        return Err(Fault::Start);
+    }
+    let answer = write(out, row.len() + 16, |out| library::write_line(columns, reference, row, out, at));
+    let kept = answer.as_ref().map_or(0, |answer| answer.bytes.div_ceil(8) as usize);
+    out.truncate(before.max(kept));
+    answer.map(|answer| answer.bytes)
+}
+
+/// Has the library write, with so many bytes more and then ever more of them, until the bits fit; where they do not, everything is as it was.
+fn write(out: &mut Vec<u8>, mut more: usize, mut write: impl FnMut(&mut [u8]) -> Answer) -> Result<Answer, Fault> {
+    loop {
+        let answer = write(out);
+        if answer.number != NO_ROOM {
+            return Fault::unless_done(&answer).map(|()| answer);
+        }
+        if out.len() == LIMIT {
+            return Err(Fault::TooLong);
+        }
+        out.resize((out.len() + more).min(LIMIT), 0);
+        more *= 2;
+    }
+}

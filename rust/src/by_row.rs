@@ -1,0 +1,58 @@
+//! A page a row at a time, into two line arrays that grow.
+
+use crate::beyond::Settings;
+use crate::library::{self, Answer};
+use alloc::vec::Vec;
+
+/// The answer to a call that gave a row.
+pub(crate) const ROW: u32 = 15;
+/// The answer to a row that has more changes than its line array holds.
+const NO_ENTRY: u32 = 4;
+
+/// The entries that a line array has at first, once a row has any.
+const SOME: usize = 64;
+
+/// A page that is being read: the library's ten numbers, and the two line arrays.
+#[derive(Default)]
+pub(crate) struct ByRow {
+    state: [u64; 10],
+    lines: [Vec<u32>; 2],
+}
+
+impl ByRow {
+    /// Begins a page. The line arrays are kept.
+    pub(crate) fn begin(&mut self) {
+        self.state = [0; 10];
+    }
+
+    /// Reads the next row; 4 is never answered. A row that its array does not hold is read again, from the state before it, into a longer one: as many
+    /// entries as the page is wide, or as the data has bits, hold any row.
+    pub(crate) fn read(&mut self, data: &[u8], settings: &Settings) -> Answer {
+        loop {
+            let before = self.state;
+            let [first, second] = &mut self.lines;
+            let answer = library::read_row(data, settings, &mut self.state, first, second);
+            if answer.number != NO_ENTRY {
+                return answer;
+            }
+            self.state = before;
+            let line = &mut self.lines[self.other()];
+            line.resize((2 * line.len()).max(SOME), 0);
+        }
+    }
+
+    /// The row that was read last.
+    pub(crate) fn row(&self) -> &[u32] {
+        &self.lines[1 - self.other()][..self.state[1] as usize]
+    }
+
+    /// The first entries of the array that the next row goes to: after the page's end, what an unfinished row has.
+    pub(crate) fn loose(&self, count: u64) -> &[u32] {
+        &self.lines[self.other()][..count as usize]
+    }
+
+    /// Which array the next row goes to: the first one, unless that holds the row that was read last.
+    fn other(&self) -> usize {
+        usize::from(self.state[0] == 1)
+    }
+}

@@ -1,0 +1,154 @@
+//! A decoder for CCITT fax-encoded images, with the interface of the crate hayro-ccitt 0.5.0.
+//!
+//! This crate implements the CCITT Group 3 and Group 4 fax compression algorithms
+//! as defined in ITU-T Recommendations T.4 and T.6. These encodings are commonly
+//! used for bi-level (black and white) images in PDF documents and fax transmissions.
+//!
+//! The main entry point is the [`decode`] function, which takes encoded data, a
+//! [`DecoderContext`], and outputs each decoded row as a list of color changes
+//! through a [`Decoder`] trait that can be implemented according to your needs.
+//!
+//! The crate is `no_std` compatible but requires an allocator to be available.
+//!
+//! ```
+//! use hayro_ccitt::{DecodeSettings, Decoder, DecoderContext, EncodingMode, decode};
+//!
+//! struct Rows(Vec<Vec<u32>>);
+//!
+//! impl Decoder for Rows {
+//!     fn push_row(&mut self, changes: &[u32]) {
+//!         self.0.push(changes.to_vec());
+//!     }
+//! }
+//!
+//! let settings = DecodeSettings {
+//!     columns: 8,
+//!     rows: 1,
+//!     end_of_block: false,
+//!     end_of_line: false,
+//!     rows_are_byte_aligned: false,
+//!     encoding: EncodingMode::Group4,
+//!     strict: true,
+//! };
+//! let mut rows = Rows(Vec::new());
+//! let bytes = decode(&[0x31, 0xC0], &mut rows, &mut DecoderContext::new(settings))?;
+//! // one row, black from 3 up to 5
+//! assert_eq!((bytes, rows.0), (2, vec![vec![3, 5]]));
+//! # Ok::<(), hayro_ccitt::DecodeError>(())
+//! ```
+//!
+//! # What is proved
+//! The decoder behind this interface is a static library. Each of its functions is
+//! proved to meet a contract that settles its whole answer, against definitions
+//! written from T.4 and T.6. Rows, byte counts and errors are the crate's, which is
+//! shown by running both. [`beyond`] has what the crate has not.
+//!
+//! # Limits
+//! For 4,294,967,295 columns, where the crate's arithmetic would leave its type, and
+//! for more than 4,294,967,296 bytes of data the answer is [`DecodeError::Overflow`],
+//! without a row. With `rows` 0 a Group 3 page may have more than 4,294,967,295 rows,
+//! where the crate's counter wraps and ends the page. A call needs some 40 KiB of
+//! stack. The library is for x86-64.
+//!
+//! # Safety
+//! Unsafe code stands in one module, which lends slices to the library.
+//!
+//! # License
+//! Names, signatures and much of the documentation are hayro-ccitt's, which is
+//! licensed under either of the Apache License, Version 2.0, and the MIT license, at
+//! your option. The file NOTICE of the repository has both.
+//!
+//! [`decode`]: crate::decode
+//! [`Decoder`]: crate::Decoder
+
+#![no_std]
+#![deny(unsafe_code)]
+#![forbid(missing_docs)]
+
+extern crate alloc;
+
+pub mod beyond;
+mod by_row;
+mod context;
+mod error;
+mod library;
+mod page;
+
+pub use context::DecoderContext;
+pub use error::{DecodeError, Result};
+
+/// Decode the given image using the provided decoder context and decoder.
+///
+/// If decoding was successful, the number of bytes that have been read in total
+/// is returned.
+///
+/// If an error is returned, it means that the file is somehow malformed.
+/// However, even if that's the case, it is possible that a number
+/// of rows were decoded successfully and written into the decoder, so those
+/// can still be used, but the image might be truncated.
+pub fn decode(data: &[u8], decoder: &mut impl Decoder, ctx: &mut DecoderContext) -> Result<usize> {
+    if ctx.settings.columns == 0 {
+        return Ok(0);
+    }
+    let answer = ctx.read(data, decoder);
+    match answer.number {
+        0 => Ok(answer.bytes as usize),
+        1 => Err(DecodeError::InvalidCode),
+        2 => Err(DecodeError::UnexpectedEof),
+        // 3, and the limits: too many columns, too many bytes
+        _ => Err(DecodeError::Overflow),
+    }
+}
+
+/// A sink for the rows of a CCITT image.
+pub trait Decoder {
+    /// Push a decoded row.
+    ///
+    /// `changes` contains the positions at which the color changes, in strictly
+    /// ascending order and each smaller than the number of columns. Each row
+    /// starts white, so the pixels from `changes[0]` up to `changes[1]` are
+    /// black, those from `changes[2]` up to `changes[3]` again, and so on. If
+    /// the number of changes is odd, the row ends black.
+    fn push_row(&mut self, changes: &[u32]);
+}
+
+/// Settings to apply during decoding.
+#[derive(Copy, Clone, Debug)]
+pub struct DecodeSettings {
+    /// How many columns the image has (i.e. its width).
+    pub columns: u32,
+    /// How many rows the image has (i.e. its height).
+    ///
+    /// In case `end_of_block` has been set to true, decoding will run until
+    /// the given number of rows have been decoded, or the `end_of_block` marker
+    /// has been encountered, whichever occurs first.
+    ///
+    /// If set to 0, decoding runs until the end-of-block marker or the end of the data.
+    pub rows: u32,
+    /// Whether the stream _MAY_ contain an end-of-block marker
+    /// (It doesn't have to. In that case this is set to `true` but there are
+    /// no end-of-block markers, the value of `rows` will still be used
+    /// to determine when to stop decoding).
+    pub end_of_block: bool,
+    /// Whether the stream contains end-of-line markers.
+    pub end_of_line: bool,
+    /// Whether the data in the stream for each row is aligned to the byte
+    /// boundary.
+    pub rows_are_byte_aligned: bool,
+    /// The encoding mode used by the image.
+    pub encoding: EncodingMode,
+    /// Whether to reject data that violates the specification, instead of
+    /// decoding it as well as possible.
+    pub strict: bool,
+}
+
+/// The encoding mode for CCITT fax decoding.
+#[derive(Copy, Clone, Debug, PartialEq, Eq)]
+pub enum EncodingMode {
+    /// Group 4 (MMR).
+    Group4,
+    /// Group 3 1D (MH).
+    Group3_1D,
+    /// Group 3 2D (MR).
+    Group3_2D,
+}
