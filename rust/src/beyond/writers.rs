@@ -45,7 +45,7 @@ pub fn write_page<R: AsRef<[u32]>>(columns: u32, rows: impl IntoIterator<Item = 
     }
     let some = changes.len() + ends.len() + 16;
     let mut out = vec![0; some.min(LIMIT)];
-    let answer = write(&mut out, some, |out| library::write_page(columns, &changes, &ends, out))?;
+    let answer = write(&mut out, 0, some, |out| library::write_page(columns, &changes, &ends, out))?;
     out.truncate(answer.bytes as usize);
     Ok(out)
 }
@@ -69,21 +69,22 @@ pub fn write_page<R: AsRef<[u32]>>(columns: u32, rows: impl IntoIterator<Item = 
 /// ```
 pub fn write_line(columns: u32, reference: &[u32], row: &[u32], out: &mut Vec<u8>, at: u64) -> Result<u64, Fault> {
     let before = out.len();
-    if at > 8 * before as u64 {
-        return Err(Fault::Start);
-    }
-    let answer = write(out, row.len() + 16, |out| library::write_line(columns, reference, row, out, at));
+    let answer = write(out, at, row.len() + 16, |out| library::write_line(columns, reference, row, out, at));
     let kept = answer.as_ref().map_or(0, |answer| answer.bytes.div_ceil(8) as usize);
     out.truncate(before.max(kept));
     answer.map(|answer| answer.bytes)
 }
 
-/// Has the library write, with so many bytes more and then ever more of them, until the bits fit; where they do not, everything is as it was.
-fn write(out: &mut Vec<u8>, mut more: usize, mut write: impl FnMut(&mut [u8]) -> Answer) -> Result<Answer, Fault> {
+/// Has the library write from bit `at` on, with so many bytes more and then ever more of them, until the bits fit; where they do not, everything is as
+/// it was.
+fn write(out: &mut Vec<u8>, at: u64, mut more: usize, mut write: impl FnMut(&mut [u8]) -> Answer) -> Result<Answer, Fault> {
     loop {
         let answer = write(out);
         if answer.number != NO_ROOM {
             return Fault::unless_done(&answer).map(|()| answer);
+        }
+        if at > 8 * out.len() as u64 {
+            return Err(Fault::Start);
         }
         if out.len() == LIMIT {
             return Err(Fault::TooLong);
