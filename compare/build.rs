@@ -5,11 +5,18 @@ fn main() {
     if std::env::var_os("CARGO_FEATURE_LINKED").is_none() {
         return;
     }
+    link_library();
+    link_libtiff();
+}
+
+fn link_library() {
+    if std::env::var_os("CARGO_FEATURE_PACKAGE").is_some() {
+        return;
+    }
     let folder = std::env::var("COMPARE_LIBRARY").expect("COMPARE_LIBRARY names the folder of libexports.a");
     println!("cargo:rerun-if-changed={folder}/libexports.a");
     println!("cargo:rustc-link-search=native={folder}");
     println!("cargo:rustc-link-lib=static=exports");
-    link_libtiff();
 }
 
 /// libtiff stands behind libtiff.c: a linker may leave out a library that nothing before it asks for.

@@ -1,5 +1,5 @@
-//! Times on full pages and on long fill: of the page form against the crate's, of its plain engine against its lookup, of the row form and the unit form against the page form, and of
-//! the page writers against a plain one and against libtiff's.
+//! Times on full pages and on long fill: of the page form against the crate's, of the Rust package against the crate, of the page form's plain engine against its
+//! lookup, of the row form and the unit form against the page form, and of the page writers against a plain one and against libtiff's.
 //! Only a library that is linked in can be timed: under an emulator a time says nothing.
 
 use std::io;

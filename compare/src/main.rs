@@ -22,6 +22,8 @@ mod huge;
 mod linked;
 mod listed;
 mod ours;
+#[cfg(any(feature = "package", test))]
+mod package;
 mod pages;
 #[cfg(not(feature = "linked"))]
 mod piped;

@@ -10,7 +10,7 @@ pub(crate) const ROW: u32 = 15;
 const NO_ENTRY: u32 = 4;
 
 /// The entries that a line array has at first, once a row has any.
-const SOME: usize = 64;
+const SOME: usize = 16;
 
 /// A page that is being read: the library's ten numbers, and the two line arrays.
 #[derive(Default)]

@@ -1,4 +1,5 @@
-//! The page form against the crate's, its plain engine against its lookup, and the row form and the unit form against it.
+//! The page form against the crate's, the Rust package's callbacks against the crate's, the plain engine against the lookup, and the row form and the unit form
+//! against the page form.
 
 use super::fill;
 #[cfg(feature = "writers")]
@@ -61,13 +62,26 @@ struct Sink<'a> {
     rows: usize,
 }
 
-impl hayro_ccitt::Decoder for Sink<'_> {
-    fn push_row(&mut self, changes: &[u32]) {
+impl Sink<'_> {
+    fn push(&mut self, changes: &[u32]) {
         let end = self.entries + changes.len();
         self.store.changes[self.entries..end].copy_from_slice(changes);
         self.store.ends[self.rows] = end as u64;
         self.entries = end;
         self.rows += 1;
+    }
+}
+
+impl hayro_ccitt::Decoder for Sink<'_> {
+    fn push_row(&mut self, changes: &[u32]) {
+        self.push(changes);
+    }
+}
+
+#[cfg(feature = "package")]
+impl drop_in::Decoder for Sink<'_> {
+    fn push_row(&mut self, changes: &[u32]) {
+        self.push(changes);
     }
 }
 
@@ -84,6 +98,13 @@ pub fn run(texts: &[Text]) {
     let sets = by_encoding(&pages);
     for (name, some) in &sets {
         compare(name, some, &mut store);
+    }
+    #[cfg(feature = "package")]
+    {
+        println!("the Rust package by callbacks against the crate by callbacks, likewise, with a new context for each page");
+        for (name, some) in &sets {
+            compare_packages(&format!("{name}, by callbacks"), some, &mut store);
+        }
     }
     println!("the plain engine against the lookup, likewise");
     for (name, some) in &sets {
@@ -148,6 +169,25 @@ fn compare(name: &str, pages: &[&Page], store: &mut Store) {
     let ours = |store: &mut Store| pages.iter().map(|page| time_ours(page, false, store)).sum();
     let theirs = |store: &mut Store| pages.iter().map(|page| time_crate(page, store)).sum();
     report(name, store, ours, "the crate", theirs);
+}
+
+/// The package against the crate: one program, and another line of Cargo.toml.
+#[cfg(feature = "package")]
+fn compare_packages(name: &str, pages: &[&Page], store: &mut Store) {
+    let ours = |store: &mut Store| pages.iter().map(|page| time_package(page, store)).sum();
+    let theirs = |store: &mut Store| pages.iter().map(|page| time_crate(page, store)).sum();
+    report(name, store, ours, "the crate", theirs);
+}
+
+#[cfg(feature = "package")]
+fn time_package(page: &Page, store: &mut Store) -> Duration {
+    let mut sink = Sink { store: store.cleared(page), entries: 0, rows: 0 };
+    let mut context = drop_in::DecoderContext::new(crate::package::called::settings(&page.settings));
+    let began = Instant::now();
+    let bytes = drop_in::decode(&page.src, &mut sink, &mut context);
+    let took = began.elapsed();
+    assert!(bytes.is_ok() == (page.number == 0) && sink.rows == page.rows, "the package answers as the crate does");
+    took
 }
 
 /// The plain engine against the lookup.
