@@ -67,9 +67,11 @@ fn of_repository() -> Result<PathBuf, String> {
     let package = PathBuf::from(env::var_os("CARGO_MANIFEST_DIR").expect("cargo says where the package is"));
     let root = package.parent().expect("the package lies in the repository").to_path_buf();
     let folder = root.join("target").join("staticlib");
+    let header = root.join("include").join("ccitt.h");
+    println!("cargo:rerun-if-changed={}", header.display());
     if !folder.join(FILE).is_file() {
         prove(&root, &folder)?;
-    } else if is_newer(&root.join("include").join("ccitt.h"), &folder.join(FILE)) {
+    } else if is_newer(&header, &folder.join(FILE)) {
         println!(
             "cargo:warning={FILE} is older than include/ccitt.h: if the interface has changed, run `rt staticlib exports` in {}",
             root.display()
@@ -85,9 +87,12 @@ fn is_newer(one: &Path, other: &Path) -> bool {
 
 fn prove(root: &Path, folder: &Path) -> Result<(), String> {
     let lacking = format!("there is no {FILE} in {}", folder.display());
-    let instead = format!("Or name a folder that has one, in {FOLDER}.");
+    let instead = format!("Or name a folder that has one in {FOLDER}.");
     if !root.join("crates.txt").is_file() {
-        return Err(format!("{lacking}, and {} is not the repository that it is built from. {instead}", root.display()));
+        return Err(format!(
+            "{lacking}, and {} is not the repository that it is built from. Name a folder that has one in {FOLDER}.",
+            root.display()
+        ));
     }
     let run = Command::new("rt").args(["staticlib", "exports"]).current_dir(root).stdin(Stdio::null()).output();
     match run {
