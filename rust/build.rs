@@ -9,7 +9,7 @@ const FOLDER: &str = "CCITT_LIBRARY";
 const FILE: &str = "libexports.a";
 
 /// What is called of it. A library without one of these is older than this package.
-const FUNCTIONS: [&str; 7] = [
+const FUNCTIONS: [&str; 10] = [
     "ccitt_decode_group4",
     "ccitt_decode_group3_1d",
     "ccitt_decode_group3_2d",
@@ -17,7 +17,15 @@ const FUNCTIONS: [&str; 7] = [
     "ccitt_read_row",
     "ccitt_write_line",
     "ccitt_write_page",
+    "ccitt_write_group3_1d",
+    "ccitt_write_group3_2d",
+    "ccitt_heads",
 ];
+
+/// Processors by cargo's names, and by the numbers that ELF has for them.
+const MACHINES: [(&str, u16); 2] = [(OURS, 62), ("aarch64", 183)];
+/// What `rt` builds for.
+const OURS: &str = "x86_64";
 
 fn main() {
     println!("cargo:rerun-if-env-changed={FOLDER}");
@@ -28,24 +36,32 @@ fn main() {
 }
 
 fn link() -> Result<(), String> {
-    test_target()?;
+    let arch = target()?;
     let folder = match env::var_os(FOLDER) {
         Some(folder) => named(PathBuf::from(folder))?,
-        None => of_repository()?,
+        None if arch == OURS => of_repository()?,
+        None => {
+            return Err(format!(
+                "the library that `rt staticlib exports` builds is for x86-64, and this is a build for {arch}. \
+                 Name a folder with a {FILE} for {arch} in {FOLDER}."
+            ));
+        }
     };
     let file = folder.join(FILE);
     println!("cargo:rerun-if-changed={}", file.display());
-    test_functions(&file)?;
+    let bytes = fs::read(&file).map_err(|error| format!("{} cannot be read: {error}.", file.display()))?;
+    test_machine(&file, &bytes, &arch)?;
+    test_functions(&file, &bytes)?;
     println!("cargo:rustc-link-search=native={}", folder.display());
     println!("cargo:rustc-link-lib=static=exports");
     Ok(())
 }
 
-/// The library is machine code for x86-64, called as the System V convention has it.
-fn test_target() -> Result<(), String> {
+/// The processor that is built for, unless the library cannot be called there: it is an ELF file, its numbers have 64 bits, and it is called as System V has it.
+fn target() -> Result<String, String> {
     let of = |name: &str| env::var(format!("CARGO_CFG_TARGET_{name}")).unwrap_or_default();
     let (arch, width, system, vendor) = (of("ARCH"), of("POINTER_WIDTH"), of("OS"), of("VENDOR"));
-    if arch != "x86_64" || width != "64" {
+    if width != "64" || of("ENDIAN") != "little" {
         return Err(format!("{FILE} is for x86-64, and this is a build for {arch} with {width}-bit pointers."));
     }
     if ["windows", "uefi", "cygwin"].contains(&system.as_str()) || vendor == "apple" {
@@ -53,7 +69,18 @@ fn test_target() -> Result<(), String> {
             "{FILE} is for systems with ELF and the System V calling convention, as Linux, and this is a build for {system}."
         ));
     }
-    Ok(())
+    Ok(arch)
+}
+
+/// The first object in the library says which processor it is for.
+fn test_machine(file: &Path, bytes: &[u8], arch: &str) -> Result<(), String> {
+    let number = bytes.windows(20).find(|part| part.starts_with(b"\x7fELF")).map(|head| u16::from_le_bytes([head[18], head[19]]));
+    let wanted = MACHINES.iter().find(|(name, _)| *name == arch).map(|&(_, number)| number);
+    if wanted.is_some() && number == wanted {
+        return Ok(());
+    }
+    let named = MACHINES.iter().find(|&&(_, known)| number == Some(known)).map_or("another processor", |&(name, _)| name);
+    Err(format!("{} is for {named}, and this is a build for {arch}.", file.display()))
 }
 
 fn named(folder: PathBuf) -> Result<PathBuf, String> {
@@ -111,8 +138,7 @@ fn prove(root: &Path, folder: &Path) -> Result<(), String> {
     }
 }
 
-fn test_functions(file: &Path) -> Result<(), String> {
-    let bytes = fs::read(file).map_err(|error| format!("{} cannot be read: {error}.", file.display()))?;
+fn test_functions(file: &Path, bytes: &[u8]) -> Result<(), String> {
     let has = |name: &str| bytes.windows(name.len()).any(|part| part == name.as_bytes());
     match FUNCTIONS.iter().find(|name| !has(name)) {
         None => Ok(()),

@@ -1,17 +1,19 @@
-//! What the crate has not: marks, the place of a fault, exact reading, rows one at a time, one line alone, and writers.
+//! What the crate has not: marks, the place of a fault, exact reading, rows one at a time, one line alone, writers, and the heads on a form.
 //!
 //! A program that is written for the crate needs nothing of this.
 
 mod fault;
+mod heads;
 mod line;
 mod rows;
 mod writers;
-// The Group 3 writers come to writers.rs, and the heads reading to a module of its own, with the library's functions for them.
+// The unit form (A9) comes to a module of its own, with the library's function for it.
 
 pub use fault::Fault;
+pub use heads::{Heads, TickBox, heads};
 pub use line::{Line, read_line};
 pub use rows::{OwnedRow, Rows};
-pub use writers::{write_line, write_page};
+pub use writers::{write_group3_1d, write_group3_2d, write_line, write_page};
 
 use crate::DecodeSettings;
 use crate::page::{MOST, Memory};
@@ -57,6 +59,15 @@ impl Mark {
             0 => Self::Clean,
             1 => Self::Cut,
             _ => Self::Recovered,
+        }
+    }
+
+    /// The library's number.
+    pub(crate) fn number(self) -> u8 {
+        match self {
+            Self::Clean => 0,
+            Self::Cut => 1,
+            Self::Recovered => 2,
         }
     }
 }

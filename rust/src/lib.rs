@@ -48,7 +48,8 @@
 //! for more than 4,294,967,296 bytes of data the answer is [`DecodeError::Overflow`],
 //! without a row. With `rows` 0 a Group 3 page may have more than 4,294,967,295 rows,
 //! where the crate's counter wraps and ends the page. A call needs some 40 KiB of
-//! stack. The library is for x86-64.
+//! stack; on one that has less left the program ends, as it does wherever a stack
+//! overflows. The library is for x86-64.
 //!
 //! # Safety
 //! Unsafe code stands in one module, which lends slices to the library.
@@ -95,8 +96,9 @@ pub fn decode(data: &[u8], decoder: &mut impl Decoder, ctx: &mut DecoderContext)
         0 => Ok(answer.bytes as usize),
         1 => Err(DecodeError::InvalidCode),
         2 => Err(DecodeError::UnexpectedEof),
-        // 3, and the limits: too many columns, too many bytes
-        _ => Err(DecodeError::Overflow),
+        // the limits, too many columns and too many bytes, are of this kind
+        3 | 6 | 7 => Err(DecodeError::Overflow),
+        number => unreachable!("the library answers {number}"),
     }
 }
 

@@ -1,16 +1,20 @@
 //! The library's functions, lent Rust's slices and vectors: all of this package that is unsafe.
 //!
 //! Each function of the library tests for itself, takes any bytes, numbers and arrays, reads and writes within the lengths that it is given, and
-//! keeps nothing; include/ccitt.h says what it answers and which entries it has then written. That is proved of its source.
+//! keeps nothing; include/ccitt.h says what it answers and which entries it has then written. That is proved of its source. Its frames are touched page
+//! by page, as Rust's are, so that a stack which is too short ends the program at its guard page.
 #![allow(unsafe_code)]
 
 use crate::beyond::Settings;
 use crate::{DecodeSettings, EncodingMode};
 use alloc::vec::Vec;
 
+// Its lengths and counts have 64 bits.
+const _: () = assert!(usize::BITS == 64);
+
 /// The answer as C has it (include/ccitt.h).
 #[repr(C)]
-#[derive(Clone, Copy, Debug)]
+#[derive(Clone, Copy, Debug, Default)]
 pub(crate) struct Answer {
     pub(crate) number: u32,
     pub(crate) mark: u32,
@@ -21,27 +25,43 @@ pub(crate) struct Answer {
     pub(crate) place: u64,
 }
 
-// In the order of include/ccitt.h. The Group 3 writers and the heads reading are declared here once the library has them.
+/// What is on a form, as C has it.
+#[repr(C)]
+#[derive(Clone, Copy, Debug)]
+pub(crate) struct HeadsAnswer {
+    pub(crate) number: u32,
+    pub(crate) heads: u32,
+    pub(crate) left: i32,
+}
+
+// In the order of include/ccitt.h. An answer of that size goes through a pointer before the other arguments, as x86-64 has it (System V); so declared,
+// a library that was compiled for another processor is called alike. The unit form (A9) is declared behind the row form, once the library has it.
 #[rustfmt::skip]
 unsafe extern "C" {
-    fn ccitt_decode_group4(src: *const u8, src_len: usize, columns: u32, rows: u32, end_of_block: bool, rows_are_byte_aligned: bool,
+    fn ccitt_decode_group4(answer: *mut Answer, src: *const u8, src_len: usize, columns: u32, rows: u32, end_of_block: bool, rows_are_byte_aligned: bool,
         strict: bool, exact: bool, plain: bool,
-        changes: *mut u32, changes_len: usize, ends: *mut u64, ends_len: usize, marks: *mut u8, marks_len: usize) -> Answer;
-    fn ccitt_decode_group3_1d(src: *const u8, src_len: usize, columns: u32, rows: u32, end_of_block: bool, end_of_line: bool,
+        changes: *mut u32, changes_len: usize, ends: *mut u64, ends_len: usize, marks: *mut u8, marks_len: usize);
+    fn ccitt_decode_group3_1d(answer: *mut Answer, src: *const u8, src_len: usize, columns: u32, rows: u32, end_of_block: bool, end_of_line: bool,
         rows_are_byte_aligned: bool, strict: bool, exact: bool, plain: bool,
-        changes: *mut u32, changes_len: usize, ends: *mut u64, ends_len: usize, marks: *mut u8, marks_len: usize) -> Answer;
-    fn ccitt_decode_group3_2d(src: *const u8, src_len: usize, columns: u32, rows: u32, end_of_block: bool, end_of_line: bool,
+        changes: *mut u32, changes_len: usize, ends: *mut u64, ends_len: usize, marks: *mut u8, marks_len: usize);
+    fn ccitt_decode_group3_2d(answer: *mut Answer, src: *const u8, src_len: usize, columns: u32, rows: u32, end_of_block: bool, end_of_line: bool,
         rows_are_byte_aligned: bool, strict: bool, exact: bool, plain: bool,
-        changes: *mut u32, changes_len: usize, ends: *mut u64, ends_len: usize, marks: *mut u8, marks_len: usize) -> Answer;
-    fn ccitt_read_line(src: *const u8, src_len: usize, at: u64, columns: u32, strict: bool,
-        reference: *const u32, reference_len: usize, changes: *mut u32, changes_len: usize) -> Answer;
-    fn ccitt_read_row(src: *const u8, src_len: usize, columns: u32, rows: u32, end_of_block: bool, end_of_line: bool,
+        changes: *mut u32, changes_len: usize, ends: *mut u64, ends_len: usize, marks: *mut u8, marks_len: usize);
+    fn ccitt_read_line(answer: *mut Answer, src: *const u8, src_len: usize, at: u64, columns: u32, strict: bool,
+        reference: *const u32, reference_len: usize, changes: *mut u32, changes_len: usize);
+    fn ccitt_read_row(answer: *mut Answer, src: *const u8, src_len: usize, columns: u32, rows: u32, end_of_block: bool, end_of_line: bool,
         rows_are_byte_aligned: bool, encoding: u32, strict: bool, exact: bool, plain: bool, state: *mut u64, state_len: usize,
-        first: *mut u32, first_len: usize, second: *mut u32, second_len: usize) -> Answer;
-    fn ccitt_write_line(columns: u32, reference: *const u32, reference_len: usize, row: *const u32, row_len: usize,
-        out: *mut u8, out_len: usize, at: u64) -> Answer;
-    fn ccitt_write_page(columns: u32, changes: *const u32, changes_len: usize, ends: *const u64, ends_len: usize,
-        out: *mut u8, out_len: usize) -> Answer;
+        first: *mut u32, first_len: usize, second: *mut u32, second_len: usize);
+    fn ccitt_write_line(answer: *mut Answer, columns: u32, reference: *const u32, reference_len: usize, row: *const u32, row_len: usize,
+        out: *mut u8, out_len: usize, at: u64);
+    fn ccitt_write_page(answer: *mut Answer, columns: u32, changes: *const u32, changes_len: usize, ends: *const u64, ends_len: usize,
+        out: *mut u8, out_len: usize);
+    fn ccitt_write_group3_1d(answer: *mut Answer, columns: u32, changes: *const u32, changes_len: usize, ends: *const u64, ends_len: usize,
+        eols: bool, fill: u32, out: *mut u8, out_len: usize);
+    fn ccitt_write_group3_2d(answer: *mut Answer, columns: u32, changes: *const u32, changes_len: usize, ends: *const u64, ends_len: usize,
+        k: u32, out: *mut u8, out_len: usize);
+    fn ccitt_heads(columns: u32, changes: *const u32, changes_len: usize, ends: *const u64, ends_len: usize, marks: *const u8, marks_len: usize,
+        boxes: *const u32, boxes_len: usize, least: u64, quota: i32) -> HeadsAnswer;
 }
 
 /// A page's rows: row n's changes lie from `ends[n - 1]`, or 0, to `ends[n]`, and `marks[n]` says how it was read.
@@ -84,17 +104,17 @@ unsafe fn page_into(data: &[u8], settings: &Settings, rows: &mut Rows, changes: 
     let DecodeSettings { columns, rows: count, end_of_block, end_of_line, rows_are_byte_aligned: aligned, encoding, strict } = settings.settings;
     let (src, exact, plain) = (data.as_ptr(), settings.exact, settings.plain);
     let (to, ends, marks) = (rows.changes.as_mut_ptr(), rows.ends.as_mut_ptr(), rows.marks.as_mut_ptr());
-    // SAFETY: each pointer stands with the length of what it points at. The library reads no entry that it has not written.
-    unsafe {
+    // SAFETY: each pointer stands with the length of what it points at, and what it points at is apart. The library reads no entry that it has not written.
+    told(|answer| unsafe {
         match encoding {
-            EncodingMode::Group4 => ccitt_decode_group4(src, data.len(), columns, count, end_of_block, aligned, strict, exact, plain,
+            EncodingMode::Group4 => ccitt_decode_group4(answer, src, data.len(), columns, count, end_of_block, aligned, strict, exact, plain,
                 to, changes, ends, places, marks, places),
-            EncodingMode::Group3_1D => ccitt_decode_group3_1d(src, data.len(), columns, count, end_of_block, end_of_line, aligned, strict, exact, plain,
+            EncodingMode::Group3_1D => ccitt_decode_group3_1d(answer, src, data.len(), columns, count, end_of_block, end_of_line, aligned, strict, exact, plain,
                 to, changes, ends, places, marks, places),
-            EncodingMode::Group3_2D => ccitt_decode_group3_2d(src, data.len(), columns, count, end_of_block, end_of_line, aligned, strict, exact, plain,
+            EncodingMode::Group3_2D => ccitt_decode_group3_2d(answer, src, data.len(), columns, count, end_of_block, end_of_line, aligned, strict, exact, plain,
                 to, changes, ends, places, marks, places),
         }
-    }
+    })
 }
 
 /// Reads one row by the row form, into one of two line arrays.
@@ -106,30 +126,74 @@ pub(crate) fn read_row(data: &[u8], settings: &Settings, state: &mut [u64; 10], 
         EncodingMode::Group3_1D => 1,
         EncodingMode::Group3_2D => 2,
     };
-    // SAFETY: each pointer stands with the length of its slice, and the three lent arrays are apart.
-    unsafe {
-        ccitt_read_row(data.as_ptr(), data.len(), columns, rows, end_of_block, end_of_line, rows_are_byte_aligned, encoding, strict, settings.exact, settings.plain,
-            state.as_mut_ptr(), state.len(), first.as_mut_ptr(), first.len(), second.as_mut_ptr(), second.len())
-    }
+    // SAFETY: each pointer stands with the length of its slice, and the three lent arrays and the answer are apart.
+    told(|answer| unsafe {
+        ccitt_read_row(answer, data.as_ptr(), data.len(), columns, rows, end_of_block, end_of_line, rows_are_byte_aligned, encoding, strict, settings.exact, settings.plain,
+            state.as_mut_ptr(), state.len(), first.as_mut_ptr(), first.len(), second.as_mut_ptr(), second.len());
+    })
 }
 
 /// Reads one 2D line that begins at bit `at`, under a reference.
 pub(crate) fn read_line(data: &[u8], at: u64, columns: u32, strict: bool, reference: &[u32], changes: &mut [u32]) -> Answer {
     let (src, under, to) = (data.as_ptr(), reference.as_ptr(), changes.as_mut_ptr());
-    // SAFETY: each pointer stands with the length of its slice.
-    unsafe { ccitt_read_line(src, data.len(), at, columns, strict, under, reference.len(), to, changes.len()) }
+    // SAFETY: each pointer stands with the length of its slice, and the answer is apart.
+    told(|answer| unsafe { ccitt_read_line(answer, src, data.len(), at, columns, strict, under, reference.len(), to, changes.len()) })
 }
 
 /// Writes a row as one T.6 line under a reference, from bit `at` of `out` on.
 pub(crate) fn write_line(columns: u32, reference: &[u32], row: &[u32], out: &mut [u8], at: u64) -> Answer {
     let (under, from) = (reference.as_ptr(), row.as_ptr());
-    // SAFETY: each pointer stands with the length of its slice.
-    unsafe { ccitt_write_line(columns, under, reference.len(), from, row.len(), out.as_mut_ptr(), out.len(), at) }
+    // SAFETY: each pointer stands with the length of its slice, and the answer is apart.
+    told(|answer| unsafe { ccitt_write_line(answer, columns, under, reference.len(), from, row.len(), out.as_mut_ptr(), out.len(), at) })
 }
 
-/// Writes a T.6 page.
-pub(crate) fn write_page(columns: u32, changes: &[u32], ends: &[u64], out: &mut [u8]) -> Answer {
-    let (from, to) = (changes.as_ptr(), out.as_mut_ptr());
-    // SAFETY: each pointer stands with the length of its slice.
-    unsafe { ccitt_write_page(columns, from, changes.len(), ends.as_ptr(), ends.len(), to, out.len()) }
+/// A page to be written: row n's changes lie from `ends[n - 1]`, or 0, to `ends[n]`.
+#[derive(Clone, Copy)]
+pub(crate) struct Page<'a> {
+    pub(crate) columns: u32,
+    pub(crate) changes: &'a [u32],
+    pub(crate) ends: &'a [u64],
+}
+
+/// What the lines of a page are, and what stands between them.
+#[derive(Clone, Copy)]
+pub(crate) enum Layout {
+    /// T.6.
+    Group4,
+    /// T.4, 1D lines.
+    OneD { eols: bool, fill: u32 },
+    /// T.4, 1D and 2D lines.
+    TwoD { k: u32 },
+}
+
+/// Writes a page from byte 0 of `out` on.
+pub(crate) fn write_page(layout: Layout, page: Page<'_>, out: &mut [u8]) -> Answer {
+    let Page { columns, changes, ends } = page;
+    let (from, count, of, rows) = (changes.as_ptr(), changes.len(), ends.as_ptr(), ends.len());
+    let (to, room) = (out.as_mut_ptr(), out.len());
+    // SAFETY: each pointer stands with the length of its slice, and the answer is apart.
+    told(|answer| unsafe {
+        match layout {
+            Layout::Group4 => ccitt_write_page(answer, columns, from, count, of, rows, to, room),
+            Layout::OneD { eols, fill } => ccitt_write_group3_1d(answer, columns, from, count, of, rows, eols, fill, to, room),
+            Layout::TwoD { k } => ccitt_write_group3_2d(answer, columns, from, count, of, rows, k, to, room),
+        }
+    })
+}
+
+/// The heads on a form: a page with its marks, the twenty boxes' edges, the count from which a box is ticked, and a quota.
+pub(crate) fn heads(page: Page<'_>, marks: &[u8], boxes: &[u32; 80], least: u64, quota: i32) -> HeadsAnswer {
+    let Page { columns, changes, ends } = page;
+    let (from, of) = (changes.as_ptr(), ends.as_ptr());
+    // SAFETY: each pointer stands with the length of its slice, and nothing is written.
+    unsafe {
+        ccitt_heads(columns, from, changes.len(), of, ends.len(), marks.as_ptr(), marks.len(), boxes.as_ptr(), boxes.len(), least, quota)
+    }
+}
+
+/// Calls the library, which tells its answer through a pointer.
+fn told(call: impl FnOnce(*mut Answer)) -> Answer {
+    let mut answer = Answer::default();
+    call(&mut answer);
+    answer
 }

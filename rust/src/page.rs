@@ -60,7 +60,7 @@ impl Memory {
 fn changes_of(data: &[u8], settings: &Settings) -> usize {
     let page = match settings.settings.rows {
         0 => usize::MAX,
-        rows => settings.settings.columns as usize * rows as usize,
+        rows => (settings.settings.columns as usize).saturating_mul(rows as usize),
     };
     bits_and_one(data).min(page)
 }

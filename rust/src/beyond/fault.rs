@@ -2,7 +2,7 @@ use crate::DecodeError;
 use crate::library::Answer;
 use core::fmt::{self, Display, Formatter};
 
-/// Why something was not read, or not written.
+/// Why something was not read, not written, or not counted.
 #[derive(Copy, Clone, Debug, PartialEq, Eq)]
 #[non_exhaustive]
 pub enum Fault {
@@ -21,25 +21,44 @@ pub enum Fault {
     TooLong,
     /// A row or a reference that does not ascend strictly below the columns.
     NotARow,
+    /// A Group 3 page of no rows, which is not to be written.
+    NoRows,
+    /// More than 64 zeros of fill, or a K of 0 or above 65,535.
+    Layout,
     /// A line that is to begin behind the end of the output.
     Start,
+    /// A form with edges out of order, a tick of no pixels, or a quota outside −1,000,000 to 1,000,000.
+    Form,
+    /// Not exactly one tick in a column of a form.
+    Ticks,
+    /// A box of a form holds a pixel of a row that was not read clean.
+    Mended,
 }
 
 impl Fault {
-    /// The fault that an answer of the library tells, if it is one. Answers 4, 5 and 9 are not: more room is then lent.
+    /// The fault that an answer of the library tells, if it is one.
     pub(crate) fn unless_done(answer: &Answer) -> Result<(), Self> {
-        let code = |error| Err(Self::Code { error, bit: answer.place });
-        match answer.number {
-            0 => Ok(()),
+        Self::of(answer.number, answer.place).map_or(Ok(()), Err)
+    }
+
+    /// The fault of a number, with its place. Answers 4, 5, 9 and 15 are none: more room is then lent, or the next row read.
+    pub(crate) fn of(number: u32, place: u64) -> Option<Self> {
+        let code = |error| Self::Code { error, bit: place };
+        Some(match number {
+            0 => return None,
             1 => code(DecodeError::InvalidCode),
             2 => code(DecodeError::UnexpectedEof),
             3 => code(DecodeError::Overflow),
-            6 => Err(Self::Columns),
-            7 => Err(Self::TooLong),
-            8 => Err(Self::NotARow),
-            14 => Err(Self::TooFewRows),
-            number => unreachable!("the library answers {number}"),
-        }
+            6 => Self::Columns,
+            7 => Self::TooLong,
+            8 => Self::NotARow,
+            10 => Self::Layout,
+            11 => Self::Form,
+            12 => Self::Ticks,
+            13 => Self::Mended,
+            14 => Self::TooFewRows,
+            _ => unreachable!("the library answers {number}"),
+        })
     }
 }
 
@@ -51,7 +70,12 @@ impl Display for Fault {
             Self::Columns => write!(f, "a number of columns that is not supported"),
             Self::TooLong => write!(f, "more than 4294967296 bytes"),
             Self::NotARow => write!(f, "a row that does not ascend strictly below the columns"),
+            Self::NoRows => write!(f, "a Group 3 page of no rows"),
+            Self::Layout => write!(f, "more than 64 zeros of fill, or a K that is not from 1 to 65535"),
             Self::Start => write!(f, "a line that begins behind the end of the output"),
+            Self::Form => write!(f, "a form whose edges, least count or quota are out of order"),
+            Self::Ticks => write!(f, "not exactly one tick in a column of the form"),
+            Self::Mended => write!(f, "a box of the form over a row that was not read clean"),
         }
     }
 }

@@ -54,6 +54,13 @@ pub struct OwnedRow {
     pub mark: Mark,
 }
 
+impl<'a> From<&'a OwnedRow> for Row<'a> {
+    /// Lends it.
+    fn from(row: &'a OwnedRow) -> Self {
+        Self { changes: &row.changes, mark: row.mark }
+    }
+}
+
 impl<'a> Rows<'a> {
     /// Begins a page. Nothing is read yet.
     pub fn new(data: &'a [u8], settings: impl Into<Settings>) -> Self {

@@ -1,7 +1,7 @@
-//! The writers. Of T.6 so far; those of T.4 (Group 3 1D and 2D) stand here once the library has them.
+//! The writers: of T.6 a page and a line, of T.4 (Group 3 1D and 2D) a page.
 
 use super::Fault;
-use crate::library::{self, Answer};
+use crate::library::{self, Answer, Layout, Page};
 use alloc::vec;
 use alloc::vec::Vec;
 
@@ -12,8 +12,8 @@ const NO_ROOM: u32 = 9;
 
 /// Writes a page by T.6 (Group 4), with EOFB at its end. Each row has the positions at which the color changes, ascending strictly below the columns.
 ///
-/// By proof the page, read strictly as Group 4 with `end_of_block`, gives back these rows and its length, whatever bytes follow it; cut after any byte it
-/// gives only its own first rows.
+/// By proof the page, read strictly as Group 4 with `end_of_block` and without alignment, gives back these rows and its length, whatever bytes follow it; cut
+/// after any byte it gives only its own first rows.
 ///
 /// ```
 /// use hayro_ccitt::beyond::{Fault, Rows, write_page};
@@ -38,16 +38,73 @@ const NO_ROOM: u32 = 9;
 /// # Ok::<(), Fault>(())
 /// ```
 pub fn write_page<R: AsRef<[u32]>>(columns: u32, rows: impl IntoIterator<Item = R>) -> Result<Vec<u8>, Fault> {
-    let (mut changes, mut ends) = (Vec::new(), Vec::new());
-    for row in rows {
-        changes.extend_from_slice(row.as_ref());
-        ends.push(changes.len() as u64);
-    }
-    let some = changes.len() + ends.len() + 16;
-    let mut out = vec![0; some.min(LIMIT)];
-    let answer = write(&mut out, 0, some, |out| library::write_page(columns, &changes, &ends, out))?;
-    out.truncate(answer.bytes as usize);
-    Ok(out)
+    page(Layout::Group4, columns, rows)
+}
+
+/// Writes a page of 1D lines by T.4 (Group 3 1D). With `eols`, `fill` zeros (64 at most) and an EOL stand before each line, and behind the last line `fill`
+/// zeros and six EOLs; without, the lines stand alone, and who reads them must be told how many there are. A page has at least one row.
+///
+/// By proof the page, read as Group 3 1D with `end_of_block` and `end_of_line` exactly where it has EOLs, with its number of rows (or, with EOLs, 0) and
+/// without alignment, gives back these rows and its length, if nothing but zeros follows it. With EOLs and three or more zeros of fill, a line whose bits
+/// became others (a one among them, and no eleven zeros before a one) costs its own row alone, where the page is read leniently, with its number of rows.
+///
+/// ```
+/// use hayro_ccitt::beyond::{Fault, Rows, write_group3_1d};
+/// use hayro_ccitt::{DecodeSettings, EncodingMode};
+///
+/// let rows = [vec![3, 5], vec![], vec![0]];
+/// let page = write_group3_1d(8, &rows, true, 3)?;
+///
+/// let settings = DecodeSettings {
+///     columns: 8,
+///     rows: 3,
+///     end_of_block: true,
+///     end_of_line: true,
+///     rows_are_byte_aligned: false,
+///     encoding: EncodingMode::Group3_1D,
+///     strict: true,
+/// };
+/// let back: Result<Vec<_>, Fault> = Rows::new(&page, settings).map(|row| Ok(row?.changes)).collect();
+/// assert_eq!(back?, rows);
+///
+/// assert_eq!(write_group3_1d(8, &rows, true, 65), Err(Fault::Layout));
+/// assert_eq!(write_group3_1d(8, &[[0; 0]; 0], true, 0), Err(Fault::NoRows));
+/// # Ok::<(), Fault>(())
+/// ```
+pub fn write_group3_1d<R: AsRef<[u32]>>(columns: u32, rows: impl IntoIterator<Item = R>, eols: bool, fill: u32) -> Result<Vec<u8>, Fault> {
+    page(Layout::OneD { eols, fill }, columns, rows)
+}
+
+/// Writes a page of 1D and 2D lines by T.4 (Group 3 2D): an EOL and a tag bit before each line, a 1D line first and after each 1D line at most `k` − 1 2D
+/// lines, and behind the last line six times EOL and a one. `k` is from 1, where every line is 1D, to 65,535. A page has at least one row.
+///
+/// By proof the page, read as Group 3 2D with `end_of_block`, with its number of rows or 0 and without alignment, gives back these rows and its length, if
+/// nothing but zeros follows it.
+///
+/// ```
+/// use hayro_ccitt::beyond::{Fault, Rows, write_group3_2d};
+/// use hayro_ccitt::{DecodeSettings, EncodingMode};
+///
+/// let rows = [vec![3, 5], vec![3, 5], vec![], vec![0]];
+/// let page = write_group3_2d(8, &rows, 4)?;
+///
+/// let settings = DecodeSettings {
+///     columns: 8,
+///     rows: 0,
+///     end_of_block: true,
+///     end_of_line: true,
+///     rows_are_byte_aligned: false,
+///     encoding: EncodingMode::Group3_2D,
+///     strict: true,
+/// };
+/// let back: Result<Vec<_>, Fault> = Rows::new(&page, settings).map(|row| Ok(row?.changes)).collect();
+/// assert_eq!(back?, rows);
+///
+/// assert_eq!(write_group3_2d(8, &rows, 0), Err(Fault::Layout));
+/// # Ok::<(), Fault>(())
+/// ```
+pub fn write_group3_2d<R: AsRef<[u32]>>(columns: u32, rows: impl IntoIterator<Item = R>, k: u32) -> Result<Vec<u8>, Fault> {
+    page(Layout::TwoD { k }, columns, rows)
 }
 
 /// Writes a row as one T.6 line under a reference line, from bit `at` of `out` on, and says which bit is the next. What stands before it stays, and so do
@@ -73,6 +130,23 @@ pub fn write_line(columns: u32, reference: &[u32], row: &[u32], out: &mut Vec<u8
     let kept = answer.as_ref().map_or(0, |answer| answer.bytes.div_ceil(8) as usize);
     out.truncate(before.max(kept));
     answer.map(|answer| answer.bytes)
+}
+
+fn page<R: AsRef<[u32]>>(layout: Layout, columns: u32, rows: impl IntoIterator<Item = R>) -> Result<Vec<u8>, Fault> {
+    let (mut changes, mut ends) = (Vec::new(), Vec::new());
+    for row in rows {
+        changes.extend_from_slice(row.as_ref());
+        ends.push(changes.len() as u64);
+    }
+    let some = changes.len() + ends.len() + 16;
+    let mut out = vec![0; some.min(LIMIT)];
+    let page = Page { columns, changes: &changes, ends: &ends };
+    let answer = write(&mut out, 0, some, |out| library::write_page(layout, page, out)).map_err(|fault| match fault {
+        Fault::NotARow if ends.is_empty() => Fault::NoRows,
+        fault => fault,
+    })?;
+    out.truncate(answer.bytes as usize);
+    Ok(out)
 }
 
 /// Has the library write from bit `at` on, with so many bytes more and then ever more of them, until the bits fit; where they do not, everything is as
