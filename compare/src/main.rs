@@ -77,6 +77,9 @@ fn main() -> ExitCode {
 /// Runs every check. True if all passed.
 fn compare(arguments: &Arguments) -> std::io::Result<bool> {
     println!("seed {}", arguments.seed);
+    if cfg!(not(feature = "package")) {
+        println!("the Rust package: skipped, the library is not linked in");
+    }
     let workers = std::thread::available_parallelism().map_or(1, usize::from);
     let mut ours = ours::open(workers)?;
     let (mut passed, mut failed, mut inputs, mut calls) = (0, 0, 0, 0);
@@ -88,9 +91,7 @@ fn compare(arguments: &Arguments) -> std::io::Result<bool> {
         calls += tally.calls;
         if tally.passed() { passed += 1 } else { failed += 1 }
     }
-    if heads::NAME.contains(&arguments.only)
-        && let Some(tally) = run_heads(arguments)
-    {
+    for tally in run_heads(arguments) {
         inputs += tally.inputs;
         calls += tally.calls;
         if tally.passed() { passed += 1 } else { failed += 1 }
@@ -105,17 +106,24 @@ fn run_one(source: &dyn Source, seed: u64, ours: &mut [Box<dyn Ours>]) -> Tally 
     told(&source.name(), began, check::run(source, seed, ours))
 }
 
-/// The heads on the form, where the library is linked in.
+/// The heads on the form, where the library is linked in, and where the package is.
 #[cfg(feature = "linked")]
-fn run_heads(arguments: &Arguments) -> Option<Tally> {
-    let began = Instant::now();
-    Some(told(heads::NAME, began, heads::run(&linked::heads::LinkedHeads, arguments.seed, 300_000 * arguments.more)))
+fn run_heads(arguments: &Arguments) -> Vec<Tally> {
+    let readers: &[&dyn heads::Reader] = &[
+        &linked::heads::LinkedHeads,
+        #[cfg(feature = "package")]
+        &package::heads::PackageHeads,
+    ];
+    let asked = readers.iter().filter(|reader| reader.name().contains(&arguments.only));
+    asked.map(|reader| told(reader.name(), Instant::now(), heads::run(*reader, arguments.seed, 300_000 * arguments.more))).collect()
 }
 
 #[cfg(not(feature = "linked"))]
-fn run_heads(_: &Arguments) -> Option<Tally> {
-    println!("{}: skipped, the library is not linked in", heads::NAME);
-    None
+fn run_heads(arguments: &Arguments) -> Vec<Tally> {
+    if heads::NAME.contains(&arguments.only) {
+        println!("{}: skipped, the library is not linked in", heads::NAME);
+    }
+    Vec::new()
 }
 
 fn told(name: &str, began: Instant, tally: Tally) -> Tally {

@@ -3,10 +3,12 @@
 
 #[cfg(feature = "package")]
 pub mod called;
+#[cfg(feature = "package")]
+pub mod heads;
 #[cfg(test)]
 mod standin;
 
-use crate::call::{Answer, Ask, BYTE_MARGIN, Form, Room, Steps, pattern_byte};
+use crate::call::{Answer, Ask, BYTE_MARGIN, Form, Layout, Room, Steps, pattern_byte};
 use crate::check::{Case, Plan, Source, Tally, hex};
 use crate::random::Random;
 use crate::settings::Settings;
@@ -28,7 +30,8 @@ pub trait Package {
     fn page(&mut self, way: Way, settings: &Settings, src: &[u8]) -> Wanted;
     fn line(&mut self, ask: &Ask, src: &[u8]) -> Wanted;
     fn write_line(&mut self, ask: &Ask, out: Vec<u8>) -> Wanted;
-    fn write_page(&mut self, columns: u32, rows: &[&[u32]]) -> Wanted;
+    /// A T.6 page, or a Group 3 page of some layout.
+    fn write_page(&mut self, layout: Option<Layout>, columns: u32, rows: &[&[u32]]) -> Wanted;
 }
 
 /// A check of more inputs has one in four of them asked of the package.
@@ -78,7 +81,8 @@ fn ask(package: &mut dyn Package, case: &Case, random: &mut Random) -> Vec<Asked
         }
         Form::ReadLine => vec![("one line".to_string(), without_loose(plan.wanted.clone()), package.line(ask, &ask.data()))],
         Form::WriteLine if ask.tail == 0 => vec![line_written(package, ask, plan, random)],
-        Form::WritePage if ask.tail == 0 => page_written(package, ask, plan).into_iter().collect(),
+        Form::WritePage if ask.tail == 0 => page_written(package, ask, None, plan).into_iter().collect(),
+        Form::WriteGroup3(layout) if ask.tail == 0 => page_written(package, ask, Some(layout), plan).into_iter().collect(),
         _ => Vec::new(),
     }
 }
@@ -131,13 +135,13 @@ fn line_written(package: &mut dyn Package, ask: &Ask, plan: &Plan, random: &mut 
 }
 
 /// The package takes rows, so that there are no row ends to refuse.
-fn page_written(package: &mut dyn Package, ask: &Ask, plan: &Plan) -> Option<Asked> {
+fn page_written(package: &mut dyn Package, ask: &Ask, layout: Option<Layout>, plan: &Plan) -> Option<Asked> {
     let starts = std::iter::once(0).chain(ask.second.iter().copied());
     let rows: Option<Vec<&[u32]>> = starts.zip(&ask.second).map(|(start, &end)| ask.first.get(start as usize..end as usize)).collect();
-    let given = package.write_page(ask.settings.columns, &rows?);
+    let given = package.write_page(layout, ask.settings.columns, &rows?);
     let mut wanted = plan.wanted.clone();
     if let Some(out) = &mut wanted.out {
         out.truncate(wanted.answer.bytes as usize);
     }
-    Some(("a page to be written".to_string(), wanted, given))
+    Some((format!("a page to be written: {:?}", ask.form), wanted, given))
 }

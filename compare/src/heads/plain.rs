@@ -45,17 +45,16 @@ pub fn plain(ask: &Ask) -> HeadsAnswer {
 
 /// The rows of a store, unless 8 refuses it.
 pub fn rows_of(ask: &Ask) -> Option<Vec<&[u32]>> {
-    let mut rows = Vec::new();
-    let mut start = 0;
-    for (y, &end) in ask.ends.iter().enumerate() {
-        let row = ask.changes.get(start..usize::try_from(end).ok()?)?;
-        if !ascends_below(row, ask.columns) || *ask.marks.get(y)? > 2 {
-            return None;
-        }
-        rows.push(row);
-        start = end as usize;
-    }
-    Some(rows)
+    let rows = split(ask)?;
+    let marked = |y: usize| ask.marks.get(y).is_some_and(|&mark| mark <= 2);
+    let sound = rows.iter().enumerate().all(|(y, row)| ascends_below(row, ask.columns) && marked(y));
+    sound.then_some(rows)
+}
+
+/// The rows as the row ends part them, unless these fall or pass the array.
+pub fn split(ask: &Ask) -> Option<Vec<&[u32]>> {
+    let starts = std::iter::once(0).chain(ask.ends.iter().copied());
+    starts.zip(&ask.ends).map(|(start, &end)| ask.changes.get(usize::try_from(start).ok()?..usize::try_from(end).ok()?)).collect()
 }
 
 fn rows_under(b: &Edges, rows: &[&[u32]]) -> std::ops::Range<usize> {

@@ -64,8 +64,8 @@ const FAULTS: [Fault; 25] = [
 struct Standin(Fault);
 
 impl Reader for Standin {
-    fn heads(&self, asks: &[Ask]) -> Vec<HeadsAnswer> {
-        asks.iter().map(|ask| self.answer(ask)).collect()
+    fn heads(&self, asks: &[Ask]) -> Vec<Option<HeadsAnswer>> {
+        asks.iter().map(|ask| Some(self.answer(ask))).collect()
     }
 }
 

@@ -13,9 +13,10 @@ pub struct LinkedHeads;
 
 impl Reader for LinkedHeads {
     /// In a thread that has no more stack than the library may use.
-    fn heads(&self, asks: &[Ask]) -> Vec<HeadsAnswer> {
+    fn heads(&self, asks: &[Ask]) -> Vec<Option<HeadsAnswer>> {
         std::thread::scope(|scope| {
-            let thread = std::thread::Builder::new().stack_size(STACK).spawn_scoped(scope, || asks.iter().map(one).collect());
+            let thread =
+                std::thread::Builder::new().stack_size(STACK).spawn_scoped(scope, || asks.iter().map(|ask| Some(one(ask))).collect());
             thread.expect("a thread can be started").join().expect("no call ends in a panic")
         })
     }

@@ -1,7 +1,7 @@
 //! The package itself.
 
 use super::{Package, Way};
-use crate::call::{Answer, Ask};
+use crate::call::{Answer, Ask, Layout};
 use crate::settings::{Encoding, Settings};
 use crate::truth::Wanted;
 use drop_in::beyond::{self, Fault, Mark, Row};
@@ -92,8 +92,12 @@ impl Package for Called {
         Wanted { out: Some(out), ..Sink::default().ended(told(end)) }
     }
 
-    fn write_page(&mut self, columns: u32, rows: &[&[u32]]) -> Wanted {
-        let page = beyond::write_page(columns, rows);
+    fn write_page(&mut self, layout: Option<Layout>, columns: u32, rows: &[&[u32]]) -> Wanted {
+        let page = match layout {
+            None => beyond::write_page(columns, rows),
+            Some(Layout::OneD { eols, fill }) => beyond::write_group3_1d(columns, rows, eols, fill),
+            Some(Layout::TwoD { k }) => beyond::write_group3_2d(columns, rows, k),
+        };
         let end = told(page.as_ref().map(|page| page.len() as u64).map_err(|&fault| fault));
         Wanted { out: page.ok(), ..Sink::default().ended(end) }
     }
@@ -153,14 +157,18 @@ fn number(error: DecodeError) -> u32 {
 }
 
 /// Number, place and bytes.
-fn told(end: Result<u64, Fault>) -> (u32, u64, u64) {
+pub fn told(end: Result<u64, Fault>) -> (u32, u64, u64) {
     match end {
         Ok(bytes) => (0, 0, bytes),
         Err(Fault::Code { error, bit }) => (number(error), bit, 0),
         Err(Fault::Columns) => (6, 0, 0),
         Err(Fault::TooLong) => (7, 0, 0),
-        Err(Fault::NotARow) => (8, 0, 0),
+        Err(Fault::NotARow | Fault::NoRows) => (8, 0, 0),
         Err(Fault::Start) => (9, 0, 0),
+        Err(Fault::Layout) => (10, 0, 0),
+        Err(Fault::Form) => (11, 0, 0),
+        Err(Fault::Ticks) => (12, 0, 0),
+        Err(Fault::Mended) => (13, 0, 0),
         Err(Fault::TooFewRows) => (14, 0, 0),
         Err(_) => (ODD, 0, 0),
     }

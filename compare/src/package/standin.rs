@@ -2,10 +2,11 @@
 
 use super::{Package, Way};
 use crate::bits::Bits;
-use crate::call::{Answer, Ask, Room};
+use crate::call::{Answer, Ask, Layout, Room};
 use crate::checks::writers::encoded;
 use crate::codes::LONGEST;
 use crate::encoder::put_line_2d;
+use crate::group3;
 use crate::settings::Settings;
 use crate::truth::{Outcome, Wanted, ascends_below};
 
@@ -34,9 +35,14 @@ enum Fault {
     WrittenBehind,
     WrittenBit,
     NotARowTaken,
+    LayoutTaken,
+    NoRowsTaken,
+    FillLost,
+    EolsUnasked,
+    NextOneD,
 }
 
-const FAULTS: [Fault; 21] = [
+const FAULTS: [Fault; 26] = [
     Fault::FirstRowLost,
     Fault::LastRowTwice,
     Fault::RowsOfAnErrorLost,
@@ -58,6 +64,11 @@ const FAULTS: [Fault; 21] = [
     Fault::WrittenBehind,
     Fault::WrittenBit,
     Fault::NotARowTaken,
+    Fault::LayoutTaken,
+    Fault::NoRowsTaken,
+    Fault::FillLost,
+    Fault::EolsUnasked,
+    Fault::NextOneD,
 ];
 
 struct Standin(Fault);
@@ -107,15 +118,25 @@ impl Package for Standin {
         Wanted { out: Some(out), ..Wanted::untouched(Answer { bytes: end as u64, ..Answer::default() }) }
     }
 
-    fn write_page(&mut self, columns: u32, rows: &[&[u32]]) -> Wanted {
+    fn write_page(&mut self, layout: Option<Layout>, columns: u32, rows: &[&[u32]]) -> Wanted {
         if columns == 0 || columns == u32::MAX {
             return Wanted::untouched(Answer::bare(6));
+        }
+        if layout.is_some_and(|layout| !group3::allowed(layout) && self.0 != Fault::LayoutTaken) {
+            return Wanted::untouched(Answer::bare(10));
+        }
+        if layout.is_some() && rows.is_empty() && self.0 != Fault::NoRowsTaken {
+            return Wanted::untouched(Answer::bare(8));
         }
         if !rows.iter().all(|row| ascends_below(row, columns)) {
             return Wanted::untouched(Answer::bare(8));
         }
         let rows: Vec<Vec<u32>> = rows.iter().map(|row| row.to_vec()).collect();
-        let mut page = encoded(columns, &rows).into_bytes();
+        let mut page = match layout {
+            None => encoded(columns, &rows),
+            Some(layout) => group3::encoded(self.spoil_layout(layout), columns, &rows),
+        }
+        .into_bytes();
         if self.0 == Fault::WrittenBit && rows.len() > 3 {
             page[1] ^= 1;
         }
@@ -166,6 +187,17 @@ impl Standin {
         wanted
     }
 
+    /// In what is handed to a writer. A layout that is not allowed is cut to one that is.
+    fn spoil_layout(&self, layout: Layout) -> Layout {
+        match layout {
+            Layout::OneD { eols, .. } if self.0 == Fault::FillLost => Layout::OneD { eols, fill: 0 },
+            Layout::OneD { fill, .. } if self.0 == Fault::EolsUnasked => Layout::OneD { eols: true, fill },
+            Layout::OneD { eols, fill } => Layout::OneD { eols, fill: fill.min(64) },
+            Layout::TwoD { k } if self.0 == Fault::NextOneD => Layout::TwoD { k: k.clamp(1, 65_534) + 1 },
+            Layout::TwoD { k } => Layout::TwoD { k: k.clamp(1, 65_535) },
+        }
+    }
+
     fn spoil_marked(&self, plain: bool, lent: bool, mut wanted: Wanted) -> Wanted {
         match self.0 {
             Fault::Mark => wanted.marks.iter_mut().for_each(|mark| *mark = (*mark).min(1)),
@@ -193,7 +225,7 @@ mod tests {
     use super::{FAULTS, Fault, Standin};
     use crate::check::{Case, Source, Tally};
     use crate::checks::random_pages::{Kind, RandomPages};
-    use crate::checks::{limits, lines::Lines, sheets::Sheets, writers};
+    use crate::checks::{group3_writers, limits, lines::Lines, sheets::Sheets, writers};
     use crate::random::Random;
 
     fn differing(fault: Fault, count: u64) -> u64 {
@@ -208,6 +240,8 @@ mod tests {
             Box::new(writers::WriterLimits),
             Box::new(writers::WrittenLines { count }),
             Box::new(writers::WrittenPages { count }),
+            Box::new(group3_writers::Limits),
+            Box::new(group3_writers::Written { count }),
             Box::new(limits::PageLimits),
         ];
         let mut tally = Tally::default();
