@@ -7,6 +7,10 @@
 #include <stddef.h>
 #include <stdint.h>
 
+#ifdef __cplusplus
+extern "C" {
+#endif
+
 /* number: 0 done; 1 invalid code; 2 unexpected end of the data; 3 overflow; 4 no entry left for a change; 5 no place left for a row's end with
            its mark;
            6 columns 4294967295 (for one line or a writer also 0); 7 data or output above 4294967296 bytes;
@@ -130,5 +134,9 @@ typedef struct {
 ccitt_heads_answer ccitt_heads(uint32_t columns, const uint32_t *changes, size_t changes_len, const uint64_t *ends, size_t ends_len,
                                const uint8_t *marks, size_t marks_len, const uint32_t *boxes, size_t boxes_len, uint64_t least,
                                int32_t quota);
+
+#ifdef __cplusplus
+}
+#endif
 
 #endif
