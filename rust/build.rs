@@ -37,7 +37,7 @@ fn main() {
 
 fn link() -> Result<(), String> {
     let arch = target()?;
-    let folder = match env::var_os(FOLDER) {
+    let folder = match env::var_os(FOLDER).filter(|folder| !folder.is_empty()) {
         Some(folder) => named(PathBuf::from(folder))?,
         None if arch == OURS => of_repository()?,
         None => {

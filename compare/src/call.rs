@@ -212,6 +212,7 @@ pub struct Call<'a> {
     pub ask: &'a Ask,
     pub exact: bool,
     pub plain: bool,
+    #[cfg_attr(not(any(feature = "linked", test)), allow(dead_code))]
     pub steps: Steps,
     pub room: Room,
     pub fill: u32,
