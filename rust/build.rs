@@ -9,12 +9,13 @@ const FOLDER: &str = "CCITT_LIBRARY";
 const FILE: &str = "libexports.a";
 
 /// What is called of it. A library without one of these is older than this package.
-const FUNCTIONS: [&str; 10] = [
+const FUNCTIONS: [&str; 11] = [
     "ccitt_decode_group4",
     "ccitt_decode_group3_1d",
     "ccitt_decode_group3_2d",
     "ccitt_read_line",
     "ccitt_read_row",
+    "ccitt_read_units",
     "ccitt_write_line",
     "ccitt_write_page",
     "ccitt_write_group3_1d",

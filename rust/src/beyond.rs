@@ -1,4 +1,4 @@
-//! What the crate has not: marks, the place of a fault, exact reading, rows one at a time, one line alone, writers, and the heads on a form.
+//! What the crate has not: marks, the place of a fault, exact reading, rows one at a time, a page a little at a time, one line alone, writers, and the heads on a form.
 //!
 //! A program that is written for the crate needs nothing of this.
 
@@ -6,13 +6,14 @@ mod fault;
 mod heads;
 mod line;
 mod rows;
+mod units;
 mod writers;
-// The unit form (A9) comes to a module of its own, with the library's function for it.
 
 pub use fault::Fault;
 pub use heads::{Heads, TickBox, heads};
 pub use line::{Line, read_line};
 pub use rows::{OwnedRow, Rows};
+pub use units::{Turn, Units};
 pub use writers::{write_group3_1d, write_group3_2d, write_line, write_page};
 
 use crate::DecodeSettings;

@@ -25,6 +25,14 @@ pub(crate) struct Answer {
     pub(crate) place: u64,
 }
 
+/// An answer of the unit form, as C has it.
+#[repr(C)]
+#[derive(Clone, Copy, Debug, Default)]
+pub(crate) struct UnitAnswer {
+    pub(crate) answer: Answer,
+    pub(crate) units: u64,
+}
+
 /// What is on a form, as C has it.
 #[repr(C)]
 #[derive(Clone, Copy, Debug)]
@@ -35,7 +43,7 @@ pub(crate) struct HeadsAnswer {
 }
 
 // In the order of include/ccitt.h. An answer of that size goes through a pointer before the other arguments, as x86-64 has it (System V); so declared,
-// a library that was compiled for another processor is called alike. The unit form (A9) is declared behind the row form, once the library has it.
+// a library that was compiled for another processor is called alike.
 #[rustfmt::skip]
 unsafe extern "C" {
     fn ccitt_decode_group4(answer: *mut Answer, src: *const u8, src_len: usize, columns: u32, rows: u32, end_of_block: bool, rows_are_byte_aligned: bool,
@@ -52,6 +60,9 @@ unsafe extern "C" {
     fn ccitt_read_row(answer: *mut Answer, src: *const u8, src_len: usize, columns: u32, rows: u32, end_of_block: bool, end_of_line: bool,
         rows_are_byte_aligned: bool, encoding: u32, strict: bool, exact: bool, plain: bool, state: *mut u64, state_len: usize,
         first: *mut u32, first_len: usize, second: *mut u32, second_len: usize);
+    fn ccitt_read_units(answer: *mut UnitAnswer, src: *const u8, src_len: usize, columns: u32, rows: u32, end_of_block: bool, rows_are_byte_aligned: bool,
+        strict: bool, exact: bool, plain: bool, changes: *mut u32, changes_len: usize, ends: *mut u64, ends_len: usize, marks: *mut u8, marks_len: usize,
+        state: *mut u64, state_len: usize, n: u64);
     fn ccitt_write_line(answer: *mut Answer, columns: u32, reference: *const u32, reference_len: usize, row: *const u32, row_len: usize,
         out: *mut u8, out_len: usize, at: u64);
     fn ccitt_write_page(answer: *mut Answer, columns: u32, changes: *const u32, changes_len: usize, ends: *const u64, ends_len: usize,
@@ -133,6 +144,19 @@ pub(crate) fn read_row(data: &[u8], settings: &Settings, state: &mut [u64; 10], 
     })
 }
 
+/// Reads at most `n` units of a Group 4 page into `rows`, which has room for as much as its vectors have entries.
+#[rustfmt::skip]
+pub(crate) fn read_units(data: &[u8], settings: &Settings, rows: &mut Rows, state: &mut [u64; 16], n: u64) -> UnitAnswer {
+    let DecodeSettings { columns, rows: count, end_of_block, rows_are_byte_aligned: aligned, strict, .. } = settings.settings;
+    let (src, exact, plain) = (data.as_ptr(), settings.exact, settings.plain);
+    let Rows { changes, ends, marks } = rows;
+    // SAFETY: each pointer stands with the length of its slice, and the four lent arrays and the answer are apart.
+    told(|answer| unsafe {
+        ccitt_read_units(answer, src, data.len(), columns, count, end_of_block, aligned, strict, exact, plain,
+            changes.as_mut_ptr(), changes.len(), ends.as_mut_ptr(), ends.len(), marks.as_mut_ptr(), marks.len(), state.as_mut_ptr(), state.len(), n);
+    })
+}
+
 /// Reads one 2D line that begins at bit `at`, under a reference.
 pub(crate) fn read_line(data: &[u8], at: u64, columns: u32, strict: bool, reference: &[u32], changes: &mut [u32]) -> Answer {
     let (src, under, to) = (data.as_ptr(), reference.as_ptr(), changes.as_mut_ptr());
@@ -192,8 +216,8 @@ pub(crate) fn heads(page: Page<'_>, marks: &[u8], boxes: &[u32; 80], least: u64,
 }
 
 /// Calls the library, which tells its answer through a pointer.
-fn told(call: impl FnOnce(*mut Answer)) -> Answer {
-    let mut answer = Answer::default();
+fn told<A: Default>(call: impl FnOnce(*mut A)) -> A {
+    let mut answer = A::default();
     call(&mut answer);
     answer
 }

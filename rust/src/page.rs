@@ -57,7 +57,7 @@ impl Memory {
 }
 
 /// A page has at most one change for each bit and one more, which is proved, and at most `columns` in each of its rows.
-fn changes_of(data: &[u8], settings: &Settings) -> usize {
+pub(crate) fn changes_of(data: &[u8], settings: &Settings) -> usize {
     let page = match settings.settings.rows {
         0 => usize::MAX,
         rows => (settings.settings.columns as usize).saturating_mul(rows as usize),
@@ -66,7 +66,7 @@ fn changes_of(data: &[u8], settings: &Settings) -> usize {
 }
 
 /// It has at most one row for each bit and one more, which is proved, and no more than it is to have.
-fn rows_of(data: &[u8], settings: &Settings) -> usize {
+pub(crate) fn rows_of(data: &[u8], settings: &Settings) -> usize {
     match settings.settings.rows {
         0 => bits_and_one(data),
         rows => bits_and_one(data).min(rows as usize),
