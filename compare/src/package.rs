@@ -11,8 +11,9 @@ mod standin;
 use crate::call::{Answer, Ask, BYTE_MARGIN, Form, Layout, Room, Steps, pattern_byte};
 use crate::check::{Case, Plan, Source, Tally, hex};
 use crate::random::Random;
-use crate::settings::Settings;
+use crate::settings::{Encoding, Settings};
 use crate::truth::Wanted;
+use std::num::NonZeroU64;
 
 /// How a page is asked of it.
 #[derive(Clone, Copy, Debug)]
@@ -23,6 +24,9 @@ pub enum Way {
     Marked { exact: bool, plain: bool },
     /// By `beyond::Rows`, which gives rows to keep, or lends them.
     Rows { exact: bool, plain: bool, lent: bool },
+    /// By `beyond::Units`, so many units a call, with room for so many changes and rows at first; a Group 4 page alone. The page has so many units, where
+    /// that is known.
+    Units { exact: bool, plain: bool, most: NonZeroU64, room: Option<(usize, usize)>, total: Option<u64> },
 }
 
 /// The package. What it hands over is told in the words of the library's answers; a writer is given what its output holds before.
@@ -76,7 +80,7 @@ fn ask(package: &mut dyn Package, case: &Case, random: &mut Random) -> Vec<Asked
         Form::Page(_) => {
             let src = ask.data();
             let published = plans.iter().find(|plan| !plan.exact).map(|plan| by_callback(package, ask, &src, plan, random));
-            let other = by_other_ways(package, ask, &src, plan, random);
+            let other = by_other_ways(package, case, &src, plan, random);
             published.into_iter().chain([other]).collect()
         }
         Form::ReadLine => vec![("one line".to_string(), without_loose(plan.wanted.clone()), package.line(ask, &ask.data()))],
@@ -94,13 +98,29 @@ fn by_callback(package: &mut dyn Package, ask: &Ask, src: &[u8], plan: &Plan, ra
     (format!("{way:?}"), as_published(&ask.settings, &plan.wanted), package.page(way, &ask.settings, src))
 }
 
-fn by_other_ways(package: &mut dyn Package, ask: &Ask, src: &[u8], plan: &Plan, random: &mut Random) -> Asked {
+fn by_other_ways(package: &mut dyn Package, case: &Case, src: &[u8], plan: &Plan, random: &mut Random) -> Asked {
     let Plan { exact, plain, .. } = *plan;
-    let (way, wanted) = match random.below(3) {
+    let settings = &case.ask.settings;
+    let ways = if settings.encoding == Encoding::Group4 { 4 } else { 3 };
+    let (way, wanted) = match random.below(ways) {
         0 => (Way::Marked { exact, plain }, without_loose(plan.wanted.clone())),
+        3 => (by_unit(case, src, plan, random), plan.wanted.clone()),
         lent => (Way::Rows { exact, plain, lent: lent == 1 }, plan.wanted.clone()),
     };
-    (format!("{way:?}"), wanted, package.page(way, &ask.settings, src))
+    (format!("{way:?}"), wanted, package.page(way, settings, src))
+}
+
+/// One unit a call, a few or many, but of a long page no fewer than 1 / 64 of its bytes; from any room.
+fn by_unit(case: &Case, src: &[u8], plan: &Plan, random: &mut Random) -> Way {
+    let few = [0, 4, 300][random.index(3)];
+    let most = NonZeroU64::MIN.saturating_add(src.len() as u64 / 64 + random.below(few + 1));
+    let (changes, rows) = (plan.wanted.changes.len() + 2, plan.wanted.ends.len() + 2);
+    let room = random.bool().then(|| (random.index(changes), random.index(rows)));
+    let total = case.plans.iter().find_map(|other| match other.steps {
+        Steps::Units(total) if other.exact == plan.exact => total,
+        _ => None,
+    });
+    Way::Units { exact: plan.exact, plain: plan.plain, most, room, total }
 }
 
 /// What the crate's interface shows: whole rows, and no mark and no place. Columns 0 are answered before all else, and what is beyond the limits is 3.

@@ -6,6 +6,7 @@ use crate::settings::{Encoding, Settings};
 use crate::truth::Wanted;
 use drop_in::beyond::{self, Fault, Mark, Row};
 use drop_in::{DecodeError, DecodeSettings, Decoder, DecoderContext, EncodingMode};
+use std::num::NonZeroU64;
 
 pub struct Called;
 
@@ -69,6 +70,14 @@ impl Package for Called {
                 sink.ended(told(end.map(|bytes| bytes as u64)))
             }
             Way::Rows { exact, plain, lent } => by_row(src, beyond::Settings { settings: s, exact, plain }, lent),
+            Way::Units { exact, plain, most, room, total } => {
+                let settings = beyond::Settings { settings: s, exact, plain };
+                let page = match room {
+                    Some((changes, rows)) => beyond::Units::with_room(src, settings, changes, rows),
+                    None => beyond::Units::new(src, settings),
+                };
+                by_unit(page, most, total)
+            }
         }
     }
 
@@ -139,6 +148,28 @@ fn by_row(src: &[u8], settings: beyond::Settings, lent: bool) -> Wanted {
     let mut wanted = sink.ended(told(end.map(|()| bytes.map_or(0, |bytes| bytes as u64))));
     wanted.answer.loose = rows.unfinished().len() as u64;
     wanted.changes.extend_from_slice(rows.unfinished());
+    wanted
+}
+
+/// Each call takes as many units as it is to take, unless the page ends, and after the end none.
+fn by_unit(mut page: beyond::Units, most: NonZeroU64, total: Option<u64>) -> Wanted {
+    let mut units = 0;
+    let last = loop {
+        let turn = page.read(most);
+        units += turn.units;
+        if !turn.more || turn.units != most.get() {
+            break turn;
+        }
+    };
+    let after = page.read(most);
+    let (Some(end), false) = (page.end(), last.more || after.more || after.units > 0 || total.is_some_and(|total| total != units)) else {
+        return Wanted::untouched(Answer::bare(ODD));
+    };
+    let mut sink = Sink::default();
+    page.rows().for_each(|row| sink.marked(row));
+    let mut wanted = sink.ended(told(end.map(|bytes| bytes as u64)));
+    wanted.answer.loose = page.unfinished().len() as u64;
+    wanted.changes.extend_from_slice(page.unfinished());
     wanted
 }
 

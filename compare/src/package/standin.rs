@@ -28,6 +28,8 @@ enum Fault {
     UnfinishedLost,
     PlainPlace,
     LentRow,
+    UnitMissed,
+    GrownRowLost,
     ExactUnasked,
     ShortIsDone,
     EndOfALine,
@@ -42,7 +44,7 @@ enum Fault {
     NextOneD,
 }
 
-const FAULTS: [Fault; 26] = [
+const FAULTS: [Fault; 28] = [
     Fault::FirstRowLost,
     Fault::LastRowTwice,
     Fault::RowsOfAnErrorLost,
@@ -57,6 +59,8 @@ const FAULTS: [Fault; 26] = [
     Fault::UnfinishedLost,
     Fault::PlainPlace,
     Fault::LentRow,
+    Fault::UnitMissed,
+    Fault::GrownRowLost,
     Fault::ExactUnasked,
     Fault::ShortIsDone,
     Fault::EndOfALine,
@@ -84,6 +88,18 @@ impl Package for Standin {
                 self.spoil_marked(plain, false, super::without_loose(whole(&self.outcome(settings, exact, src))))
             }
             Way::Rows { exact, plain, lent } => self.spoil_marked(plain, lent, whole(&self.outcome(settings, exact, src))),
+            Way::Units { exact, plain, most, room, total } => {
+                let outcome = self.outcome(settings, exact, src);
+                let units = outcome.units - u64::from(self.0 == Fault::UnitMissed && most.get() == 1 && outcome.units > 1);
+                if total.is_some_and(|total| total != units) {
+                    return Wanted::untouched(Answer::bare(u32::MAX));
+                }
+                let mut wanted = whole(&outcome);
+                if self.0 == Fault::GrownRowLost && room.is_some_and(|room| room.1 < wanted.ends.len()) {
+                    keep(&mut wanted, |rows| rows.remove(0));
+                }
+                self.spoil_marked(plain, false, wanted)
+            }
         }
     }
 
