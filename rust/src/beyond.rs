@@ -17,7 +17,8 @@ pub use units::{Turn, Units};
 pub use writers::{write_group3_1d, write_group3_2d, write_line, write_page};
 
 use crate::DecodeSettings;
-use crate::page::{MOST, Memory};
+use crate::page::Memory;
+use crate::room::MOST;
 
 /// How a page is read: the crate's settings, and two more.
 #[derive(Copy, Clone, Debug)]

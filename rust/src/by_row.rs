@@ -2,15 +2,8 @@
 
 use crate::beyond::Settings;
 use crate::library::{self, Answer};
+use crate::room::longer;
 use alloc::vec::Vec;
-
-/// The answer to a call that gave a row.
-pub(crate) const ROW: u32 = 15;
-/// The answer to a row that has more changes than its line array holds.
-const NO_ENTRY: u32 = 4;
-
-/// The entries that a line array has at first, once a row has any.
-const SOME: usize = 16;
 
 /// A page that is being read: the library's ten numbers, and the two line arrays.
 #[derive(Default)]
@@ -32,12 +25,12 @@ impl ByRow {
             let before = self.state;
             let [first, second] = &mut self.lines;
             let answer = library::read_row(data, settings, &mut self.state, first, second);
-            if answer.number != NO_ENTRY {
+            if answer.number != Answer::NO_ENTRY {
                 return answer;
             }
             self.state = before;
-            let line = &mut self.lines[self.other()];
-            line.resize((2 * line.len()).max(SOME), 0);
+            let other = self.other();
+            longer(&mut self.lines[other]);
         }
     }
 

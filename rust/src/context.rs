@@ -1,4 +1,5 @@
-use crate::page::{MOST, Memory, Room};
+use crate::page::Memory;
+use crate::room::{MOST, Room};
 use crate::{DecodeSettings, Decoder, beyond::Settings, library::Answer};
 
 /// A reusable context for decoding CCITT images.

@@ -74,6 +74,7 @@ mod context;
 mod error;
 mod library;
 mod page;
+mod room;
 
 pub use context::DecoderContext;
 pub use error::{DecodeError, Result};

@@ -25,6 +25,17 @@ pub(crate) struct Answer {
     pub(crate) place: u64,
 }
 
+impl Answer {
+    /// No entry left for a change.
+    pub(crate) const NO_ENTRY: u32 = 4;
+    /// No place left for a row's end with its mark.
+    pub(crate) const NO_PLACE: u32 = 5;
+    /// The bits do not fit.
+    pub(crate) const NO_ROOM: u32 = 9;
+    /// A row, or the units that were asked for, were read, and there may be more.
+    pub(crate) const MORE: u32 = 15;
+}
+
 /// An answer of the unit form, as C has it.
 #[repr(C)]
 #[derive(Clone, Copy, Debug, Default)]

@@ -1,18 +1,9 @@
 //! A whole page, its rows handed over one after the other.
 
 use crate::beyond::{Mark, Row, Settings};
-use crate::by_row::{ByRow, ROW};
+use crate::by_row::ByRow;
 use crate::library::{self, Answer};
-
-/// The most entries and rows that the page form is lent: 16 MiB and 576 KiB, of which a page takes what its rows have.
-pub(crate) const MOST: Room = Room { changes: 1 << 22, rows: 1 << 16 };
-
-/// How many changes and rows are held at a time.
-#[derive(Clone, Copy, Debug)]
-pub(crate) struct Room {
-    pub(crate) changes: usize,
-    pub(crate) rows: usize,
-}
+use crate::room::{Room, changes_of, rows_of};
 
 /// The memory of a reading, kept from page to page.
 #[derive(Default)]
@@ -38,7 +29,10 @@ impl Memory {
             push(Row { changes: &self.rows.changes[start..end], mark: Mark::of(mark.into()) });
             start = end;
         }
-        if matches!(answer.number, 4 | 5) { self.read_on(data, settings, answer.rows, push) } else { answer }
+        match answer.number {
+            Answer::NO_ENTRY | Answer::NO_PLACE => self.read_on(data, settings, answer.rows, push),
+            _ => answer,
+        }
     }
 
     /// The same page from its first row, of which so many have been handed over.
@@ -46,7 +40,7 @@ impl Memory {
         self.by_row.begin();
         loop {
             let answer = self.by_row.read(data, settings);
-            if answer.number != ROW {
+            if answer.number != Answer::MORE {
                 return answer;
             }
             if answer.rows > pushed {
@@ -54,25 +48,4 @@ impl Memory {
             }
         }
     }
-}
-
-/// A page has at most one change for each bit and one more, which is proved, and at most `columns` in each of its rows.
-pub(crate) fn changes_of(data: &[u8], settings: &Settings) -> usize {
-    let page = match settings.settings.rows {
-        0 => usize::MAX,
-        rows => (settings.settings.columns as usize).saturating_mul(rows as usize),
-    };
-    bits_and_one(data).min(page)
-}
-
-/// It has at most one row for each bit and one more, which is proved, and no more than it is to have.
-pub(crate) fn rows_of(data: &[u8], settings: &Settings) -> usize {
-    match settings.settings.rows {
-        0 => bits_and_one(data),
-        rows => bits_and_one(data).min(rows as usize),
-    }
-}
-
-fn bits_and_one(data: &[u8]) -> usize {
-    data.len().saturating_mul(8).saturating_add(1)
 }

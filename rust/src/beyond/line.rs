@@ -1,5 +1,6 @@
 use super::{Fault, Mark};
-use crate::library;
+use crate::library::{self, Answer};
+use crate::room::longer;
 use alloc::vec;
 use alloc::vec::Vec;
 
@@ -33,8 +34,8 @@ pub fn read_line(data: &[u8], at: u64, columns: u32, strict: bool, reference: &[
     let mut changes = vec![0; reference.len() + 16];
     loop {
         let answer = library::read_line(data, at, columns, strict, reference, &mut changes);
-        if answer.number == 4 {
-            changes.resize(2 * changes.len(), 0);
+        if answer.number == Answer::NO_ENTRY {
+            longer(&mut changes);
             continue;
         }
         Fault::unless_done(&answer)?;

@@ -1,5 +1,6 @@
 use super::{Fault, Mark, Row, Settings};
-use crate::by_row::{ByRow, ROW};
+use crate::by_row::ByRow;
+use crate::library::Answer;
 use alloc::vec::Vec;
 use core::iter::FusedIterator;
 
@@ -95,7 +96,7 @@ impl<'a> Rows<'a> {
             return end.map(|_| None);
         }
         let answer = self.by_row.read(self.data, &self.settings);
-        if answer.number == ROW {
+        if answer.number == Answer::MORE {
             return Ok(Some(Row { changes: self.by_row.row(), mark: Mark::of(answer.mark) }));
         }
         let end = Fault::unless_done(&answer).map(|()| answer.bytes as usize);

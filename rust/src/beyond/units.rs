@@ -1,18 +1,8 @@
 use super::{Fault, Mark, Row, Settings};
 use crate::library::{self, Answer};
-use crate::page::{MOST, changes_of, rows_of};
+use crate::room::{MOST, changes_of, longer, rows_of};
 use alloc::vec;
-use alloc::vec::Vec;
 use core::num::NonZeroU64;
-
-/// The answer to a call that left units to be taken.
-const MORE: u32 = 15;
-/// The answers to a change without an entry, and to a row without a place for its end.
-const NO_ENTRY: u32 = 4;
-const NO_PLACE: u32 = 5;
-
-/// The entries that an array has at least once it has grown.
-const SOME: usize = 16;
 
 /// A Group 4 page that is read a little at a time, so that no call takes long.
 ///
@@ -90,7 +80,7 @@ impl<'a> Units<'a> {
         }
         let library::UnitAnswer { answer, units } = self.take(n.get());
         self.kept = (answer.rows as usize, answer.entries as usize, answer.loose as usize);
-        let more = answer.number == MORE;
+        let more = answer.number == Answer::MORE;
         self.end = (!more).then(|| Fault::unless_done(&answer).map(|()| answer.bytes as usize));
         Turn { units, more }
     }
@@ -110,8 +100,8 @@ impl<'a> Units<'a> {
     /// Makes more room, if an answer asks for it.
     fn grown(&mut self, answer: &Answer) -> bool {
         match answer.number {
-            NO_ENTRY => longer(&mut self.store.changes),
-            NO_PLACE => {
+            Answer::NO_ENTRY => longer(&mut self.store.changes),
+            Answer::NO_PLACE => {
                 longer(&mut self.store.ends);
                 longer(&mut self.store.marks);
             }
@@ -139,8 +129,4 @@ impl<'a> Units<'a> {
         let (_, entries, loose) = self.kept;
         &self.store.changes[entries..entries + loose]
     }
-}
-
-fn longer<T: Clone + Default>(list: &mut Vec<T>) {
-    list.resize((2 * list.len()).max(SOME), T::default());
 }

@@ -7,8 +7,6 @@ use alloc::vec::Vec;
 
 /// The most bytes of output that the library takes.
 const LIMIT: usize = 1 << 32;
-/// The answer to bits that do not fit.
-const NO_ROOM: u32 = 9;
 
 /// Writes a page by T.6 (Group 4), with EOFB at its end. Each row has the positions at which the color changes, ascending strictly below the columns.
 ///
@@ -154,7 +152,7 @@ fn page<R: AsRef<[u32]>>(layout: Layout, columns: u32, rows: impl IntoIterator<I
 fn write(out: &mut Vec<u8>, at: u64, mut more: usize, mut write: impl FnMut(&mut [u8]) -> Answer) -> Result<Answer, Fault> {
     loop {
         let answer = write(out);
-        if answer.number != NO_ROOM {
+        if answer.number != Answer::NO_ROOM {
             return Fault::unless_done(&answer).map(|()| answer);
         }
         if at > 8 * out.len() as u64 {

@@ -1,0 +1,43 @@
+//! Room for what is read: how much is lent at most, how much a page can need, and how it grows.
+
+use crate::beyond::Settings;
+use alloc::vec::Vec;
+
+/// The most entries and rows that the page form is lent: 16 MiB and 576 KiB, of which a page takes what its rows have.
+pub(crate) const MOST: Room = Room { changes: 1 << 22, rows: 1 << 16 };
+
+/// How many changes and rows are held at a time.
+#[derive(Clone, Copy, Debug)]
+pub(crate) struct Room {
+    pub(crate) changes: usize,
+    pub(crate) rows: usize,
+}
+
+/// A page has at most one change for each bit and one more, which is proved, and at most `columns` in each of its rows.
+pub(crate) fn changes_of(data: &[u8], settings: &Settings) -> usize {
+    let page = match settings.settings.rows {
+        0 => usize::MAX,
+        rows => (settings.settings.columns as usize).saturating_mul(rows as usize),
+    };
+    bits_and_one(data).min(page)
+}
+
+/// It has at most one row for each bit and one more, which is proved, and no more than it is to have.
+pub(crate) fn rows_of(data: &[u8], settings: &Settings) -> usize {
+    match settings.settings.rows {
+        0 => bits_and_one(data),
+        rows => bits_and_one(data).min(rows as usize),
+    }
+}
+
+fn bits_and_one(data: &[u8]) -> usize {
+    data.len().saturating_mul(8).saturating_add(1)
+}
+
+/// The entries that a list has at least once it has grown.
+const SOME: usize = 16;
+
+/// Twice as many entries. What it held stays where it was.
+pub(crate) fn longer<T: Clone + Default>(list: &mut Vec<T>) {
+    list.resize((2 * list.len()).max(SOME), T::default());
+}
