@@ -1,5 +1,5 @@
-/* Reads a Group 4 page from C: a row at a time, showing one of its rows; then whole, to write it again in each of the encodings, and to count the heads on
-   it, where it is one of the booking forms of this folder.
+/* Reads a Group 4 page from C, with every function of ccitt.h: a row at a time, showing one of its rows; whole; and a little at a time. Writes the line of
+   that row and the page in each of the encodings, reads them again, and counts the heads on it, where it is one of the booking forms of this folder.
 
        cc -I include examples/page.c target/staticlib/libexports.a -o target/page
        target/page examples/forty.g4 1728 213 */
@@ -46,12 +46,43 @@ static ccitt_answer by_row(size_t length, uint32_t columns, uint64_t shown) {
     return a;
 }
 
-/* What a writer wrote, read again: all of it, and the same rows? */
-static void compare(const char *encoding, const ccitt_answer *a) {
+/* The rows that were read again: those of the page? */
+static const char *which_rows(void) {
     size_t changes = (size_t)page.answer.entries * sizeof *page.changes, ends = (size_t)page.answer.rows * sizeof *page.ends;
-    bool same = again.answer.number == 0 && again.answer.bytes == a->bytes && again.answer.rows == page.answer.rows;
-    same = same && memcmp(again.changes, page.changes, changes) == 0 && memcmp(again.ends, page.ends, ends) == 0;
-    printf("written in %s: answer %u, %llu bytes, read again as %s\n", encoding, (unsigned)a->number, (unsigned long long)a->bytes, same ? "the same rows" : "others");
+    bool same = again.answer.rows == page.answer.rows && memcmp(again.changes, page.changes, changes) == 0 && memcmp(again.ends, page.ends, ends) == 0;
+    return same ? "the same rows" : "other rows";
+}
+
+/* A little at a time: at most 256 codes or EOLs a call. */
+static void by_unit(size_t length) {
+    uint64_t state[CCITT_UNIT_STATE] = {0}, units = 0;
+    ccitt_unit_answer u;
+    do {
+        u = ccitt_read_units(data, length, page.columns, 0, true, false, true, false, false, again.changes, ROOM, again.ends, ROOM, again.marks, ROOM, state, CCITT_UNIT_STATE, 256);
+        units += u.units;
+    } while (u.answer.number == 15);
+    again.answer = u.answer;
+    printf("in %llu units: answer %u, %s\n", (unsigned long long)units, (unsigned)u.answer.number, which_rows());
+}
+
+/* Where row n begins; the first is row 0. */
+static size_t start(uint64_t n) { return n ? (size_t)page.ends[n - 1] : 0; }
+
+/* One row alone: its line under the row above. */
+static void one_line(uint64_t shown) {
+    if (shown < 2 || page.answer.rows < shown) return;
+    const uint32_t *above = page.changes + start(shown - 2), *row = page.changes + start(shown - 1);
+    size_t above_len = (size_t)(row - above), row_len = start(shown) - start(shown - 1);
+    ccitt_answer w = ccitt_write_line(page.columns, above, above_len, row, row_len, written, LONGEST, 0);
+    ccitt_answer r = ccitt_read_line(written, (size_t)(w.bytes + 7) / 8, 0, page.columns, true, above, above_len, first, ROOM);
+    bool same = r.number == 0 && r.bytes == w.bytes && r.entries == row_len && memcmp(first, row, row_len * sizeof *row) == 0;
+    printf("its line: answer %u, %llu bits, read again as %s\n", (unsigned)w.number, (unsigned long long)w.bytes, same ? "the same row" : "another");
+}
+
+/* What a writer wrote, read again: all of it? */
+static void compare(const char *encoding, const ccitt_answer *a) {
+    bool whole = again.answer.number == 0 && again.answer.bytes == a->bytes;
+    printf("written in %s: answer %u, %llu bytes, read again as %s\n", encoding, (unsigned)a->number, (unsigned long long)a->bytes, whole ? which_rows() : "another page");
 }
 
 static void write_again(void) {
@@ -96,10 +127,13 @@ int main(int count, char **words) {
     fclose(file);
     page.columns = (uint32_t)strtoul(words[2], NULL, 10);
 
-    ccitt_answer a = by_row(length, page.columns, strtoull(words[3], NULL, 10));
+    uint64_t shown = strtoull(words[3], NULL, 10);
+    ccitt_answer a = by_row(length, page.columns, shown);
     show(&a);
     page.answer = ccitt_decode_group4(data, length, page.columns, 0, true, false, true, false, false, page.changes, ROOM, page.ends, ROOM, page.marks, ROOM);
     if (memcmp(&page.answer, &a, sizeof a) != 0) printf("the page form says otherwise\n");
+    by_unit(length);
+    one_line(shown);
     write_again();
     count_heads();
     return 0;

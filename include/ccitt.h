@@ -1,5 +1,7 @@
 /* The fax decoder, the T.6 writers, the Group 3 writers and the heads on the form for C. Link target/staticlib/libexports.a (rt staticlib exports).
-   Every function tests for itself, takes any bytes, settings and arrays, and answers a number of the list below. */
+   Every function tests for itself, takes any bytes, settings and arrays, and answers a number of the list below. A pointer points at as many entries as
+   the length behind it says, and what is lent to be written overlaps nothing else that is lent. Nothing is kept from call to call, nothing is on the heap,
+   and a call takes some 40 KiB of stack. */
 #ifndef CCITT_H
 #define CCITT_H
 
@@ -17,6 +19,7 @@ extern "C" {
            8 a row or reference that does not ascend strictly below the columns, or row ends that fall or pass the array, or a Group 3 page of no
            rows to write; 9 the bits do not fit; 10 fill above 64, a K of 0 or above 65535, or no units to take;
            14 an exact page that ends with fewer rows than it is to have; 15 a row, or the units that were asked for, were read, and there may be more.
+           Refusals are tested in the order 6, 7, 10, 8, 9; by the unit form 10 before them all.
    mark:    for a form that gives one row its mark: 0 clean, 1 cut to the width, 2 recovered; else 0.
    rows:    rows kept. Row n's changes lie in `changes` from ends[n - 1] (0 for the first) to ends[n].
    entries: entries in kept rows.
