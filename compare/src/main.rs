@@ -82,21 +82,18 @@ fn compare(arguments: &Arguments) -> std::io::Result<bool> {
     }
     let workers = std::thread::available_parallelism().map_or(1, usize::from);
     let mut ours = ours::open(workers)?;
-    let (mut passed, mut failed, mut inputs, mut calls) = (0, 0, 0, 0);
+    let (mut passed, mut failed, mut all) = (0, 0, Tally::default());
+    let mut count = |tally: Tally| {
+        *(if tally.passed() { &mut passed } else { &mut failed }) += 1;
+        all.add(tally);
+    };
     let mut sources = sources(arguments.more, ours[0].writes());
     sources.retain(|source| source.name().contains(&arguments.only));
     for source in sources {
-        let tally = run_one(source.as_ref(), arguments.seed, &mut ours);
-        inputs += tally.inputs;
-        calls += tally.calls;
-        if tally.passed() { passed += 1 } else { failed += 1 }
+        count(run_one(source.as_ref(), arguments.seed, &mut ours));
     }
-    for tally in run_heads(arguments) {
-        inputs += tally.inputs;
-        calls += tally.calls;
-        if tally.passed() { passed += 1 } else { failed += 1 }
-    }
-    println!("{inputs} inputs, {calls} calls; the line below counts checks");
+    run_heads(arguments).into_iter().for_each(count);
+    println!("{}; the line below counts checks", all.asked());
     println!("{passed} passed, {failed} failed");
     Ok(failed == 0)
 }
@@ -127,7 +124,7 @@ fn run_heads(arguments: &Arguments) -> Vec<Tally> {
 }
 
 fn told(name: &str, began: Instant, tally: Tally) -> Tally {
-    println!("{name}: {} inputs, {} calls, {} differ ({:.1} s)", tally.inputs, tally.calls, tally.differing, began.elapsed().as_secs_f64());
+    println!("{name}: {}, {} differ ({:.1} s)", tally.asked(), tally.differing, began.elapsed().as_secs_f64());
     if let Some((_, text)) = &tally.smallest {
         println!("{text}");
     }

@@ -51,6 +51,7 @@ pub fn compare(package: &mut dyn Package, source: &dyn Source, seed: u64, start:
         }
         for (asked, wanted, given) in ask(package, case, &mut random) {
             tally.calls += 1;
+            tally.by_package += 1;
             if given != wanted {
                 let s = &case.ask.settings;
                 let data = hex(&case.ask.src);

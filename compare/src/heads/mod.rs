@@ -39,6 +39,11 @@ pub trait Reader {
         NAME
     }
 
+    /// Whether it is the package.
+    fn is_package(&self) -> bool {
+        false
+    }
+
     /// Answers every one, in order; nothing where it cannot be asked.
     fn heads(&self, asks: &[Ask]) -> Vec<Option<HeadsAnswer>>;
 
@@ -76,6 +81,7 @@ pub fn run(reader: &dyn Reader, seed: u64, count: u64) -> Tally {
                 continue;
             };
             tally.calls += 1;
+            tally.by_package += u64::from(reader.is_package());
             given[wanted.number as usize] += 1;
             if got != wanted {
                 tally.differs(size(ask), || describe(index, ask, &wanted, &got));

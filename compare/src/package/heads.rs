@@ -12,6 +12,10 @@ impl Reader for PackageHeads {
         "heads on the form, by the package"
     }
 
+    fn is_package(&self) -> bool {
+        true
+    }
+
     fn heads(&self, asks: &[Ask]) -> Vec<Option<HeadsAnswer>> {
         asks.iter().map(one).collect()
     }

@@ -268,7 +268,7 @@ mod tests {
         if let Some((_, text)) = &tally.smallest {
             println!("{fault:?}:\n{text}");
         }
-        assert!(tally.calls > 2 * count, "the package is asked");
+        assert!(tally.by_package > 2 * count, "the package is asked");
         tally.differing
     }
 
