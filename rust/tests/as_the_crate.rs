@@ -130,3 +130,27 @@ fn a_decoder_that_panics_leaves_nothing_broken() {
     assert_eq!(decode(&[0xFF; 100], &mut rows, &mut context), Ok(100));
     assert_eq!(rows.0, white(800));
 }
+
+/// Reads a page for each of its rows.
+struct Nested(usize);
+
+impl Decoder for Nested {
+    fn push_row(&mut self, changes: &[u32]) {
+        assert_eq!(changes, [0; 0]);
+        let (result, rows) = read(GROUP_4, &[0xFF; 100]);
+        assert_eq!(result, Ok(100));
+        self.0 += rows.len();
+    }
+}
+
+/// A page may be read while another is, in the same thread and in others.
+#[test]
+fn pages_are_read_within_pages_and_side_by_side() {
+    let nested = || {
+        let mut nested = Nested(0);
+        assert_eq!(decode(&[0xFF; 10], &mut nested, &mut DecoderContext::new(GROUP_4)), Ok(10));
+        nested.0
+    };
+    let threads = [(); 4].map(|()| std::thread::spawn(nested));
+    assert_eq!(threads.map(|thread| thread.join().unwrap()), [80 * 800; 4]);
+}

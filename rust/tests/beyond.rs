@@ -1,8 +1,8 @@
 //! What is this package's own: its limits, pages that are more than it holds, and what `beyond` has.
 
-use hayro_ccitt::beyond::{Fault, Mark, Rows, Settings, read_line, read_page, write_line, write_page};
+use hayro_ccitt::beyond::{Fault, Mark, Rows, Settings, Units, read_line, read_page, write_line, write_page};
 use hayro_ccitt::{DecodeError, DecodeSettings, Decoder, DecoderContext, EncodingMode, Result, decode};
-use std::panic::{AssertUnwindSafe, catch_unwind};
+use std::panic::{AssertUnwindSafe, RefUnwindSafe, UnwindSafe, catch_unwind};
 
 const GROUP_4: DecodeSettings = DecodeSettings {
     columns: 8,
@@ -112,6 +112,16 @@ fn a_panic_leaves_nothing_broken() {
         assert_eq!(decode(&page, &mut sink, &mut context), Ok(page.len()));
         assert_eq!(sink.rows, rows);
     }
+}
+
+#[test]
+fn items_may_go_to_other_threads() {
+    fn is<T: Send + Sync + Unpin + UnwindSafe + RefUnwindSafe>() {}
+    is::<Rows<'_>>();
+    is::<Units<'_>>();
+    is::<Settings>();
+    let boxed: Box<dyn std::error::Error + Send + Sync> = Fault::NotARow.into();
+    assert_eq!(boxed.to_string(), "a row that does not ascend strictly below the columns");
 }
 
 #[test]
