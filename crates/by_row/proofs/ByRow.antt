@@ -21,7 +21,7 @@ use Rattle.rules.proofs.Ascending.{ascends-rises}
 use Rattle.rules.proofs.Budget.{whole-bytes}
 use Rattle.rules.proofs.ByRow.{Bounded, row-bounded}
 use Rattle.tables.specs.Tables.{Lookups}
-use Rattle.context.specs.declared.two.Reference.the-variants.{Lent}
+use Rattle.context.specs.declared.reference.Reference.the-variants.{Lent}
 use Rattle.rows.specs.declared.DecodeSettings.{DecodeSettings}
 use Rattle.rows.specs.declared.State.{State}
 use Rattle.rows.specs.declared.Row.{Row}

@@ -1,7 +1,7 @@
 // The row form (02, A1): one row a call, into one of two lent line arrays, under the row that the call before it left in the other. The same
 // two arrays are lent in the same order at each call, and the state is handed back as left.
 use context::reference;
-use context::two::Reference;
+use context::reference::Reference;
 use error::Answer;
 use rows::DecodeSettings;
 use rows::Row;
@@ -258,8 +258,8 @@ fn next_row(
     if settings.columns == 0 {
         return no_columns(state);
     }
-    let white = tables::white_lookup();
-    let black = tables::black_lookup();
+    let white = lookups::white_lookup();
+    let black = lookups::black_lookup();
     let pairs = tables::pair_lookup();
     let held = state.held;
     let between = State {

@@ -29,13 +29,13 @@ use Rattle.context.specs.declared.line.Line.{Line}
 use Rattle.context.specs.declared.reference.Found.{Found}
 use Rattle.context.specs.declared.step.Step.{Step}
 use Rattle.context.specs.declared.step.Step.the-variants as Step
-use Rattle.context.specs.declared.once.OneCode.{OneCode}
-use Rattle.context.specs.declared.once.OneCode.the-variants.{Runs, Did}
+use Rattle.one_line.specs.declared.once.OneCode.{OneCode}
+use Rattle.one_line.specs.declared.once.OneCode.the-variants.{Runs, Did}
 use Rattle.context.specs.State.{lineAt, rulesFor, flagNumber, Holds}
 use Rattle.context.specs.Outcome.{stepFor, Steps}
 use Rattle.context.specs.Reference.{Searches, Finds}
 use Rattle.context.specs.Coding.{unlessIdleFor}
-use Rattle.context.specs.OneCode.{OneCoding, OneCoded, RunEnded}
+use Rattle.one_line.specs.OneCode.{OneCoding, OneCoded, RunEnded}
 use Rattle.context.proofs.Carried.{step-on}
 use Rattle.context.proofs.RowPart.{row-lent, row-back}
 use Rattle.rows.specs.declared.DecodeSettings.{DecodeSettings}

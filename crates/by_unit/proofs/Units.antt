@@ -42,8 +42,8 @@ use Rattle.context.specs.State.{lineAt, lineFor, rulesFor, changesOf}
 use Rattle.context.specs.Outcome.{stepFor, Steps}
 use Rattle.context.specs.Reference.{Passed}
 use Rattle.context.specs.Coding.{unlessIdleFor}
-use Rattle.context.specs.OneCode.{RunsAt, RunEnded}
-use Rattle.context.specs.declared.two.Reference.the-variants as Reference
+use Rattle.one_line.specs.OneCode.{RunsAt, RunEnded}
+use Rattle.context.specs.declared.reference.Reference.the-variants as Reference
 use Rattle.context.proofs.State.{line-for}
 use Rattle.context.proofs.Carried.{Carries, carries-new, carries-holds, carries-line}
 use Rattle.context.proofs.RowPart.{reference-same}

@@ -237,8 +237,8 @@ fn turn_on(
     if settings.columns == 0 {
         return ended(error::refusal(0), 0);
     }
-    let white = tables::white_lookup();
-    let black = tables::black_lookup();
+    let white = lookups::white_lookup();
+    let black = lookups::black_lookup();
     let kept = state::kept(ends, saved);
     let at = state::stand(settings.columns, saved);
     let read = as_read(settings);

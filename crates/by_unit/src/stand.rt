@@ -3,7 +3,7 @@ use codes::eol;
 use codes::eol::Eols;
 use context::line;
 use context::line::Line;
-use context::two::Reference;
+use context::reference::Reference;
 use error::Answer;
 use rows::DecodeSettings;
 use rows::State;

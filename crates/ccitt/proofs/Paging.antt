@@ -25,8 +25,8 @@ use Rattle.rules.proofs.Pages.{Onward, Moved, Goes, Does, row-goes, row-does, s
 use Rattle.rules.proofs.Marks.{RowMarked, row-marked}
 use Rattle.rules.proofs.Store.{length-overlaid, overlaid-nothing, overlaid-behind, overlaid-one, length-joined, joined-snoc, length-ends, ends-snoc}
 use Rattle.tables.specs.Tables.{Lookups}
-use Rattle.context.specs.declared.two.Reference.{Reference}
-use Rattle.context.specs.declared.two.Reference.the-variants as Reference
+use Rattle.context.specs.declared.reference.Reference.{Reference}
+use Rattle.context.specs.declared.reference.Reference.the-variants as Reference
 use Rattle.context.specs.Coding.{Placed}
 use Rattle.error.specs.Error.{answerOf}
 use Rattle.error.specs.declared.Answer.{Answer}

@@ -1,5 +1,5 @@
 // The page form (`decode` of lib.rs): all three encodings, one loop, rows kept in lent arrays.
-use context::two::Reference;
+use context::reference::Reference;
 use error::Answer;
 use rows::DecodeSettings;
 use rows::EncodingMode;
@@ -205,8 +205,8 @@ pub fn decode(
     if settings.columns == 0 {
         return error::refusal(0);
     }
-    let white = tables::white_lookup();
-    let black = tables::black_lookup();
+    let white = lookups::white_lookup();
+    let black = lookups::black_lookup();
     let both = tables::pair_lookup();
     let reading = strict_if_exact(settings);
     let answer = page(&white, &black, &both, src, reading, changes, ends, marks);

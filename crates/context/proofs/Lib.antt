@@ -1,22 +1,11 @@
 -- The laws that the functions' proofs cite, and those that crates above need beside the contracts.
 pub mod State
 pub mod Carried
-pub mod RunLoop
-pub mod Fronting
 pub mod Goes
-pub mod Running
-pub mod PairEntries
 pub mod Moves
 pub mod Idle
 pub mod RowTest
 pub mod Search
 pub mod Signed
-pub mod ModeCode
-pub mod OneCode
 pub mod RowPart
-pub mod LineLoop
 pub mod Placing
-pub mod Swiftly
-pub mod StraightLoop
-pub mod KeptLine
-pub mod OneLine

@@ -12,7 +12,7 @@ use Rattle.rules.specs.Lines.{rightOfA0, fromB1, headOr, tail, b1, b2}
 use Rattle.rules.proofs.Ascending.{Rising, none, some, rises-length, head-fits}
 use Rattle.tables.specs.Tables.{colourOf}
 use Rattle.context.specs.Reference.{Stopped, turnsAt, b1Place}
-use Rattle.context.specs.Swift.{Left, Seen, Onward, Reached, Turning, Back}
+use Rattle.context.specs.Places.{Left, Seen, Onward, Reached, Turning, Back}
 use Rattle.context.proofs.Search.{turns-next, turns-test, takes, leaves, head-at, head-past, drop-next, rises-drop}
 
 -- ---- When a place is b1's

@@ -6,8 +6,8 @@ use native.Mathlib.Omega.{arith}
 use lib.ListN.{length, take, drop, length-drop, take-append-drop, drop-of-length-le}
 use lib.Seq.{length-take-le, take-all, take-at, drop-at, drop-append-le}
 use borrow.Rule.Slice.PartMut.{midOf, putMid}
-use Rattle.context.specs.declared.two.Reference.{Reference}
-use Rattle.context.specs.declared.two.Reference.the-variants.{Lent, Kept}
+use Rattle.context.specs.declared.reference.Reference.{Reference}
+use Rattle.context.specs.declared.reference.Reference.the-variants.{Lent, Kept}
 use Rattle.context.specs.Coding.{referenceIn, Placed}
 
 -- what lies right before the row depends on the front alone

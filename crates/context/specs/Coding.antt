@@ -18,8 +18,8 @@ use Rattle.context.specs.declared.line.Push.the-variants as Push
 use Rattle.context.specs.declared.step.Rules.{Rules}
 use Rattle.context.specs.declared.step.Step.{Step}
 use Rattle.context.specs.declared.step.Step.the-variants as Step
-use Rattle.context.specs.declared.two.Reference.{Reference}
-use Rattle.context.specs.declared.two.Reference.the-variants.{Lent, Kept}
+use Rattle.context.specs.declared.reference.Reference.{Reference}
+use Rattle.context.specs.declared.reference.Reference.the-variants.{Lent, Kept}
 use Rattle.context.specs.State.{lineAt, turnedFor, rulesFor, changesOf}
 use Rattle.context.specs.Outcome.{placeFor, stepFor, Steps, Reads, Starts, runsFrom}
 use Rattle.context.specs.Reference.{Searches}

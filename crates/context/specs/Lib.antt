@@ -4,8 +4,4 @@ pub mod Outcome
 pub mod Offset
 pub mod Reference
 pub mod Coding
-pub mod OneCode
-pub mod Swift
-pub mod Kept
-pub mod Pairs
-pub mod OneLine
+pub mod Places

@@ -9,7 +9,7 @@ pub enum Move {
     Over,
 }
 
-pub(crate) fn moved(b1: u32, offset: i64, position: u32) -> Move
+pub fn moved(b1: u32, offset: i64, position: u32) -> Move
     requires { ⌜ Offset offset ⌝ }
     ensures { λ r. ⌜ r ≡ moveBy b1 (offsetMode offset) position ⌝ }
 {

@@ -6,13 +6,19 @@ ghost use Rattle.rules.specs.Lines.{rightOfA0, headOr};
 ghost use Rattle.rules.specs.Pages.{ascends};
 ghost use Rattle.tables.specs.Tables.{colourOf};
 ghost use Rattle.context.specs.Reference.{Passed, Stopped, Searches, Finds, b1Place};
-ghost use Rattle.context.specs.Kept.{B1At};
+ghost use Rattle.context.specs.Places.{B1At};
 
 // Where the next search goes on, and the two changes, each the width where it is absent.
 pub struct Found {
     pub seen: usize,
     pub b1: u32,
     pub b2: u32,
+}
+
+// Where the reference lies: in a slice of its own, or in the row's array, from a place to the row's first.
+pub enum Reference {
+    Lent,
+    Kept(usize),
 }
 
 // a0 lies before the line while the position is 0, so that only there b1 may be 0.
@@ -76,13 +82,7 @@ pub fn find(reference: &[u32], seen: usize, width: u32, position: u32, colour: u
 }
 
 // The place of b1 alone.
-pub(crate) fn b1_from(
-    reference: &[u32],
-    seen: usize,
-    width: u32,
-    position: u32,
-    colour: u32,
-) -> usize
+pub fn b1_from(reference: &[u32], seen: usize, width: u32, position: u32, colour: u32) -> usize
     requires { ⌜ Searches (now reference) seen width position colour ⌝ }
     ensures { λ r. ⌜ B1At (now (reference .entry)) position colour r ⌝ }
 {

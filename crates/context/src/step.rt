@@ -18,7 +18,7 @@ pub enum Step {
 }
 
 // A change for which there is no room is at no bit's fault.
-pub(crate) fn place_of(number: u32, place: usize) -> usize
+pub fn place_of(number: u32, place: usize) -> usize
     ensures { λ r. ⌜ r ≡ placeFor number place ⌝ }
 {
     if number == 4 { 0 } else { place }

@@ -1,10 +1,10 @@
 // The line of a row, of the kind that its tag bit tells.
 use crate::eols;
 use context::line;
-use context::runs;
 use context::step::Rules;
 use context::step::Step;
-use context::two;
+use one_line::runs;
+use one_line::two;
 use rows::DecodeSettings;
 use rows::State;
 ghost use mathlib.Core.Path.{_≡_};

@@ -23,8 +23,8 @@ use Rattle.bit_reader.proofs.Clear.{zeros-few, some-one}
 use Rattle.codes.proofs.Eols.{closing, none-yet, no-eol}
 use Rattle.codes.specs.declared.eol.Eols.{Eols}
 use Rattle.codes.specs.Eols.{eolsOf}
-use Rattle.context.specs.declared.two.Reference.{Reference}
-use Rattle.context.specs.declared.two.Reference.the-variants as Place
+use Rattle.context.specs.declared.reference.Reference.{Reference}
+use Rattle.context.specs.declared.reference.Reference.the-variants as Place
 use Rattle.context.specs.Coding.{referenceIn}
 use Rattle.context.proofs.Goes.{moves-right, vertical-goes}
 use Rattle.rows.specs.declared.DecodeSettings.{DecodeSettings}

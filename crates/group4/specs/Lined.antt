@@ -9,8 +9,8 @@ use Rattle.rules.specs.Lines.{two, readLine}
 use Rattle.rules.specs.Rows.{RowOut, rulesOf}
 use Rattle.rules.specs.Group4.{afterLine4}
 use Rattle.bit_reader.specs.Loaded.{Loading}
-use Rattle.context.specs.declared.two.Reference.{Reference}
-use Rattle.context.specs.declared.two.Reference.the-variants.{Lent, Kept}
+use Rattle.context.specs.declared.reference.Reference.{Reference}
+use Rattle.context.specs.declared.reference.Reference.the-variants.{Lent, Kept}
 use Rattle.rows.specs.declared.DecodeSettings.{DecodeSettings}
 use Rattle.rows.specs.declared.State.{State}
 use Rattle.rows.specs.Settings.{settingsOf}

@@ -1,10 +1,10 @@
 // One row of a Group 4 page: the EOLs before it, the page's end, and the line (group4.rs).
 use codes::eol;
 use codes::eol::Eols;
+use context::reference::Reference;
 use context::step::Rules;
 use context::step::Step;
-use context::two;
-use context::two::Reference;
+use one_line::two;
 use rows::DecodeSettings;
 use rows::Row;
 use rows::State;

@@ -22,7 +22,7 @@ use Rattle.error.specs.Error.{answerOf, rowAnswerOf}
 use Rattle.error.specs.declared.Answer.{Answer}
 use Rattle.rows.specs.declared.DecodeSettings.{DecodeSettings}
 use Rattle.rows.specs.Settings.{encodingOf, settingsOf}
-use Rattle.context.specs.OneLine.{ReadOne}
+use Rattle.one_line.specs.OneLine.{ReadOne}
 use Rattle.writer.specs.Outcome.{Answers}
 use Rattle.promises.specs.Demand3.{Back, LineReadsBack, WrittenLineReadsBack, LinesApart, Plainly, WrittenPageReadsBack, CutPageGivesFirstRows}
 use Rattle.promises.proofs.Demand1.{in-store}

@@ -33,7 +33,7 @@ use Rattle.codes.specs.declared.run.Code as RunCode
 use Rattle.codes.specs.declared.run.Code.the-variants as OfRun
 use Rattle.codes.specs.declared.run.Run.{Run}
 use Rattle.codes.specs.declared.run.Run.the-variants.{Length, Bad}
-use Rattle.context.specs.declared.once.OneCode.the-variants.{Runs, Did}
+use Rattle.one_line.specs.declared.once.OneCode.the-variants.{Runs, Did}
 use Rattle.promises.specs.PinnedInside as Pinned
 use Rattle.promises.specs.PinnedInside.{Alike, AlikeRuns}
 use Rattle.promises.proofs.OneAnswer.{settled, settled-with, settled-by}

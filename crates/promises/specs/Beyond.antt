@@ -10,7 +10,7 @@ use Rattle.rules.specs.Pages.{mostBytes}
 use Rattle.rules.specs.Write.{mostMakeup, lineBits, rowsIn, writeLine}
 use Rattle.error.specs.declared.Answer.{Answer}
 use Rattle.rows.specs.declared.DecodeSettings.{DecodeSettings}
-use Rattle.context.specs.OneLine.{ReadOne}
+use Rattle.one_line.specs.OneLine.{ReadOne}
 use Rattle.writer.specs.Outcome.{Answers}
 use Rattle.ccitt.specs.Decode.{Decodes}
 use Rattle.promises.specs.Demand3.{Back}

@@ -8,7 +8,7 @@ use lib.ListN.{length, take, drop}
 use Rattle.rules.specs.Pages.{mostBytes, ascends}
 use Rattle.rules.proofs.Ascending.{Rising}
 use Rattle.error.specs.declared.Answer.{Answer}
-use Rattle.context.specs.OneLine.{ReadOne}
+use Rattle.one_line.specs.OneLine.{ReadOne}
 
 -- a call of `read_line` on bytes, from a bit, with a reference and an array of changes: its answer, and the array after it
 module _ (bytes : List ℕ) (at columns : ℕ) (reference changes : List ℕ) (r : Answer) (changes′ : List ℕ) where

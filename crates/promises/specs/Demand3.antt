@@ -15,7 +15,7 @@ use Rattle.rules.proofs.Ascending.{Rising}
 use Rattle.error.specs.declared.Answer.{Answer}
 use Rattle.rows.specs.declared.DecodeSettings.{DecodeSettings}
 use Rattle.rows.specs.declared.EncodingMode.the-variants.{Group4}
-use Rattle.context.specs.OneLine.{ReadOne}
+use Rattle.one_line.specs.OneLine.{ReadOne}
 use Rattle.writer.specs.Outcome.{Answers}
 use Rattle.ccitt.specs.Decode.{Decodes}
 

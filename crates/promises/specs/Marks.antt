@@ -16,7 +16,7 @@ use Rattle.rules.proofs.Marks.{Came}
 use Rattle.error.specs.declared.Answer.{Answer}
 use Rattle.rows.specs.declared.DecodeSettings.{DecodeSettings}
 use Rattle.rows.specs.Settings.{settingsOf}
-use Rattle.context.specs.OneLine.{ReadOne}
+use Rattle.one_line.specs.OneLine.{ReadOne}
 use Rattle.writer.specs.Outcome.{Answers}
 use Rattle.ccitt.specs.Decode.{Decodes}
 use Rattle.promises.specs.Demand3.{Plainly}

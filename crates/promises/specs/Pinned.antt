@@ -9,7 +9,7 @@ use Rattle.rules.specs.Write.{Written}
 use Rattle.error.specs.declared.Answer.{Answer}
 use Rattle.rows.specs.declared.DecodeSettings.{DecodeSettings}
 use Rattle.ccitt.specs.Decode.{Decodes}
-use Rattle.context.specs.OneLine.{ReadOne}
+use Rattle.one_line.specs.OneLine.{ReadOne}
 use Rattle.context.specs.declared.line.Line.{Line}
 use Rattle.lent.specs.Lent.{Lends}
 use Rattle.writer.specs.Outcome.{Answers}

@@ -37,7 +37,7 @@ use Rattle.context.specs.State.{Pushes}
 use Rattle.context.specs.Outcome.{Steps}
 use Rattle.context.specs.Reference.{Finds}
 use Rattle.context.specs.Coding.{StepsAt}
-use Rattle.context.specs.OneCode.{OneCoded}
+use Rattle.one_line.specs.OneCode.{OneCoded}
 use Rattle.context.specs.declared.line.Line.{Line}
 use Rattle.context.specs.declared.reference.Found.{Found}
 use Rattle.context.specs.declared.step.Rules.{Rules}

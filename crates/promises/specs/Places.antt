@@ -29,7 +29,7 @@ use Rattle.codes.specs.declared.mode.Mode.{Mode}
 use Rattle.rows.specs.declared.DecodeSettings.{DecodeSettings}
 use Rattle.rows.specs.Settings.{settingsOf}
 use Rattle.ccitt.specs.Decode.{Decodes}
-use Rattle.context.specs.OneLine.{ReadOne}
+use Rattle.one_line.specs.OneLine.{ReadOne}
 use Rattle.writer.specs.Outcome.{Answers}
 
 -- ---- Demand 1: a place is a bit of the data, or its end; with any other number than 1, 2 and 3 it is 0, so that a page whose rows were all kept, recovered

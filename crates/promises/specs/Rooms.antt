@@ -12,7 +12,7 @@ use Rattle.rules.proofs.Within.{within}
 use Rattle.error.specs.Error.{rowAnswerOf}
 use Rattle.error.specs.declared.Answer.{Answer}
 use Rattle.rows.specs.declared.DecodeSettings.{DecodeSettings}
-use Rattle.context.specs.OneLine.{ReadOne}
+use Rattle.one_line.specs.OneLine.{ReadOne}
 use Rattle.ccitt.specs.Decode.{Gives, Decodes}
 
 -- ---- A call, and what it handed over

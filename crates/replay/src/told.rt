@@ -42,7 +42,7 @@ fn ask(
     marks: &mut [u8],
 ) -> Answer {
     if n[0] == 3 {
-        return context::read::read_line(
+        return one_line::read::read_line(
             src,
             joined(n[9], n[10]),
             n[1],

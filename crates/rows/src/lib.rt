@@ -1,6 +1,6 @@
 // The settings of a page (lib.rs), the state between its rows, and what one row answers. The rows stand one behind the other in a lent
 // store of changes, and the last kept row is the reference.
-use context::two::Reference;
+use context::reference::Reference;
 ghost use mathlib.Core.Path.{_≡_};
 ghost use Prim.Native.Nat.{_≤_};
 ghost use Rattle.rules.specs.Rows.{alignedIf, finished};

@@ -45,6 +45,6 @@ pub(crate) fn in_group3() {
 pub(crate) fn of_a_line() {
     let reference = [0u32; 0];
     let mut changes = [0u32; 4];
-    let answer = context::read::read_line(b"\xFF", 9, 8, true, &reference, &mut changes);
+    let answer = one_line::read::read_line(b"\xFF", 9, 8, true, &reference, &mut changes);
     crate::show(b"a start past the data", answer, 3, &changes);
 }

@@ -4,17 +4,12 @@ use mathlib.Core.List.{List}
 use Prim.Native.Nat.{ℕ, _<_}
 use native.Mathlib.Nat.{zero-add}
 use lib.ListN.{getD}
-use Rattle.rules.specs.Bits.{bit, bitsFor}
-use Rattle.rules.specs.Codes.{Colour, codesOf, codeBits}
+use Rattle.rules.specs.Bits.{bitsFor}
+use Rattle.rules.specs.Codes.{Colour}
 use Rattle.rules.proofs.Lookup.{tabulate-at}
-use Rattle.rules.specs.Lookup.{begins, shared, codeIn, longestShared, lookup, entryNumber, tabulate, lookupTable}
+use Rattle.rules.specs.Lookup.{lookup, entryNumber, lookupTable}
 use Rattle.tables.specs.Tables.{colourOf}
 use Rattle.tables.proofs.Colours.{Picks, picked}
-
--- the rule's table, such that it computes: each number of the source's table is then held to the rule by `refl`
-unfoldable pub computed : Colour → List ℕ
-unfolding bit bitsFor codesOf codeBits begins shared codeIn longestShared lookup tabulate lookupTable
-computed colour = lookupTable colour
 
 -- the rule's number for 13 bits
 ruled : ℕ → Colour → ℕ

@@ -1,4 +1,4 @@
-// The code tables of T.4 and T.6, the two lookup tables made of them, the pair table made of those, and their readers (tables.rs).
+// The code tables of T.4 and T.6, the table of pairs made of them, and the readers of all tables (tables.rs). The two lookup tables have a crate of their own, `lookups`.
 // A constant is built anew on the stack wherever it is used, so a decoder or a writer makes each table once, and lends it.
 ghost use mathlib.Core.Path.{_≡_};
 ghost use Prim.Native.Nat.{_-_, _≤_, _<_};
@@ -9,26 +9,12 @@ ghost use Rattle.tables.specs.Pairs.{pairTable};
 ghost use Rattle.tables.specs.Tables.{colourOf, rows, codeOf, SameBits, Lookups, Terminating, Makeup};
 
 mod code_tables;
-mod lookup_black;
 mod lookup_pairs;
-mod lookup_white;
 
 // The bits of a code: the lowest `size` bits of `word`, the highest of them first.
 pub struct Code {
     pub size: u32,
     pub word: u32,
-}
-
-pub fn white_lookup() -> [u16; 8192]
-    ensures { λ r. ⌜ r ≡ lookupTable white ⌝ }
-{
-    lookup_white::WHITE_LOOKUP
-}
-
-pub fn black_lookup() -> [u16; 8192]
-    ensures { λ r. ⌜ r ≡ lookupTable black ⌝ }
-{
-    lookup_black::BLACK_LOOKUP
 }
 
 // A black run and a white one behind it at once.

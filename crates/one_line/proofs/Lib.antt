@@ -1,0 +1,7 @@
+-- The laws that the functions' proofs cite.
+pub mod RunLoop
+pub mod ModeCode
+pub mod OneCode
+pub mod LineLoop
+pub mod KeptLine
+pub mod OneLine

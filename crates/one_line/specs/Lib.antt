@@ -1,0 +1,4 @@
+-- What the contracts cite.
+pub mod OneCode
+pub mod OneLine
+pub mod Kept

@@ -1,0 +1,6 @@
+-- The laws that the functions' proofs cite.
+pub mod Fronting
+pub mod PairEntries
+pub mod Running
+pub mod StraightLoop
+pub mod Swiftly

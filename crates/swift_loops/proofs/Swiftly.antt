@@ -1,0 +1,433 @@
+-- The stands of a line that is read swiftly: the array behind a change that was noted, what each code makes of a stand, and codes one behind the other. Assumes nothing.
+use mathlib.Core.Path.{_≡_, refl, sym, ap, _∙_, subst}
+use mathlib.Core.Logic.{_⊎_, inl, inr}
+use mathlib.Core.Bool.{Bool, true, false, cond}
+use mathlib.Core.List.{List, [], _∷_, _++_}
+use Prim.Native.Nat.{ℕ, zero, suc, _+_, _-_, _*_, _%_, _≤_, _<_}
+use native.Mathlib.Omega.{arith}
+use lib.Dec.{eqb}
+use lib.ListN.{length, take, drop, set, length-append, length-take, length-drop, length-set}
+use lib.Seq.{length-take-le, take-set-le, drop-set-add}
+use borrow.Author.Tests.{eq-eqb, ne-eqb}
+use borrow.Rule.Slice.PartMut.{midOf, putMid}
+use Rattle.rules.specs.Bits.{bitsOf}
+use Rattle.rules.specs.Codes.{Colour, opposite, differ}
+use Rattle.rules.specs.Runs.{ok, sum, readRun}
+use Rattle.rules.specs.Modes.{Mode, pass, horizontal, VR, VL, moded, readMode}
+use Rattle.rules.specs.Lines as Rule
+use Rattle.rules.specs.Lines.{went, lastColour, recorded, rightOfA0, headOr, b1, b2, code2D, two, lineEnd}
+use Rattle.rules.specs.Pages.{overlaid}
+use Rattle.rules.proofs.Bits.{length-bitsOf}
+use Rattle.rules.proofs.Lines.{moves, line-more}
+use Rattle.tables.specs.Tables.{colourOf}
+use Rattle.context.specs.declared.offset.Move.the-variants.{By}
+use Rattle.context.specs.declared.reference.Reference.the-variants.{Kept}
+use Rattle.swift_loops.specs.declared.swift.Stand.{Stand}
+use Rattle.swift_loops.specs.declared.swift.Taken.{Taken}
+use Rattle.swift_loops.specs.declared.swift.Taken.the-variants.{On, Other}
+use Rattle.context.specs.State.{ruling, turns}
+use Rattle.context.specs.Offset.{moveBy}
+use Rattle.context.specs.Places.{Left, Seen, Reached, Onward, Turning}
+use Rattle.swift_loops.specs.Swift.{standing, Stands, Roomy, keptIn, Noted, Walked, Took, sideMode, Ready, Asks, Sided, Walks}
+use Rattle.context.proofs.State.{turns-is, overlaid-same, overlaid-set}
+use Rattle.context.proofs.Carried.{front-of, overlaid-over, overlaid-length}
+use Rattle.context.proofs.Search.{right-more}
+use Rattle.context.proofs.Moves.{Upright}
+use Rattle.context.proofs.RowPart.{reference-same, row-lent, row-back, back-front, back-row}
+use Rattle.context.proofs.Placing.{seen-b1, seen-b2, change-fits, change-next, seen-next}
+use Rattle.context.proofs.Goes.{recorded-by, recorded-few, moves-right, moves-left, vertical-goes, pass-goes, horizontal-goes}
+
+-- ---- A change noted
+
+module _ (row : List ℕ) (s : Stand) (h : s .count < length row) where
+  abbrev t : Rule.Line
+  t = standing row false s
+
+  len : length (take (s .count) row) ≡ s .count
+  len = length-take-le (s .count) row (omega arith)
+
+  turning : differ (lastColour (take (s .count) row)) (colourOf (s .place % 2)) ≡ turns (s .count) (s .place % 2)
+  turning = turns-is (take (s .count) row) (s .place % 2) (omega arith) ∙ ap (λ (n : ℕ). turns n (s .place % 2)) len
+
+  pub noted-turned : turns (s .count) (s .place % 2) ≡ true → Noted row s (s .count + 1) (set row (s .count) (s .position))
+  noted-turned e =
+      let q : recorded t ≡ take (s .count) row ++ s .position ∷ [] = recorded-by t true (turning ∙ e) in
+      record {
+        counted = omega (arith, ap length q, length-append (take (s .count) row) (s .position ∷ []), len);
+        stored = overlaid-set (s .count) row (s .position) h ∙ ap (λ (l : List ℕ). overlaid l row) (sym q);
+      }
+
+  pub noted-same : turns (s .count) (s .place % 2) ≡ false → Noted row s (s .count) row
+  noted-same e =
+      let q : recorded t ≡ take (s .count) row = recorded-by t false (turning ∙ e) in
+      record {
+        counted = omega (arith, ap length q, len);
+        stored = overlaid-same (s .count) row (omega arith) ∙ ap (λ (l : List ℕ). overlaid l row) (sym q);
+      }
+
+-- ---- One code
+
+module _ {reference : List ℕ} {bs : List Bool} {base room width : ℕ} {xs : List ℕ} {s : Stand} where
+  -- A code that takes the line of the rules from one stand to another takes the array with it.
+  walk : (u : Stand) (qs ys : List ℕ) → room + base ≡ length xs → Stands reference room width u → Roomy room width u → s .position < width → s .count ≤ u .count → u .count ≡ length qs
+      → length ys ≡ length xs → take base ys ≡ take base xs → drop base ys ≡ overlaid qs (drop base xs)
+      → ((strict exact cut : Bool) → code2D (ruling width room strict exact) reference bs (standing (drop base xs) cut s) ≡ went (Rule.line (u .at) (u .position) (colourOf (u .place % 2)) qs cut))
+      → Walked reference bs base room width xs s ys u
+  walk u qs ys full stands roomy short longer count size front store goes = record {
+    stands = stands;
+    roomy = λ _. roomy;
+    forth = omega (arith, bits .0);
+    inside = bits .1;
+    longer = longer;
+    size = size;
+    front = front;
+    store = store ∙ ap (λ (l : List ℕ). overlaid l (drop base xs)) (sym changes);
+    same = λ strict exact cut.
+        line-more width (code2D (ruling width room strict exact) reference bs) bs (moves (ruling width room strict exact) (two reference) bs)
+        (standing (drop base xs) cut s) (Rule.line (u .at) (u .position) (colourOf (u .place % 2)) qs cut) (λ z. omega arith) (goes strict exact cut)
+        ∙ ap (λ (l : List ℕ). lineEnd width (code2D (ruling width room strict exact) reference bs) bs (Rule.line (u .at) (u .position) (colourOf (u .place % 2)) l cut)) (sym changes);
+  }
+    where
+      changes : take (u .count) (drop base ys) ≡ qs
+      changes = front-of (u .count) qs (drop base xs) (drop base ys) count store
+
+      bits : (s .at < u .at) × (u .at ≤ length bs)
+      bits = moves (ruling width room false false) (two reference) bs (standing (drop base xs) false s) (Rule.line (u .at) (u .position) (colourOf (u .place % 2)) qs false) (goes false false false)
+
+-- ---- Codes one behind the other
+
+module _ {reference : List ℕ} {bs : List Bool} {base room width : ℕ} {xs : List ℕ} {s : Stand} (full : room + base ≡ length xs) where
+  -- none of them
+  pub walked-none : Stands reference room width s → s .at ≤ length bs → Walked reference bs base room width xs s xs s
+  walked-none h k = record {
+    stands = h;
+    roomy = λ k. k;
+    forth = omega arith;
+    inside = k;
+    longer = omega arith;
+    size = refl;
+    front = refl;
+    store = overlaid-same (s .count) (drop base xs) (omega (arith, h .held, length-drop base xs));
+    same = λ strict exact cut. refl;
+  }
+
+  pub walked-then : {ys zs : List ℕ} {t u : Stand} → Walked reference bs base room width xs s ys t → Walked reference bs base room width ys t zs u → Walked reference bs base room width xs s zs u
+  walked-then {ys} {zs} {t} {u} a b = record {
+    stands = b .stands;
+    roomy = λ h. b .roomy (a .roomy h);
+    forth = omega (arith, a .forth, b .forth);
+    inside = b .inside;
+    longer = omega (arith, a .longer, b .longer);
+    size = b .size ∙ a .size;
+    front = b .front ∙ a .front;
+    store =
+        b .store
+        ∙ ap (overlaid (take (u .count) (drop base zs))) (a .store)
+        ∙ overlaid-over (take (u .count) (drop base zs)) (take (t .count) (drop base ys)) (drop base xs) fewer;
+    same = λ strict exact cut. a .same strict exact cut ∙ b .same strict exact cut;
+  }
+    where
+      fewer : length (take (t .count) (drop base ys)) ≤ length (take (u .count) (drop base zs))
+      fewer = omega (arith, length-take (t .count) (drop base ys), length-take (u .count) (drop base zs), length-drop base zs, b .stands .held, b .longer, b .size, a .size)
+
+-- ---- The array behind a change that was noted
+
+right-near : (p : ℕ) → rightOfA0 p ≤ p + 1
+unfolding rightOfA0
+right-near zero = omega arith
+right-near (suc p) = omega arith
+
+parity-turns : (p q : ℕ) → q % 2 ≡ (p + 1) % 2 → opposite (colourOf (p % 2)) ≡ colourOf (q % 2)
+parity-turns p q e = cases (p % 2) (q % 2) (omega arith) (omega arith)
+  where
+    cases : (m n : ℕ) → m < 2 → m + n ≡ 1 → opposite (colourOf m) ≡ colourOf n
+    cases zero zero h k = absurd (omega arith)
+    cases zero (suc n) h k = refl
+    cases (suc zero) zero h k = refl
+    cases (suc zero) (suc n) h k = absurd (omega arith)
+    cases (suc (suc m)) n h k = absurd (omega arith)
+
+module _ {xs : List ℕ} {start base width : ℕ} {s : Stand} {b : ℕ} (g : Ready xs start base width s b) where
+  abbrev ref : List ℕ
+  ref = keptIn start base xs
+
+  abbrev room : ℕ
+  room = length xs - base
+
+  abbrev row : List ℕ
+  row = drop base xs
+
+  abbrev line : Rule.Line
+  line = standing (drop base xs) false s
+
+  full : (length xs - base) + base ≡ length xs
+  full = omega (arith, g .placed)
+
+  b1-rule : b ≡ b1 width (keptIn start base xs) (s .position) (colourOf (s .place % 2))
+  b1-rule = g .b1-is ∙ seen-b1 width (s .position) (g .stands .seen)
+
+  pub fits-b1 : b ≤ width
+  fits-b1 = omega (arith, g .b1-is, change-fits (g .rising) (s .place))
+
+  pub ready-short : s .position < width
+  ready-short = omega (arith, g .ahead, fits-b1)
+
+  roomy : s .count < length xs - base
+  roomy = omega (arith, ready-short, g .roomy)
+
+  pub ready-note : s .count < length (midOf base (length xs - base) xs)
+  ready-note = omega (arith, roomy, ap length (row-lent xs base), length-drop base xs)
+
+  ref-short : length ref ≤ length xs
+  ref-short = omega (arith, length-take (base - start) (drop start xs), length-drop start xs)
+
+  -- what lies left of the line lies left of where it goes
+  left-of : {p : ℕ} → s .position < p → Left ref (p + 1) (s .place)
+  left-of {p} h = λ j k m. omega (arith, g .stands .seen .left j k m, right-near (s .position))
+
+  -- the line that is recorded has room, whatever its flag
+  noted-room : (cut : Bool) → length (recorded (standing row cut s)) ≤ length xs - base
+  noted-room cut = omega (arith, recorded-few (standing row cut s), length-take-le (s .count) row (omega (arith, roomy, length-drop base xs)), roomy)
+
+  flagless : (cut : Bool) → recorded (standing row cut s) ≡ recorded line
+  unfolding recorded
+  flagless cut = refl
+
+  module _ {r : ℕ} {ys : List ℕ} (n : Noted (midOf base (length xs - base) xs) s r ys) where
+    abbrev after : List ℕ
+    after = putMid base (length xs - base) xs ys
+
+    noted : Noted row s r ys
+    noted = subst (λ (l : List ℕ). Noted l s r ys) (row-lent xs base) n
+
+    pub noted-few : (s .count ≤ r) × (r ≤ suc (s .count))
+    noted-few = omega (arith, noted .counted, recorded-few line, length-take-le (s .count) row (omega (arith, roomy, length-drop base xs)))
+
+    after-is : putMid base (length xs - base) xs ys ≡ take base xs ++ ys
+    after-is = row-back xs base (g .placed .1) ys
+
+    pub after-front : take base (putMid base (length xs - base) xs ys) ≡ take base xs
+    after-front = ap (take base) after-is ∙ back-front xs base (g .placed .1) ys
+
+    after-row : drop base (putMid base (length xs - base) xs ys) ≡ overlaid (recorded line) row
+    after-row = ap (drop base) after-is ∙ back-row xs base (g .placed .1) ys ∙ noted .stored
+
+    pub after-length : length (putMid base (length xs - base) xs ys) ≡ length xs
+    after-length =
+        omega (arith, ap length after-is, length-append (take base xs) ys, length-take base xs, g .placed, ap length (noted .stored), overlaid-length (recorded line) row (omega (arith, noted-room false, length-drop base xs)), length-drop base xs)
+
+    pub after-reference : keptIn start base (putMid base (length xs - base) xs ys) ≡ keptIn start base xs
+    after-reference = reference-same (Kept start) base [] xs (putMid base (length xs - base) xs ys) (g .placed) (g .placed .0, omega (arith, after-length, g .placed)) after-front
+
+    -- the stand that a code has come to, with one change noted
+    module _ (bs : List Bool) (u : Stand) (count-is : u .count ≡ r) (right : s .position < u .position) (fits : u .position ≤ width) (seen : Seen ref (u .position + 1) (u .place)) (near : u .place ≤ suc (length ref) + u .at)
+        (goes : (strict exact cut : Bool) → code2D (ruling width (length xs - base) strict exact) ref bs (standing row cut s) ≡ went (Rule.line (u .at) (u .position) (colourOf (u .place % 2)) (recorded (standing row cut s)) cut)) where
+      pub noted-walked : Walked ref bs base (length xs - base) width xs s (putMid base (length xs - base) xs ys) u
+      noted-walked =
+          walk u (recorded line) after full
+          (record {
+            fits = fits;
+            held = omega (arith, noted-few, roomy, count-is);
+            seen = subst (λ (m : ℕ). Seen ref m (u .place)) (right-more (u .position) (λ z. omega arith)) seen;
+            near = near;
+          })
+          (omega (arith, g .roomy, noted-few, count-is)) ready-short (omega (arith, noted-few, count-is)) (count-is ∙ noted .counted) after-length after-front after-row
+          (λ strict exact cut. goes strict exact cut ∙ ap (λ (l : List ℕ). went (Rule.line (u .at) (u .position) (colourOf (u .place % 2)) l cut)) (flagless cut))
+
+    -- ---- Vertical modes
+
+    module _ (bytes : List ℕ) (m : Mode) (upright : Upright m) (end a1 p : ℕ) (read : readMode (bitsOf bytes) (s .at) ≡ ok (moded end m)) (move : moveBy b m (s .position) ≡ By (a1 - s .position))
+        (right : s .position < a1) (fits : a1 ≤ width) (seen : Seen ref (a1 + 1) p) (parity : p % 2 ≡ (s .place + 1) % 2) (near : p ≤ suc (length ref) + end) where
+      vertical-walked : Walked ref (bitsOf bytes) base (length xs - base) width xs s (putMid base (length xs - base) xs ys) (record { at = end; position = a1; count = r; place = p })
+      vertical-walked =
+          noted-walked (bitsOf bytes) (record { at = end; position = a1; count = r; place = p }) refl right fits seen near
+          (λ strict exact cut.
+          vertical-goes (ruling width (length xs - base) strict exact) ref (bitsOf bytes) (standing row cut s) end m upright read a1
+          (ap (λ (x : ℕ). moveBy x m (s .position)) (sym b1-rule) ∙ move)
+          right fits (noted-room cut)
+          ∙ ap (λ (c : Colour). went (Rule.line end a1 c (recorded (standing row cut s)) cut)) (parity-turns (s .place) p parity))
+
+    pub straight-walked : (bytes : List ℕ) → readMode (bitsOf bytes) (s .at) ≡ ok (moded (s .at + 1) (VR 0))
+        → Walked ref (bitsOf bytes) base (length xs - base) width xs s (putMid base (length xs - base) xs ys) (record { at = s .at + 1; position = b; count = r; place = s .place + 1 })
+    straight-walked bytes read =
+        let same : b + 0 ≡ b = omega arith in
+        vertical-walked bytes (VR 0) tt (s .at + 1) b (s .place + 1) read
+        (moves-right b b 0 (s .position) (omega (arith, fits-b1, g .narrow)) (omega (arith, g .ahead)) same)
+        (g .ahead) fits-b1
+        (subst (λ (x : ℕ). Seen ref (x + 1) (s .place + 1)) (sym (g .b1-is)) (seen-next (g .rising) (s .place)))
+        refl (omega (arith, g .stands .near))
+
+    -- ---- Pass mode
+
+    pub pass-walked : (bytes : List ℕ) (c : ℕ) → c ≡ headOr width (drop (s .place + 1) (keptIn start base (putMid base (length xs - base) xs ys))) → readMode (bitsOf bytes) (s .at) ≡ ok (moded (s .at + 4) pass)
+        → Walked ref (bitsOf bytes) base (length xs - base) width xs s (putMid base (length xs - base) xs ys) (record { at = s .at + 4; position = c; count = r; place = s .place + 2 })
+    pass-walked bytes c e read =
+        let c-is : c ≡ headOr width (drop (s .place + 1) ref) = e ∙ ap (λ (l : List ℕ). headOr width (drop (s .place + 1) l)) after-reference in
+        let rule : c ≡ b2 width ref (s .position) (colourOf (s .place % 2)) = c-is ∙ seen-b2 width (s .position) (g .stands .seen) in
+        let right : s .position < c = omega (arith, c-is, g .b1-is, g .ahead, change-next (g .rising) (s .place)) in
+        let fits : c ≤ width = omega (arith, c-is, change-fits (g .rising) (s .place + 1)) in
+        let two-on : s .place + 1 + 1 ≡ s .place + 2 = omega arith in
+        let stays : s .place % 2 ≡ (s .place + 2) % 2 = omega arith in
+        noted-walked (bitsOf bytes) (record { at = s .at + 4; position = c; count = r; place = s .place + 2 }) refl right fits
+        (subst (λ (x : ℕ). Seen ref (c + 1) x) two-on (subst (λ (x : ℕ). Seen ref (x + 1) (s .place + 1 + 1)) (sym c-is) (seen-next (g .rising) (s .place + 1))))
+        (omega (arith, g .stands .near))
+        (λ strict exact cut.
+        pass-goes (ruling width (length xs - base) strict exact) ref (bitsOf bytes) (standing row cut s) (s .at + 4) read (omega (arith, right, rule)) (omega (arith, fits, rule)) (noted-room cut)
+        ∙ (λ i. went (Rule.line (s .at + 4) (sym rule i) (colourOf (stays i)) (recorded (standing row cut s)) cut)))
+
+    -- ---- Two runs
+
+    -- room for two changes, as two pixels are left at least
+    module _ (p1 p2 : ℕ) (some1 : 0 < p1) (some2 : 0 < p2) (within : p1 + p2 ≤ width - s .position) where
+      two-roomy : suc r ≤ length xs - base
+      two-roomy = omega (arith, noted-few, g .roomy)
+
+      pub two-index : base + r < length (putMid base (length xs - base) xs ys)
+      two-index = omega (arith, two-roomy, after-length, g .placed)
+
+      module _ (a1 : ℕ) (a1-is : a1 ≡ s .position + p1) where
+        abbrev both : List ℕ
+        both = set (putMid base (length xs - base) xs ys) (base + r) a1
+
+        pub both-length : length (set (putMid base (length xs - base) xs ys) (base + r) a1) ≡ length xs
+        both-length = length-set (putMid base (length xs - base) xs ys) (base + r) a1 ∙ after-length
+
+        both-front : take base both ≡ take base xs
+        both-front = take-set-le base (putMid base (length xs - base) xs ys) (base + r) a1 (omega arith) ∙ after-front
+
+        both-row : drop base both ≡ overlaid (recorded line ++ a1 ∷ []) row
+        both-row =
+            let k : r < length (overlaid (recorded line) row) = omega (arith, two-roomy, overlaid-length (recorded line) row (omega (arith, noted-room false, length-drop base xs)), length-drop base xs) in
+            drop-set-add base (putMid base (length xs - base) xs ys) r a1
+            ∙ ap (λ (l : List ℕ). set l r a1) after-row
+            ∙ overlaid-set r (overlaid (recorded line) row) a1 k
+            ∙ ap (λ (l : List ℕ). overlaid (l ++ a1 ∷ []) (overlaid (recorded line) row)) (front-of r (recorded line) row (overlaid (recorded line) row) (noted .counted) refl)
+            ∙ overlaid-over (recorded line ++ a1 ∷ []) (recorded line) row (omega (arith, length-append (recorded line) (a1 ∷ [])))
+
+        pub both-reference : keptIn start base (set (putMid base (length xs - base) xs ys) (base + r) a1) ≡ keptIn start base xs
+        both-reference = reference-same (Kept start) base [] xs both (g .placed) (g .placed .0, omega (arith, both-length, g .placed)) both-front
+
+        pub two-onward : (q : ℕ) → s .position < q → Onward (keptIn start base (set (putMid base (length xs - base) xs ys) (base + r) a1)) (s .place) q
+        two-onward q h = rw both-reference (record { width = width; rising = g .rising; left = left-of h })
+
+        module _ (bytes : List ℕ) (n1 n2 q p : ℕ) (q-is : q ≡ a1 + p2) (read : readMode (bitsOf bytes) (s .at) ≡ ok (moded (s .at + 3) horizontal))
+            (one : readRun (colourOf (s .place % 2)) (bitsOf bytes) (s .at + 3) ≡ ok (sum n1 p1)) (other : readRun (opposite (colourOf (s .place % 2))) (bitsOf bytes) n1 ≡ ok (sum n2 p2))
+            (bits : s .at ≤ n2) (reached : Reached (keptIn start base (set (putMid base (length xs - base) xs ys) (base + r) a1)) (q + 1) (s .place) p) where
+          there : Reached ref (q + 1) (s .place) p
+          there = subst (λ (l : List ℕ). Reached l (q + 1) (s .place) p) both-reference reached
+
+          pub two-walked : Walked ref (bitsOf bytes) base (length xs - base) width xs s (set (putMid base (length xs - base) xs ys) (base + r) a1) (record { at = n2; position = q; count = r + 1; place = p })
+          two-walked =
+              let sums : s .position + p1 + p2 ≡ q = omega arith in
+              walk (record { at = n2; position = q; count = r + 1; place = p }) (recorded line ++ a1 ∷ []) both full
+              (record {
+                fits = omega arith;
+                held = omega (arith, two-roomy);
+                seen = subst (λ (m : ℕ). Seen ref m p) (right-more q (λ z. omega arith)) (there .seen);
+                near = omega (arith, there .near, g .stands .near);
+              })
+              (omega (arith, g .roomy, noted-few)) ready-short (omega (arith, noted-few)) (omega (arith, noted .counted, length-append (recorded line) (a1 ∷ []))) both-length both-front both-row
+              (λ strict exact cut.
+              horizontal-goes (ruling width (length xs - base) strict exact) ref (bitsOf bytes) (standing row cut s) (s .at + 3) read n1 p1 n2 p2 one other some1 some2 (omega (arith, ready-short)) (omega (arith, two-roomy, noted .counted, ap length (flagless cut)))
+              ∙ (λ i. went (Rule.line n2 (sums i) (colourOf (sym (there .parity) i)) (flagless cut i ++ sym a1-is i ∷ []) cut)))
+
+-- ---- The loop over codes
+
+module _ {w b bytes xs : List ℕ} {start base width : ℕ} {s : Stand} (h : Walks w b bytes xs start base width s) {zs : List ℕ} {t : Stand}
+    (v : Walked (keptIn start base xs) (bitsOf bytes) base (length xs - base) width xs s zs t) where
+  whole : (length xs - base) + base ≡ length xs
+  whole = omega (arith, h .placed)
+
+  pub walked-base : base ≤ length zs
+  walked-base = omega (arith, v .size, h .placed)
+
+  walked-reference : keptIn start base zs ≡ keptIn start base xs
+  walked-reference = reference-same (Kept start) base [] xs zs (h .placed) (h .placed .0, walked-base) (v .front)
+
+  -- left of b1 the next code may be a swift one
+  pub walked-asks : {c : ℕ} → Roomy (length xs - base) width s → c ≡ headOr width (drop (t .place) (keptIn start base zs)) → t .position < c → length xs < 2305843009213693952 → Asks zs start base width t c
+  walked-asks r e k long = record {
+    ready = record {
+      placed = (h .placed .0, walked-base);
+      narrow = h .narrow;
+      rising = rw walked-reference (h .rising);
+      stands = rw (walked-reference, v .size) (v .stands);
+      roomy = rw (v .size) (v .roomy r);
+      b1-is = e;
+      ahead = k;
+    };
+    low = omega (arith, v .inside, length-bitsOf bytes, h .loading .size);
+    long = omega (arith, v .size);
+  }
+
+  -- and takes the line on
+  pub walked-on : {ys : List ℕ} {u : Stand} → Walked (keptIn start base zs) (bitsOf bytes) base (length zs - base) width zs t ys u → Walked (keptIn start base xs) (bitsOf bytes) base (length xs - base) width xs s ys u
+  walked-on {ys} {u} a = walked-then whole v (subst (λ (n : ℕ). Walked (keptIn start base xs) (bitsOf bytes) base (n - base) width zs t ys u) (v .size) (subst (λ (l : List ℕ). Walked l (bitsOf bytes) base (length zs - base) width zs t ys u) walked-reference a))
+
+  -- as the code is seen to be, with what it makes of the loop's measure
+  module _ (r : Taken) (ys : List ℕ) (took : Took (keptIn start base zs) (bitsOf bytes) base (length zs - base) width zs t r ys) where
+    pub took-other : r ≡ Other → Walked (keptIn start base xs) (bitsOf bytes) base (length xs - base) width xs s ys t
+    took-other e = rw (subst (λ (q : Taken). Took (keptIn start base zs) (bitsOf bytes) base (length zs - base) width zs t q ys) e took) v
+
+    module _ {u : Stand} (e : r ≡ On u) where
+      on : Walked (keptIn start base zs) (bitsOf bytes) base (length zs - base) width zs t ys u × (t .at < u .at)
+      on = subst (λ (q : Taken). Took (keptIn start base zs) (bitsOf bytes) base (length zs - base) width zs t q ys) e took
+
+      pub took-on : Walked (keptIn start base xs) (bitsOf bytes) base (length xs - base) width xs s ys u
+      took-on = walked-on (on .0)
+
+      pub took-less : 8 * length bytes - u .at < 8 * length bytes - t .at
+      took-less = omega (arith, on .1, on .0 .inside, length-bitsOf bytes)
+
+pub walks-none : {w b bytes xs : List ℕ} {start base width : ℕ} {s : Stand} → Walks w b bytes xs start base width s → Walked (keptIn start base xs) (bitsOf bytes) base (length xs - base) width xs s xs s
+walks-none {bytes = bytes} h = walked-none (omega (arith, h .placed)) (h .stands) (omega (arith, h .loading .inside, length-bitsOf bytes))
+
+-- ---- A vertical mode of so many pixels to a side
+
+pub asks-place : {xs : List ℕ} {start base width : ℕ} {s : Stand} {b : ℕ} → Asks xs start base width s b → s .place < 4611686018427387904
+asks-place q = omega (arith, q .ready .stands .near, ref-short (q .ready), q .low, q .long)
+
+side-upright : (d twice : ℕ) → Upright (sideMode d twice)
+side-upright d twice = cases (eqb twice 0)
+  where
+    cases : (b : Bool) → Upright (cond b (VL d) (VR d))
+    cases true = tt
+    cases false = tt
+
+module _ {xs : List ℕ} {start base width : ℕ} {s : Stand} {b d twice size : ℕ} (q : Sided xs start base width s b d twice size) (far : s .position + d < b + twice) (within : b + twice ≤ width + d) where
+  -- it moves to a1
+  side-moves : moveBy b (sideMode d twice) (s .position) ≡ By (b + twice - d - s .position)
+  side-moves = cases (q .sides)
+    where
+      cases : (twice ≡ 0) ⊎ (twice ≡ 2 * d) → moveBy b (sideMode d twice) (s .position) ≡ By (b + twice - d - s .position)
+      cases (inl e) = rw (eq-eqb twice 0 e) (moves-left b (b + twice - d) d (s .position) (omega (arith, within, q .asks .ready .narrow)) (omega (arith, far)) (omega (arith, far)))
+      cases (inr e) = rw (ne-eqb twice 0 (λ z. omega (arith, q .some-pixels))) (moves-right b (b + twice - d) d (s .position) (omega (arith, within, q .asks .ready .narrow)) (omega (arith, far)) (omega arith))
+
+  module _ {r : ℕ} {ys : List ℕ} (n : Noted (midOf base (length xs - base) xs) s r ys) where
+    pub side-turning : Turning (keptIn start base (putMid base (length xs - base) xs ys)) (s .place) d (b + twice - d)
+    side-turning = rw (after-reference (q .asks .ready) n) (record {
+      width = width;
+      rising = q .asks .ready .rising;
+      left = left-of (q .asks .ready) (omega (arith, far));
+      close = omega (arith, q .asks .ready .b1-is, far);
+      few = q .few;
+      low = omega (arith, asks-place (q .asks));
+    })
+
+    pub side-walked : (p : ℕ) → Reached (keptIn start base (putMid base (length xs - base) xs ys)) (b + twice - d + 1) (s .place + 1) p → (bytes : List ℕ) → readMode (bitsOf bytes) (s .at) ≡ ok (moded (s .at + size) (sideMode d twice))
+        → Walked (keptIn start base xs) (bitsOf bytes) base (length xs - base) width xs s (putMid base (length xs - base) xs ys) (record { at = s .at + size; position = b + twice - d; count = r; place = p })
+    side-walked p reached bytes read =
+        let there : Reached (keptIn start base xs) (b + twice - d + 1) (s .place + 1) p = subst (λ (l : List ℕ). Reached l (b + twice - d + 1) (s .place + 1) p) (after-reference (q .asks .ready) n) reached in
+        vertical-walked (q .asks .ready) n bytes (sideMode d twice) (side-upright d twice) (s .at + size) (b + twice - d) p read side-moves (omega (arith, far)) (omega (arith, within)) (there .seen) (there .parity)
+        (omega (arith, there .near, q .asks .ready .stands .near, q .some-bits))
+
+-- the side by the bit that tells it: twice d where that is a one, nothing where it is a zero
+pub sides-bit : (x d t : ℕ) → x < 2 → (x ≡ 0 → t ≡ 0) → (x ≡ 1 → t ≡ 2 * d) → (t ≡ 0) ⊎ (t ≡ 2 * d)
+sides-bit zero d t h z o = inl (z refl)
+sides-bit (suc zero) d t h z o = inr (o refl)
+sides-bit (suc (suc x)) d t h z o = absurd (omega arith)
+
+pub side-bit : (x d t : ℕ) → x < 2 → 1 ≤ d → (x ≡ 0 → t ≡ 0) → (x ≡ 1 → t ≡ 2 * d) → cond (eqb x 1) (VR d) (VL d) ≡ sideMode d t
+side-bit zero d t h p z o = rw (eq-eqb t 0 (z refl))
+side-bit (suc zero) d t h p z o = rw (ne-eqb t 0 (λ e. omega (arith, o refl)))
+side-bit (suc (suc x)) d t h p z o = absurd (omega arith)

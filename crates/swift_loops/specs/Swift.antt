@@ -1,0 +1,148 @@
+-- The swift codes of a 2D line: where a line stands between two of them, and what they make of it and of the array that holds it.
+use mathlib.Core.Path.{_≡_}
+use mathlib.Core.Logic.{_⊎_}
+use mathlib.Core.Bool.{Bool, false, cond}
+use mathlib.Core.List.{List}
+use Prim.Native.Nat.{ℕ, suc, _+_, _-_, _*_, _%_, _≤_, _<_}
+use lib.Dec.{eqb}
+use lib.ListN.{length, take, drop}
+use Rattle.rules.specs.Bits.{bitsOf}
+use Rattle.rules.specs.Runs.{ok}
+use Rattle.rules.specs.Modes.{Mode, VR, VL, moded, readMode}
+use Rattle.rules.specs.Lines as Rule
+use Rattle.rules.specs.Lines.{recorded, rightOfA0, headOr, code2D, lineEnd}
+use Rattle.rules.specs.Pages.{overlaid}
+use Rattle.rules.proofs.Ascending.{Rising}
+use Rattle.tables.specs.Tables.{colourOf, Lookups}
+use Rattle.bit_reader.specs.Cursor.{mostBits}
+use Rattle.bit_reader.specs.Loaded.{Ahead, Loading}
+use Rattle.context.specs.declared.line.Line.{Line}
+use Rattle.swift_loops.specs.declared.swift.Stand.{Stand}
+use Rattle.swift_loops.specs.declared.swift.Taken.{Taken}
+use Rattle.swift_loops.specs.declared.swift.Taken.the-variants.{On, Other}
+use Rattle.context.specs.State.{ruling}
+use Rattle.context.specs.Places.{Seen}
+
+-- ---- A stand
+
+-- the line of the rules that stands there, with its changes in front of a row; and the line of the code
+abbrev pub standing : List ℕ → Bool → Stand → Rule.Line
+standing row cut s = Rule.line (s .at) (s .position) (colourOf (s .place % 2)) (take (s .count) row) cut
+
+abbrev pub lineOf : ℕ → Stand → ℕ → Line
+lineOf width s cut = record { width = width; position = s .position; changes = s .count; colour = s .place % 2; cut = cut }
+
+-- a line that has its changes in its room, and whose place is b1's
+pub record Stands (reference : List ℕ) (room width : ℕ) (s : Stand) : Type 0 where
+  pub fits : s .position ≤ width
+  pub held : s .count ≤ room
+  pub seen : Seen reference (rightOfA0 (s .position)) (s .place)
+  pub near : s .place ≤ suc (length reference) + s .at
+
+-- the room lasts, whatever the line holds: each change takes a pixel at least
+abbrev pub Roomy : ℕ → ℕ → Stand → Type 0
+Roomy room width s = width + s .count ≤ room + s .position
+
+-- ---- Searches
+
+-- ---- What codes make of a stand
+
+-- the row before, from `start` on, in the array that holds the row from `base` on
+abbrev pub keptIn : ℕ → ℕ → List ℕ → List ℕ
+keptIn start base xs = take (base - start) (drop start xs)
+
+-- pixels of the line's colour follow
+pub record Noted (row : List ℕ) (s : Stand) (r : ℕ) (ys : List ℕ) : Type 0 where
+  pub counted : r ≡ length (recorded (standing row false s))
+  pub stored : ys ≡ overlaid (recorded (standing row false s)) row
+
+-- Codes took the line from a stand to another, and the array from xs to ys. Whatever the rules are, what is left of the line comes to the same; what lies before the
+-- row, and behind its changes, is as it was.
+pub record Walked (reference : List ℕ) (bs : List Bool) (base room width : ℕ) (xs : List ℕ) (s : Stand) (ys : List ℕ) (t : Stand) : Type 0 where
+  pub stands : Stands reference room width t
+  pub roomy : Roomy room width s → Roomy room width t
+  pub forth : s .at ≤ t .at
+  pub inside : t .at ≤ length bs
+  pub longer : s .count ≤ t .count
+  pub size : length ys ≡ length xs
+  pub front : take base ys ≡ take base xs
+  pub store : drop base ys ≡ overlaid (take (t .count) (drop base ys)) (drop base xs)
+  pub same : (strict exact cut : Bool) → let code = code2D (ruling width room strict exact) reference bs in lineEnd width code bs (standing (drop base xs) cut s) ≡ lineEnd width code bs (standing (drop base ys) cut t)
+
+-- a code takes bits; one that is another leaves the array
+abbrev pub Took : List ℕ → List Bool → ℕ → ℕ → ℕ → List ℕ → Stand → Taken → List ℕ → Type 0
+Took reference bs base room width xs s (On t) ys = Walked reference bs base room width xs s ys t × (s .at < t .at)
+Took reference bs base room width xs s Other ys = ys ≡ xs
+
+-- in the data whose bits these are
+abbrev pub TookIn : List ℕ → List ℕ → ℕ → ℕ → ℕ → Stand → Taken → List ℕ → Type 0
+TookIn bytes xs start base width s r ys = Took (keptIn start base xs) (bitsOf bytes) base (length xs - base) width xs s r ys
+
+-- the mode that a vertical code of `d` pixels is: to the right where `twice` is twice d, to the left where it is 0
+abbrev pub sideMode : ℕ → ℕ → Mode
+sideMode d twice = cond (eqb twice 0) (VL d) (VR d)
+
+-- in any data that has a mode's code at the stand, up to a bit; and the same where the next bits are known, so many of them at least
+abbrev pub TookMode : List ℕ → ℕ → ℕ → ℕ → Stand → ℕ → Mode → Taken → List ℕ → Type 0
+TookMode xs start base width s next mode r ys = (bytes : List ℕ) → readMode (bitsOf bytes) (s .at) ≡ ok (moded next mode) → TookIn bytes xs start base width s r ys
+
+abbrev pub TookBits : List ℕ → ℕ → ℕ → ℕ → Stand → ℕ → ℕ → ℕ → Mode → Taken → List ℕ → Type 0
+TookBits xs start base width s bits least next mode r ys =
+    (bytes : List ℕ) (live : ℕ) → Ahead bytes (s .at) live bits → least ≤ live → readMode (bitsOf bytes) (s .at) ≡ ok (moded next mode) → TookIn bytes xs start base width s r ys
+
+-- codes walk the line in any data that has these bits at the stand, however few of them
+abbrev pub WalkedBits : List ℕ → ℕ → ℕ → ℕ → Stand → ℕ → Stand → List ℕ → Type 0
+WalkedBits xs start base width s bits t ys = (bytes : List ℕ) (live : ℕ) → Ahead bytes (s .at) live bits → Walked (keptIn start base xs) (bitsOf bytes) base (length xs - base) width xs s ys t
+
+-- in any data that has these bits at the stand, 57 of them at least
+abbrev pub TookAhead : List ℕ → ℕ → ℕ → ℕ → Stand → ℕ → Taken → List ℕ → Type 0
+TookAhead xs start base width s bits r ys = (bytes : List ℕ) (live : ℕ) → Ahead bytes (s .at) live bits → 57 ≤ live → TookIn bytes xs start base width s r ys
+
+-- ---- What they ask
+
+-- a line that stands left of b1
+pub record Ready (xs : List ℕ) (start base width : ℕ) (s : Stand) (b1 : ℕ) : Type 0 where
+  pub placed : (start ≤ base) × (base ≤ length xs)
+  pub narrow : width < 4294967295
+  pub rising : Rising width 0 (keptIn start base xs)
+  pub stands : Stands (keptIn start base xs) (length xs - base) width s
+  pub roomy : Roomy (length xs - base) width s
+  pub b1-is : b1 ≡ headOr width (drop (s .place) (keptIn start base xs))
+  pub ahead : s .position < b1
+
+-- in data and in an array of which there may be so much
+pub record Asks (xs : List ℕ) (start base width : ℕ) (s : Stand) (b1 : ℕ) : Type 0 where
+  pub ready : Ready xs start base width s b1
+  pub low : s .at ≤ mostBits
+  pub long : length xs < 2305843009213693952
+
+-- and a vertical code of `size` bits
+pub record Sided (xs : List ℕ) (start base width : ℕ) (s : Stand) (b1 d twice size : ℕ) : Type 0 where
+  pub asks : Asks xs start base width s b1
+  pub some-pixels : 1 ≤ d
+  pub few : d ≤ 3
+  pub small : twice ≤ 6
+  pub sides : (twice ≡ 0) ⊎ (twice ≡ 2 * d)
+  pub some-bits : 1 ≤ size
+  pub short : size ≤ 7
+
+-- a line behind a code that turned it: its next pixels begin with a change
+pub record Turned (xs : List ℕ) (start base width : ℕ) (s : Stand) : Type 0 where
+  pub placed : (start ≤ base) × (base ≤ length xs)
+  pub narrow : width < 4294967295
+  pub rising : Rising width 0 (keptIn start base xs)
+  pub stands : Stands (keptIn start base xs) (length xs - base) width s
+  pub roomy : Roomy (length xs - base) width s
+  pub begun : 0 < s .position
+  pub turns : s .count % 2 ≡ (s .place + 1) % 2
+  pub low : s .at ≤ mostBits + 1
+  pub long : length xs < 2305843009213693952
+
+-- a line that stands anywhere
+pub record Walks (w b bytes xs : List ℕ) (start base width : ℕ) (s : Stand) : Type 0 where
+  pub lookups : Lookups w b
+  pub loading : Loading bytes (s .at)
+  pub placed : (start ≤ base) × (base ≤ length xs)
+  pub narrow : width < 4294967295
+  pub rising : Rising width 0 (keptIn start base xs)
+  pub stands : Stands (keptIn start base xs) (length xs - base) width s
