@@ -1,5 +1,6 @@
 // Whether the readings of a page agree, and how its rows were read.
 use crate::lines;
+use crate::room;
 use crate::say;
 use crate::walk;
 use by_row::RowState;
@@ -94,16 +95,31 @@ fn reading(
     src: &[u8],
     settings: DecodeSettings,
     others: DecodeSettings,
-    first: &mut [u32],
-    second: &mut [u32],
-    third: &mut [u32],
-    fourth: &mut [u32],
     out: &mut [u8],
 ) -> Answer {
-    let read = walk::page(src, others, walk::Show::Nothing, third, fourth, out);
+    let mut first = room::line();
+    let mut second = room::line();
+    let mut third = room::line();
+    let mut fourth = room::line();
+    let read = walk::page(
+        src,
+        others,
+        walk::Show::Nothing,
+        &mut third,
+        &mut fourth,
+        out,
+    );
     let end = read.end;
     say::text(name);
-    if agree(src, settings, others, first, second, third, fourth) {
+    if agree(
+        src,
+        settings,
+        others,
+        &mut first,
+        &mut second,
+        &mut third,
+        &mut fourth,
+    ) {
         say::text(b"\tagrees\t");
     } else {
         say::text(b"\tdiffers\t");
@@ -132,14 +148,17 @@ fn read_as(settings: DecodeSettings, strict: bool, exact: bool, plain: bool) -> 
 }
 
 // How many rows are clean, cut and recovered where the page is read leniently, and how that ends.
-fn lenient(
-    src: &[u8],
-    settings: DecodeSettings,
-    first: &mut [u32],
-    second: &mut [u32],
-    out: &mut [u8],
-) {
-    let read = walk::page(src, settings, walk::Show::Nothing, first, second, out);
+fn lenient(src: &[u8], settings: DecodeSettings, out: &mut [u8]) {
+    let mut first = room::line();
+    let mut second = room::line();
+    let read = walk::page(
+        src,
+        settings,
+        walk::Show::Nothing,
+        &mut first,
+        &mut second,
+        out,
+    );
     let end = read.end;
     say::text(b"rows");
     say::field(end.rows);
@@ -150,76 +169,22 @@ fn lenient(
     ended(end);
 }
 
-fn exact_and_plain(
-    src: &[u8],
-    settings: DecodeSettings,
-    first: &mut [u32],
-    second: &mut [u32],
-    third: &mut [u32],
-    fourth: &mut [u32],
-    out: &mut [u8],
-) {
+fn exact_and_plain(src: &[u8], settings: DecodeSettings, out: &mut [u8]) {
     let exact = read_as(settings, true, true, false);
     let plain = read_as(settings, false, false, true);
-    reading(
-        b"exact",
-        src,
-        settings,
-        exact,
-        first,
-        second,
-        third,
-        fourth,
-        out,
-    );
-    reading(
-        b"plain",
-        src,
-        settings,
-        plain,
-        first,
-        second,
-        third,
-        fourth,
-        out,
-    );
+    reading(b"exact", src, settings, exact, out);
+    reading(b"plain", src, settings, plain, out);
 }
 
-fn others(
-    src: &[u8],
-    settings: DecodeSettings,
-    first: &mut [u32],
-    second: &mut [u32],
-    third: &mut [u32],
-    fourth: &mut [u32],
-    out: &mut [u8],
-) {
+fn others(src: &[u8], settings: DecodeSettings, out: &mut [u8]) {
     let strict = read_as(settings, true, false, false);
-    let end = reading(
-        b"strict",
-        src,
-        settings,
-        strict,
-        first,
-        second,
-        third,
-        fourth,
-        out,
-    );
-    exact_and_plain(src, settings, first, second, third, fourth, out);
+    let end = reading(b"strict", src, settings, strict, out);
+    exact_and_plain(src, settings, out);
     fault(end);
 }
 
-pub(crate) fn page(
-    src: &[u8],
-    settings: DecodeSettings,
-    first: &mut [u32],
-    second: &mut [u32],
-    third: &mut [u32],
-    fourth: &mut [u32],
-    out: &mut [u8],
-) {
+pub(crate) fn page(src: &[u8], settings: DecodeSettings, out: &mut [u8]) {
     let base = read_as(settings, false, false, false);
-    lenient(src, base, first, second, out);
-    others(src, base, first, second, third, fourth, out);
+    lenient(src, base, out);
+    others(src, base, out);
 }

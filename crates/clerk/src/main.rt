@@ -16,6 +16,7 @@ mod write;
 
 use desk::settings::Parsed;
 use rows::DecodeSettings;
+use rows::EncodingMode;
 
 fn narrow(n: u64) -> u32 {
     if n < 4294967296 { n as u32 } else { 4294967295 }
@@ -40,14 +41,14 @@ fn count_heads(
     least: u64,
     quota: i32,
     changes: &mut [u32],
-    ends: &mut [u64],
-    marks: &mut [u8],
 ) {
     let mut boxes = [0u32; 80];
     let mut seen = [0u8; 20];
     if !form::taken(lines::front(data, form as usize), &mut boxes, &mut seen) {
         return;
     }
+    let mut ends = room::ends();
+    let mut marks = room::marks();
     party::page(
         lines::rest(data, form as usize),
         settings,
@@ -55,19 +56,12 @@ fn count_heads(
         least,
         quota,
         changes,
-        ends,
-        marks,
+        &mut ends,
+        &mut marks,
     );
 }
 
-fn show(
-    data: &[u8],
-    settings: DecodeSettings,
-    marks: u64,
-    first: &mut [u32],
-    second: &mut [u32],
-    out: &mut [u8],
-) {
+fn show(data: &[u8], settings: DecodeSettings, marks: u64, out: &mut [u8]) {
     if 65536 < settings.columns {
         say::complain(b"a picture has at most 65536 columns");
         return;
@@ -76,7 +70,41 @@ fn show(
         say::complain(b"a picture has at least one column");
         return;
     }
-    picture::page(data, settings, marks == 1, first, second, out);
+    let mut first = room::line();
+    let mut second = room::line();
+    picture::page(data, settings, marks == 1, &mut first, &mut second, out);
+}
+
+fn list_rows(data: &[u8], settings: DecodeSettings, out: &mut [u8]) {
+    let mut first = room::line();
+    let mut second = room::line();
+    list::page(data, settings, &mut first, &mut second, out);
+}
+
+fn write_page(
+    data: &[u8],
+    encoding: EncodingMode,
+    fill: u32,
+    eols: bool,
+    k: u32,
+    changes: &mut [u32],
+    out: &mut [u8],
+) {
+    let mut ends = room::ends();
+    let mut first = room::line();
+    let mut second = room::line();
+    write::page(
+        data,
+        encoding,
+        fill,
+        eols,
+        k,
+        changes,
+        &mut ends,
+        &mut first,
+        &mut second,
+        out,
+    );
 }
 
 fn answer(
@@ -88,48 +116,20 @@ fn answer(
     c: u64,
     d: u64,
     changes: &mut [u32],
-    ends: &mut [u64],
-    marks: &mut [u8],
-    first: &mut [u32],
-    second: &mut [u32],
-    third: &mut [u32],
-    fourth: &mut [u32],
     out: &mut [u8],
 ) {
     let encoding = settings.encoding;
     match command {
-        0 => list::page(data, settings, first, second, out),
-        1 => count_heads(data, settings, a, b, quota(c, d), changes, ends, marks),
-        2 => show(data, settings, a, first, second, out),
-        3 => write::page(
-            data,
-            encoding,
-            narrow(a),
-            b == 1,
-            narrow(c),
-            changes,
-            ends,
-            first,
-            second,
-            out,
-        ),
-        _ => check::page(data, settings, first, second, third, fourth, out),
+        0 => list_rows(data, settings, out),
+        1 => count_heads(data, settings, a, b, quota(c, d), changes),
+        2 => show(data, settings, a, out),
+        3 => write_page(data, encoding, narrow(a), b == 1, narrow(c), changes, out),
+        _ => check::page(data, settings, out),
     }
 }
 
 // Answers the request at a place, if there is one, and says where the next one begins.
-fn request(
-    input: &[u8],
-    at: usize,
-    changes: &mut [u32],
-    ends: &mut [u64],
-    marks: &mut [u8],
-    first: &mut [u32],
-    second: &mut [u32],
-    third: &mut [u32],
-    fourth: &mut [u32],
-    out: &mut [u8],
-) -> usize {
+fn request(input: &[u8], at: usize, changes: &mut [u32], out: &mut [u8]) -> usize {
     if input.len() <= at {
         return at;
     }
@@ -155,44 +155,17 @@ fn request(
         c.value,
         d.value,
         changes,
-        ends,
-        marks,
-        first,
-        second,
-        third,
-        fourth,
         out,
     );
     text::after(input, from, bytes)
 }
 
 // A run answers up to 64 requests.
-fn requests(
-    input: &[u8],
-    changes: &mut [u32],
-    ends: &mut [u64],
-    marks: &mut [u8],
-    first: &mut [u32],
-    second: &mut [u32],
-    third: &mut [u32],
-    fourth: &mut [u32],
-    out: &mut [u8],
-) {
+fn requests(input: &[u8], changes: &mut [u32], out: &mut [u8]) {
     let mut at = 0;
     let mut left: usize = 64;
     while 0 < left {
-        at = request(
-            input,
-            at,
-            changes,
-            ends,
-            marks,
-            first,
-            second,
-            third,
-            fourth,
-            out,
-        );
+        at = request(input, at, changes, out);
         left -= 1;
     }
 }
@@ -200,51 +173,19 @@ fn requests(
 // Arrays lie on the stack, of which a system gives 8 MiB where nobody asks for more: a page of ordinary size needs no more than that. Says how many bytes were read.
 fn large() -> usize {
     let mut changes = room::large_changes();
-    let mut ends = room::ends();
-    let mut marks = room::marks();
-    let mut first = room::line();
-    let mut second = room::line();
-    let mut third = room::line();
-    let mut fourth = room::line();
     let mut out = room::large_out();
     let mut input = room::large_input();
     let got = io::read_full(libc::STDIN_FILENO, &mut input);
-    requests(
-        lines::front(&input, got),
-        &mut changes,
-        &mut ends,
-        &mut marks,
-        &mut first,
-        &mut second,
-        &mut third,
-        &mut fourth,
-        &mut out,
-    );
+    requests(lines::front(&input, got), &mut changes, &mut out);
     got
 }
 
 fn small() {
     let mut changes = room::changes();
-    let mut ends = room::ends();
-    let mut marks = room::marks();
-    let mut first = room::line();
-    let mut second = room::line();
-    let mut third = room::line();
-    let mut fourth = room::line();
     let mut out = room::input();
     let mut input = room::input();
     let got = io::read_full(libc::STDIN_FILENO, &mut input);
-    requests(
-        lines::front(&input, got),
-        &mut changes,
-        &mut ends,
-        &mut marks,
-        &mut first,
-        &mut second,
-        &mut third,
-        &mut fourth,
-        &mut out,
-    );
+    requests(lines::front(&input, got), &mut changes, &mut out);
 }
 
 // `large` stands here twice, so that it is not compiled into `main`, whose frame must be small: where nothing was read, it reads once more.

@@ -8,10 +8,10 @@ use Rattle.clerk.proofs.requests.Statement.{statement}
 use Rattle.clerk.proofs.requests.Tie as tie
 
 abbrev Inv-loop : tie.InvT-loop
-Inv-loop input changes₀ ends₀ marks₀ first₀ second₀ third₀ fourth₀ out₀ at₀ left₀ changes ends marks first second third fourth out at left = (length changes ≡ length changes₀) × (length ends ≡ length ends₀) × (length marks ≡ length marks₀) × (length first ≡ length first₀) × (length second ≡ length second₀) × (length third ≡ length third₀) × (length fourth ≡ length fourth₀) × (length out ≡ length out₀) × (left ≤ left₀)
+Inv-loop input changes₀ out₀ at₀ left₀ changes out at left = (length changes ≡ length changes₀) × (length out ≡ length out₀) × (left ≤ left₀)
 
 abbrev μ-loop : tie.MeasureT-loop
-μ-loop input changes₀ ends₀ marks₀ first₀ second₀ third₀ fourth₀ out₀ at₀ left₀ changes ends marks first second third fourth out at left = left
+μ-loop input changes₀ out₀ at₀ left₀ changes out at left = left
 
 loop-holds : tie.Need-loop-holds Inv-loop μ-loop
 loop-holds c = omega arith
@@ -34,24 +34,6 @@ same-length c = omega arith
 same-length-2 : tie.Need-same-length-2 Inv-loop μ-loop
 same-length-2 c = omega arith
 
-same-length-3 : tie.Need-same-length-3 Inv-loop μ-loop
-same-length-3 c = omega arith
-
-same-length-4 : tie.Need-same-length-4 Inv-loop μ-loop
-same-length-4 c = omega arith
-
-same-length-5 : tie.Need-same-length-5 Inv-loop μ-loop
-same-length-5 c = omega arith
-
-same-length-6 : tie.Need-same-length-6 Inv-loop μ-loop
-same-length-6 c = omega arith
-
-same-length-7 : tie.Need-same-length-7 Inv-loop μ-loop
-same-length-7 c = omega arith
-
-same-length-8 : tie.Need-same-length-8 Inv-loop μ-loop
-same-length-8 c = omega arith
-
 returns : tie.Need-returns Inv-loop μ-loop
 returns c = search needs
 
@@ -68,10 +50,4 @@ requests-spec =
     loop-again
     same-length
     same-length-2
-    same-length-3
-    same-length-4
-    same-length-5
-    same-length-6
-    same-length-7
-    same-length-8
     returns)
