@@ -94,6 +94,6 @@ pub fn mode_at(src: &[u8], at: usize) -> Mode
     requires { ⌜ Loading (now src) at ⌝ }
     ensures { λ r. ⌜ modeOf at r ≡ readMode (bitsOf (now (src .entry))) at ⌝ }
 {
-    let bits = bit_reader::peek(src, at);
-    by_zeros(src, at, bits)
+    let ahead = bit_reader::peek(src, at);
+    by_zeros(src, at, ahead)
 }
