@@ -68,10 +68,10 @@ impl Source for LongRuns {
     }
 }
 
-/// The plain engine takes seconds for one of these. It reads the three sums at the limit: 4,294,967,295 in black, and one more, at the
-/// terminating code in white and at a make-up code in black.
+/// The plain engine takes seconds for one of these, and behind the emulator minutes, so that it is not asked there. It reads the three sums at
+/// the limit: 4,294,967,295 in black, and one more, at the terminating code in white and at a make-up code in black.
 fn is_plain(index: u64) -> bool {
-    matches!(index, 5 | 10 | 13)
+    cfg!(any(feature = "linked", test)) && matches!(index, 5 | 10 | 13)
 }
 
 fn put_sum(bits: &mut Bits, colour: Colour, rest: &Rest) {
