@@ -24,3 +24,4 @@ pub mod CutGroup3
 pub mod Heads
 pub mod HeadRuns
 pub mod HeadsOfPage
+pub mod Called

@@ -21,3 +21,4 @@ pub mod BadLines2D
 pub mod CutGroup3
 pub mod Heads
 pub mod HeadsOfPage
+pub mod Called
