@@ -7,13 +7,7 @@ use Rattle.rows.specs.declared.DecodeSettings.{DecodeSettings}
 use Rattle.heads.specs.declared.Box.{Box}
 use Rattle.promises.specs.declared.Told.{Told}
 use Rattle.promises.specs.Rooms.{Call, Reading}
-use Rattle.promises.specs.Heads.{Asked}
 use Rattle.promises.specs.HeadsOfPage.{askedOf, Counted}
-
--- what `heads` is asked
-abbrev pub asked : ℕ → List ℕ → List ℕ → List ℕ → List (List Box) → ℕ → ℤ → Asked
-asked columns changes ends marks form least quota =
-    record { columns = columns; changes = changes; ends = ends; marks = marks; form = form; least = least; quota = quota }
 
 -- A page decoded, and its heads asked for at once: the page is as `decode` promises; 8 is never answered; and with the number 0 the heads are counted in lines that
 -- the page's own bits say, each read clean.

@@ -1,11 +1,11 @@
--- `promises::count_heads` meets its contract, which is that of `heads::heads`; a quota that is handed on is the quota that came. Assumes nothing.
+-- `promises::of_heads::heads` meets its contract, which is that of `heads::heads`; a quota that is handed on is the quota that came. Assumes nothing.
 use mathlib.Core.Path.{ap, _∙_}
 use denote.Ref.{now}
 use borrow.Author.Needs.{needs}
 use Rattle.heads.specs.Form.{heads}
 use Rattle.heads.proofs.Quota.{held}
-use Rattle.promises.proofs.count_heads.Statement.{statement}
-use Rattle.promises.proofs.count_heads.Tie as tie
+use Rattle.promises.proofs.of_heads.heads.Statement.{statement}
+use Rattle.promises.proofs.of_heads.heads.Tie as tie
 
 heads-requires : tie.Need-heads-requires
 heads-requires c κs = search needs
@@ -16,5 +16,5 @@ returns c =
     c .heads .ensures
     ∙ ap (heads (s .args .columns) (now (s .args .changes)) (now (s .args .ends)) (now (s .args .marks)) (s .args .form) (s .args .least)) (held (s .fits .quota))
 
-pub count-heads-spec : {M : Type 1} → statement M
-count-heads-spec = tie.close (tie.spec heads-requires returns)
+pub heads-spec : {M : Type 1} → statement M
+heads-spec = tie.close (tie.spec heads-requires returns)

@@ -1,11 +1,11 @@
--- `promises::count_heads_for_c` meets its contract, which is that of `exports::ccitt_heads`; a quota that is handed on is the quota that came. Assumes nothing.
+-- `promises::of_exports::ccitt_heads` meets its contract, which is that of `exports::ccitt_heads`; a quota that is handed on is the quota that came. Assumes nothing.
 use mathlib.Core.Path.{ap, _∙_}
 use denote.Ref.{now}
 use borrow.Author.Needs.{needs}
 use Rattle.heads.specs.Numbers.{headsFrom}
 use Rattle.heads.proofs.Quota.{held}
-use Rattle.promises.proofs.count_heads_for_c.Statement.{statement}
-use Rattle.promises.proofs.count_heads_for_c.Tie as tie
+use Rattle.promises.proofs.of_exports.ccitt_heads.Statement.{statement}
+use Rattle.promises.proofs.of_exports.ccitt_heads.Tie as tie
 
 ccitt-heads-requires : tie.Need-ccitt-heads-requires
 ccitt-heads-requires c κs = search needs
@@ -16,5 +16,5 @@ returns c =
     c .ccitt-heads .ensures
     ∙ ap (headsFrom (s .args .columns) (now (s .args .changes)) (now (s .args .ends)) (now (s .args .marks)) (now (s .args .boxes)) (s .args .least)) (held (s .fits .quota))
 
-pub count-heads-for-c-spec : {M : Type 1} → statement M
-count-heads-for-c-spec = tie.close (tie.spec ccitt-heads-requires returns)
+pub ccitt-heads-spec : {M : Type 1} → statement M
+ccitt-heads-spec = tie.close (tie.spec ccitt-heads-requires returns)

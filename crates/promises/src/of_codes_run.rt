@@ -1,0 +1,36 @@
+// Calls of the public functions of codes::run, each with the contract that its promises are about.
+use bit_reader::buffer::Buffer;
+use codes::run::Code;
+use codes::run::Run;
+ghost use mathlib.Core.Path.{_≡_};
+ghost use Rattle.rules.specs.Bits.{bitsOf};
+ghost use Rattle.rules.specs.Runs.{sum, runStep};
+ghost use Rattle.tables.specs.Tables.{colourOf};
+ghost use Rattle.codes.specs.Runs.{Reading, RunRead, CodeFrom, codeOf};
+
+pub fn read_run<'a>(
+    white: &'a [u16; 8192],
+    black: &'a [u16; 8192],
+    colour: usize,
+    src: &[u8],
+    start: Buffer,
+) -> Run
+    requires { ⌜ Reading (now white) (now black) (now src) start ⌝ }
+    ensures { λ r. ⌜ RunRead (colourOf colour) (now (src .entry)) (start .at) r ⌝ }
+{
+    codes::run::read_run(white, black, colour, src, start)
+}
+
+pub fn read_code<'a>(
+    white: &'a [u16; 8192],
+    black: &'a [u16; 8192],
+    colour: usize,
+    src: &[u8],
+    at: usize,
+    total: u32,
+) -> Code
+    requires { ⌜ CodeFrom (now white) (now black) (now src) at ⌝ }
+    ensures { λ r. ⌜ codeOf r ≡ runStep (colourOf colour) (bitsOf (now (src .entry))) (sum at total) ⌝ }
+{
+    codes::run::read_code(white, black, colour, src, at, total)
+}

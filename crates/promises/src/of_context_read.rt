@@ -1,0 +1,16 @@
+// Calls of the public functions of context::read, each with the contract that its promises are about.
+use error::Answer;
+ghost use Rattle.context.specs.OneLine.{ReadOne};
+
+pub fn read_line(
+    src: &[u8],
+    at: u64,
+    columns: u32,
+    strict: bool,
+    reference: &[u32],
+    changes: &mut [u32],
+) -> Answer
+    ensures { λ r. ⌜ ReadOne (now (src .entry)) at columns strict (now (reference .entry)) (now (changes .entry)) r (now (changes .exit)) ⌝ }
+{
+    context::read::read_line(src, at, columns, strict, reference, changes)
+}

@@ -1,0 +1,45 @@
+// Calls of the public functions of group3, each with the contract that its promises are about.
+use rows::DecodeSettings;
+use rows::Row;
+use rows::State;
+ghost use mathlib.Core.Path.{_≡_};
+ghost use Prim.Native.Nat.{_-_};
+ghost use lib.ListN.{length};
+ghost use Rattle.rules.specs.Bits.{bitsOf};
+ghost use Rattle.rules.specs.Group3.{row3};
+ghost use Rattle.tables.specs.Pairs.{pairTable};
+ghost use Rattle.rows.specs.Settings.{settingsOf};
+ghost use Rattle.rows.specs.Between.{stateOf, RowFrom, RowGives};
+ghost use Rattle.group3.specs.Tags.{taggingOf};
+
+pub fn row<'a>(
+    white: &'a [u16; 8192],
+    black: &'a [u16; 8192],
+    both: &'a [u16; 2048],
+    src: &[u8],
+    settings: DecodeSettings,
+    lent: &[u32],
+    changes: &mut [u32],
+    state: State,
+) -> Row
+    requires { ⌜ RowFrom (now white) (now black) (now src) (now lent) (now changes) settings state × (now both ≡ pairTable) ⌝ }
+    ensures { λ r. ⌜ RowGives (state .base) (now (changes .entry)) (row3 (settingsOf settings) (taggingOf (settings .encoding)) (bitsOf (now (src .entry))) (length (now (changes .entry)) - state .base) (stateOf (now (lent .entry)) (now (changes .entry)) state)) r (now (changes .exit)) ⌝ }
+{
+    group3::row(white, black, both, src, settings, lent, changes, state)
+}
+
+pub fn swift_row<'a>(
+    white: &'a [u16; 8192],
+    black: &'a [u16; 8192],
+    both: &'a [u16; 2048],
+    src: &[u8],
+    settings: DecodeSettings,
+    lent: &[u32],
+    changes: &mut [u32],
+    state: State,
+) -> Row
+    requires { ⌜ RowFrom (now white) (now black) (now src) (now lent) (now changes) settings state × (now both ≡ pairTable) ⌝ }
+    ensures { λ r. ⌜ RowGives (state .base) (now (changes .entry)) (row3 (settingsOf settings) (taggingOf (settings .encoding)) (bitsOf (now (src .entry))) (length (now (changes .entry)) - state .base) (stateOf (now (lent .entry)) (now (changes .entry)) state)) r (now (changes .exit)) ⌝ }
+{
+    group3::swift_row(white, black, both, src, settings, lent, changes, state)
+}
