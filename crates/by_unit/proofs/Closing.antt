@@ -25,8 +25,9 @@ use Rattle.rules.specs.Pages.{entries, joined, endsFrom, placesIn}
 use Rattle.rules.specs.InSteps.{says}
 use Rattle.rules.specs.Units.{between, inLine, Keeping, Going, going, soFar, nextEol, lineOrOver, overAt, eolOrLine, betweenRows, keeps, closeRow, broken, settle}
 use Rattle.rules.specs.ByUnit.{part, saidBehind, overlaidFrom}
-use Rattle.rules.proofs.Ascending.{Rising, rises-wider}
-use Rattle.rules.proofs.Ascending as Rising
+use Rattle.rules.specs.Rising.{Rising}
+use Rattle.rules.proofs.Ascending.{rises-wider}
+use Rattle.rules.specs.Rising as Rising
 use Rattle.rules.proofs.Bits.{length-bitsOf}
 use Rattle.rules.proofs.Budget.{whole-bytes, aligned-ahead}
 use Rattle.error.specs.declared.Answer.{Answer}

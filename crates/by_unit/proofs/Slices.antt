@@ -14,7 +14,7 @@ use Rattle.rules.specs.Lines as Lines
 use Rattle.rules.specs.Lines.{Rules, Went, went, failed, afterRun, code2D, two}
 use Rattle.rules.specs.Pages.{placesIn}
 use Rattle.rules.proofs.Ahead.{b2-ahead}
-use Rattle.rules.proofs.Ascending.{Rising}
+use Rattle.rules.specs.Rising.{Rising}
 use Rattle.rules.proofs.Bits.{length-bitsOf}
 use Rattle.rules.proofs.Grows.{Grows, GrowsTo, code2D-grows, afterRun-grows}
 use Rattle.rules.proofs.Lines.{moves}

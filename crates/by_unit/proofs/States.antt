@@ -20,7 +20,8 @@ use Rattle.rules.specs.Units as Units
 use Rattle.rules.specs.Units.{going}
 use Rattle.rules.specs.ByUnit as Rule
 use Rattle.rules.specs.ByUnit.{atEols, atMode, atFirst, atSecond, endOf, part, goingOf, sound, savedAt, opened, ended}
-use Rattle.rules.proofs.Ascending.{Rising, ascends-rises}
+use Rattle.rules.specs.Rising.{Rising}
+use Rattle.rules.proofs.Ascending.{ascends-rises}
 use Rattle.rules.proofs.Bits.{length-bitsOf, both-true}
 use Rattle.tables.specs.Tables.{colourOf}
 use Rattle.context.specs.declared.line.Line.{Line}

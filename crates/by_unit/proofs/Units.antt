@@ -25,7 +25,7 @@ use Rattle.rules.specs.Pages.{entries, joined, endsFrom, overlaid, placesIn}
 use Rattle.rules.specs.Units as Units
 use Rattle.rules.specs.Units.{between, inLine, inRun, Keeping, Going, going, rulesAt, broken, settle, afterCode, modeUnit, unlessUnmoved, afterHalf, runUnit, eolUnit, unit, outBehind}
 use Rattle.rules.specs.ByUnit.{part, overlaidFrom}
-use Rattle.rules.proofs.Ascending.{Rising}
+use Rattle.rules.specs.Rising.{Rising}
 use Rattle.rules.proofs.Bits.{length-bitsOf}
 use Rattle.rules.proofs.Grows.{Grows, GrowsTo, grows-here, afterRun-grows, code2D-grows}
 use Rattle.rules.proofs.Lines.{Each, Pushes, PushFails, push-pushes, data-bound, Coded, code-coded}

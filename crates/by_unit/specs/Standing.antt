@@ -19,7 +19,7 @@ use Rattle.rules.specs.InSteps.{Said, says}
 use Rattle.rules.specs.Units as Units
 use Rattle.rules.specs.Units.{first, second, between, inLine, inRun, Keeping, Going, going, soFar, nextEol, anew}
 use Rattle.rules.specs.ByUnit.{part, saidBehind, overlaidFrom}
-use Rattle.rules.proofs.Ascending.{Rising}
+use Rattle.rules.specs.Rising.{Rising}
 use Rattle.error.specs.declared.Answer.{Answer}
 use Rattle.codes.specs.declared.eol.Eols.{Eols}
 use Rattle.codes.specs.Eols.{eolsOf}

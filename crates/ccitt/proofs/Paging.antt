@@ -19,7 +19,7 @@ use Rattle.rules.specs.Pages as Page
 use Rattle.rules.specs.Pages.{mostBytes, entries, noneKept, withRow, endWith, rowOf, rowsLeft, pageOf, readPage, tooFew, shortOf, unlessShort, decode, placesIn, overlaid, joined, endsFrom, changesAfter, endsAfter, marksAfter}
 use Rattle.rules.proofs.Machine.{ends-more, ends-done}
 use Rattle.rules.proofs.Bits.{length-bitsOf}
-use Rattle.rules.proofs.Ascending.{Rising}
+use Rattle.rules.specs.Rising.{Rising}
 use Rattle.rules.proofs.Budget.{Bytes}
 use Rattle.rules.proofs.Pages.{Onward, Moved, Goes, Does, row-goes, row-does, step, roomFor, page-kept, page-full, page-stopped, page-falls, Held, held-start, held-next, held-entries}
 use Rattle.rules.proofs.Marks.{RowMarked, row-marked}

@@ -14,9 +14,9 @@ use lib.Pow.{shr-shr}
 use lib.Seq.{drop-drop}
 use borrow.Author.Tests.{lt-ltb, le-ltb, ltb-true, ltb-false}
 use Rattle.rules.specs.Bits.{bitsOf, peek, leadingZeros}
-use Rattle.rules.specs.Eols.{zeroRun, eolAfter, Eols, eolsTo, readEols, skip, skipToEol}
+use Rattle.rules.specs.Eols.{zeroRun, eolAfter, Eols, eolsTo, readEols, skip, skipToEol, EolAt}
 use Rattle.rules.proofs.Bits.{length-bitsOf, pow-two, peek-lt, peek-high, peek-low, peek-one}
-use Rattle.rules.proofs.Eols.{EolAt, skip-here, zeros-inside}
+use Rattle.rules.proofs.Eols.{skip-here, zeros-inside}
 use Rattle.bit_reader.specs.Loaded.{Loaded, LoadedAt}
 use Rattle.bit_reader.specs.Zeros.{oneOrEnd}
 use Rattle.bit_reader.specs.declared.buffer.Buffer.{Buffer}

@@ -9,7 +9,8 @@ use lib.ListN.{length, getD, drop}
 use borrow.Author.Tests.{le-leb, lt-leb, ltb-true, ltb-false, leb-true, leb-false, eq-eqb, eqb-true, eqb-false}
 use Rattle.rules.specs.Codes.{Colour, white, black, opposite, differ}
 use Rattle.rules.specs.Lines.{rightOfA0, fromB1, headOr, tail, b1, b2}
-use Rattle.rules.proofs.Ascending.{Rising, none, some, rises-length, head-fits}
+use Rattle.rules.specs.Rising.{Rising, none, some}
+use Rattle.rules.proofs.Ascending.{rises-length, head-fits}
 use Rattle.tables.specs.Tables.{colourOf}
 use Rattle.context.specs.Reference.{Stopped, turnsAt, b1Place}
 use Rattle.context.specs.Places.{Left, Seen, Onward, Reached, Turning, Back}

@@ -12,7 +12,8 @@ use borrow.Author.Count.{below-more}
 use borrow.Author.Tests.{le-leb, lt-leb, eq-eqb, ne-eqb}
 use Rattle.rules.specs.Codes.{Colour, white, black, opposite, differ}
 use Rattle.rules.specs.Lines.{rightOfA0, fromB1, headOr, tail}
-use Rattle.rules.proofs.Ascending.{Rising, none, some, rises-lower}
+use Rattle.rules.specs.Rising.{Rising, none, some}
+use Rattle.rules.proofs.Ascending.{rises-lower}
 use Rattle.tables.specs.Tables.{colourOf}
 use Rattle.context.specs.Reference.{Passed, Stopped, Finds, turnsAt, b1Place}
 

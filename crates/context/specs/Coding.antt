@@ -10,7 +10,7 @@ use Rattle.rules.specs.Modes.{horizontal}
 use Rattle.rules.specs.Lines as Rule
 use Rattle.rules.specs.Lines.{Went, unlessIdle, code2D, two, readLine}
 use Rattle.rules.specs.Pages.{overlaid}
-use Rattle.rules.proofs.Ascending.{Rising}
+use Rattle.rules.specs.Rising.{Rising}
 use Rattle.tables.specs.Tables.{colourOf}
 use Rattle.context.specs.declared.line.Line.{Line}
 use Rattle.context.specs.declared.line.Push.{Push}

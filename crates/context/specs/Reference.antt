@@ -7,7 +7,7 @@ use lib.Dec.{eqb}
 use lib.ListN.{length, getD}
 use Rattle.rules.specs.Codes.{Colour, white, black, differ}
 use Rattle.rules.specs.Lines.{rightOfA0, b1, b2}
-use Rattle.rules.proofs.Ascending.{Rising}
+use Rattle.rules.specs.Rising.{Rising}
 use Rattle.context.specs.declared.reference.Found.{Found}
 
 -- each change before the place `seen` lies left of `least`

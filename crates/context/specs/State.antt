@@ -7,9 +7,8 @@ use lib.Dec.{eqb}
 use lib.ListN.{length, take}
 use Rattle.rules.specs.Codes.{Colour, white, black}
 use Rattle.rules.specs.Lines as Rule
-use Rattle.rules.specs.Lines.{Went, went, failed, add, push}
+use Rattle.rules.specs.Lines.{Went, went, failed, add, push, lineIn}
 use Rattle.rules.specs.Pages.{overlaid}
-use Rattle.rules.proofs.Grows.{lineIn}
 use Rattle.tables.specs.Tables.{colourOf}
 use Rattle.context.specs.declared.line.Line.{Line}
 use Rattle.context.specs.declared.line.Push.{Push}

@@ -10,11 +10,11 @@ use lib.ListN.{length, drop}
 use borrow.Author.Tests.{lt-ltb, le-ltb, ltb-false, eqb-true}
 use Rattle.rules.specs.Bits.{bitsOf, peek}
 use Rattle.rules.specs.Eols as Rule
-use Rattle.rules.specs.Eols.{zeroRun, eolAfter, eolsTo, allEols, skipToEol}
+use Rattle.rules.specs.Eols.{zeroRun, eolAfter, eolsTo, allEols, skipToEol, EolAt}
 use Rattle.rules.specs.Rows.{Settings, alignedIf}
 use Rattle.rules.specs.Group3.{Tagging, eols3, line-at, end-at, no-eol-at, leading, judged, searched, missing, lacking, checked, checkEob}
 use Rattle.rules.proofs.Bits.{length-bitsOf}
-use Rattle.rules.proofs.Eols.{EolAt, eols3-ahead, eols3-read, skip-finds, eol-inside}
+use Rattle.rules.proofs.Eols.{eols3-ahead, eols3-read, skip-finds, eol-inside}
 use Rattle.rules.proofs.Budget.{Bytes, aligned-ahead}
 use Rattle.bit_reader.specs.Loaded.{Loading}
 use Rattle.codes.specs.declared.eol.Eols.{Eols}

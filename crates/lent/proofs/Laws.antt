@@ -7,8 +7,7 @@ use native.Mathlib.Omega.{arith}
 use lib.Dec.{eqb, leb}
 use lib.ListN.{length}
 use borrow.Author.Tests.{leb-true, leb-false, eqb-false}
-use Rattle.rules.specs.Lines.{Went, went, failed, push}
-use Rattle.rules.proofs.Grows.{lineIn}
+use Rattle.rules.specs.Lines.{Went, went, failed, push, lineIn}
 use Rattle.context.specs.declared.line.Line.{Line}
 use Rattle.context.specs.declared.line.Push.{Push}
 use Rattle.context.specs.declared.line.Push.the-variants.{On, Stop}

@@ -5,9 +5,8 @@ use mathlib.Core.List.{List}
 use Prim.Native.Nat.{ℕ, zero, suc, _<_}
 use lib.Dec.{leb}
 use lib.ListN.{length}
-use Rattle.rules.specs.Lines.{Went, went, failed, push}
+use Rattle.rules.specs.Lines.{Went, went, failed, push, lineIn}
 use Rattle.rules.specs.Pages.{overlaid, tooWide}
-use Rattle.rules.proofs.Grows.{lineIn}
 use Rattle.context.specs.declared.line.Line.{Line}
 use Rattle.context.specs.State.{lineAt, lineFor, pushRules, changesOf}
 

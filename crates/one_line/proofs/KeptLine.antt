@@ -11,7 +11,7 @@ use Rattle.rules.specs.Lines as Rule
 use Rattle.rules.specs.Lines.{Rules, rightOfA0, headOr, lineEnd}
 use Rattle.rules.specs.Pages.{overlaid}
 use Rattle.rules.proofs.Bits.{length-bitsOf}
-use Rattle.rules.proofs.Ascending.{Rising}
+use Rattle.rules.specs.Rising.{Rising}
 use Rattle.tables.specs.Tables.{colourOf}
 use Rattle.context.specs.declared.line.Line.{Line}
 use Rattle.context.specs.declared.reference.Found.{Found}

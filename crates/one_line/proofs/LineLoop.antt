@@ -14,7 +14,7 @@ use Rattle.rules.proofs.Ahead.{b2-ahead}
 use Rattle.rules.proofs.Bits.{length-bitsOf}
 use Rattle.rules.proofs.Grows.{Grows, GrowsTo, code2D-grows}
 use Rattle.rules.proofs.Lines.{moves, line-more, line-failed, line-done}
-use Rattle.rules.proofs.Ascending.{Rising}
+use Rattle.rules.specs.Rising.{Rising}
 use Rattle.tables.specs.Tables.{colourOf}
 use Rattle.context.specs.declared.line.Line.{Line}
 use Rattle.context.specs.declared.reference.Found.{Found}

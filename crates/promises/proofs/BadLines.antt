@@ -13,12 +13,12 @@ use Rattle.rules.specs.Pages as Page
 use Rattle.rules.specs.Pages.{mostBytes}
 use Rattle.rules.specs.Write.{mostMakeup, lineBits, toByte, rowsIn}
 use Rattle.rules.specs.WriteGroup3.{filled, page3Bits, writeGroup3, write1D}
-use Rattle.rules.specs.Damage.{stray, Arrived, own, other, arrivedPage, mayAll, Spared, no-lines, unchanged, any-row}
-use Rattle.rules.proofs.PageBack.{Rows}
+use Rattle.rules.specs.Damage.{stray, Arrived, own, other, arrivedPage, mayAll, Spared, no-lines, unchanged, any-row, RoomFor, AllButOne}
+use Rattle.rules.specs.Rising.{Rows}
 use Rattle.rules.proofs.Store.{length-rowsIn}
 use Rattle.rules.proofs.Group3Trip.{Page3Written, page3-written, page-bytes}
 use Rattle.rules.proofs.BadLines.{Mending, spared-length}
-use Rattle.rules.proofs.OneBadLine.{RoomFor, AllButOne, bad-lines-decode, written-line-at, one-bad-line}
+use Rattle.rules.proofs.OneBadLine.{bad-lines-decode, written-line-at, one-bad-line}
 use Rattle.error.specs.declared.Answer.{Answer}
 use Rattle.rows.specs.declared.DecodeSettings.{DecodeSettings}
 use Rattle.rows.specs.Settings.{encodingOf, settingsOf}

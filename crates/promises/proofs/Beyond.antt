@@ -8,8 +8,8 @@ use native.Mathlib.Omega.{arith}
 use lib.ListN.{length, take, length-append}
 use Rattle.rules.specs.Pages.{ascends}
 use Rattle.rules.specs.Write.{rowsIn}
-use Rattle.rules.proofs.Ascending.{Rising, none, rises-ascends}
-use Rattle.rules.proofs.PageBack.{Rows, row-then}
+use Rattle.rules.specs.Rising.{Rising, none, Rows, row-then}
+use Rattle.rules.proofs.Ascending.{rises-ascends}
 use Rattle.promises.specs.Beyond.{Follows, RowsGoBack}
 use Rattle.promises.proofs.Demand1.{decode-answers}
 use Rattle.promises.proofs.Demand1Write.{write-line-answers}

@@ -15,15 +15,16 @@ use Rattle.rules.specs.Pages as Page
 use Rattle.rules.specs.Pages.{mostBytes, tooWide, strictIfExact}
 use Rattle.rules.specs.InSteps.{Said, moreToCome}
 use Rattle.rules.specs.ByRow as Rule
-use Rattle.rules.specs.ByRow.{Arrays, arrayAt, other, unended, ended, referenceIn, between, roomIn, afterRow, unlessFew, sound, readRow, Caller, callerWith, Over, goesOn, callStep, overOf}
+use Rattle.rules.specs.ByRow.{Arrays, arrayAt, other, unended, ended, referenceIn, between, roomIn, afterRow, unlessFew, sound, readRow, Caller, callerWith, Over, goesOn, callStep, overOf, FitIn}
 use Rattle.rules.proofs.Machine.{run-once}
 use Rattle.rules.proofs.Bits.{length-bitsOf, both-true}
-use Rattle.rules.proofs.Ascending.{Rising, ascends-rises, rises-ascends}
+use Rattle.rules.specs.Rising.{Rising}
+use Rattle.rules.proofs.Ascending.{ascends-rises, rises-ascends}
 use Rattle.rules.proofs.Budget.{whole-bytes}
 use Rattle.rules.proofs.LessRoom.{changesIn}
 use Rattle.rules.proofs.ByRow.{few-cases, call-cases, repeats-end, call-marked, Bounded, row-bounded, call-sides, Own, own-start, own-lent, rowAt, rowIn, own-next, own-reads}
 use Rattle.rules.proofs.ByRow as Laws
-use Rattle.rules.proofs.FormsAgree.{FitIn, start-sound, fitting-agree, few-changes, any-row, changesHere, four-exactly}
+use Rattle.rules.proofs.FormsAgree.{start-sound, fitting-agree, few-changes, any-row, changesHere, four-exactly}
 use Rattle.error.specs.declared.Answer.{Answer}
 use Rattle.rows.specs.declared.DecodeSettings.{DecodeSettings}
 use Rattle.rows.specs.Settings.{settingsOf}

@@ -19,7 +19,7 @@ use Rattle.rules.specs.InSteps.{Said, saysOnly}
 use Rattle.rules.specs.Units.{Going, unitsStart, soFar, call, total, callsFor, pageUnits}
 use Rattle.rules.specs.ByUnit as Rule
 use Rattle.rules.specs.ByUnit.{endOf, part, goingOf, sound, savedStart, saidBehind, unlessFewer, readingAfter, opened, ended, asGroup4, still, turnOn, turn, turns}
-use Rattle.rules.proofs.Ascending as Rising
+use Rattle.rules.specs.Rising as Rising
 use Rattle.rules.proofs.Ascending.{ascends-rises}
 use Rattle.rules.proofs.Bits.{length-bitsOf, both-true}
 use Rattle.rules.proofs.Store.{overlaid-nothing}

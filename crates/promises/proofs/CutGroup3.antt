@@ -17,7 +17,7 @@ use Rattle.rules.specs.Pages.{mostBytes}
 use Rattle.rules.specs.Write.{mostMakeup, toByte, rowsIn}
 use Rattle.rules.specs.WriteGroup3.{filled, page3Bits, writeGroup3, write1D}
 use Rattle.rules.specs.Cut.{CutTold, first-rows, marked}
-use Rattle.rules.proofs.PageBack.{Rows}
+use Rattle.rules.specs.Rising.{Rows}
 use Rattle.rules.proofs.Store.{length-rowsIn}
 use Rattle.rules.proofs.RoundTrip.{bits-split}
 use Rattle.rules.proofs.Group3Trip.{blank-none, Page3Written, page3-written, page-bytes}

@@ -15,7 +15,7 @@ use Rattle.rules.specs.Pages.{mostBytes, tooWide, entries, joined, endsFrom, ov
 use Rattle.rules.specs.Write.{rowsIn}
 use Rattle.rules.proofs.Bits.{length-bitsOf}
 use Rattle.rules.proofs.Budget.{Bytes}
-use Rattle.rules.proofs.PageBack.{Rows, no-rows}
+use Rattle.rules.specs.Rising.{Rows, no-rows}
 use Rattle.rules.proofs.Pages.{read-answered}
 use Rattle.rules.proofs.Answers.{short-cases}
 use Rattle.rules.proofs.ExactPages.{ShortPage, decode-short, decode-done}

@@ -14,7 +14,7 @@ use Rattle.rules.specs.Lines.{Rules, newLine, Went, went, failed, two, readLine
 use Rattle.rules.specs.Pages as Page
 use Rattle.rules.specs.Pages.{mostBytes, ascends, entries, joined, overlaid, oneLine, readOneLine, changesAfter}
 use Rattle.rules.proofs.Bits.{length-bitsOf}
-use Rattle.rules.proofs.Ascending.{Rising}
+use Rattle.rules.specs.Rising.{Rising}
 use Rattle.rules.proofs.Lines.{read-whole, read-broken, data-bound}
 use Rattle.rules.proofs.Store.{length-joined}
 use Rattle.error.specs.Error.{rowAnswerOf}

@@ -14,7 +14,9 @@ use Rattle.rules.specs.Pages as Page
 use Rattle.rules.specs.Pages.{mostBytes, entries, joined, overlaid, decode, placesIn, readOneLine, changesAfter}
 use Rattle.rules.specs.Write.{mostMakeup, pageBits, rowsIn, writeLine, writePage}
 use Rattle.rules.proofs.Bits.{length-bitsOf}
-use Rattle.rules.proofs.PageBack.{Rows, Plain, whole, allClean}
+use Rattle.rules.specs.Rising.{Rows}
+use Rattle.rules.specs.Damage.{allClean}
+use Rattle.rules.proofs.PageBack.{Plain, whole}
 use Rattle.rules.proofs.ReadBack.{rows-same}
 use Rattle.rules.proofs.RoundTrip.{line-returns, bits-split, page-returns, page-cut, line-written, PageWritten, page-written}
 use Rattle.rules.proofs.Store.{length-rowsIn}

@@ -21,7 +21,8 @@ use Rattle.rules.proofs.Budget.{Bytes, whole-bytes}
 use Rattle.rules.proofs.Counts.{exact-moves, few-modes, few-codes}
 use Rattle.rules.proofs.Pages.{step, page-falls, ends-behind, Held, held-start, held-next}
 use Rattle.rules.proofs.Answers.{short-rows, Refuses, too-wide, too-long, no-columns, decode-cases}
-use Rattle.rules.proofs.Marks.{strictOf, decode-came, came-as-many}
+use Rattle.rules.specs.Marks.{strictOf}
+use Rattle.rules.proofs.Marks.{decode-came, came-as-many}
 use Rattle.rules.proofs.ExactPages.{Beside, agrees, lacks, refuses, exact-off, decode-short, decode-beside, exact-same, exact-first}
 use Rattle.error.specs.Error.{answerOf}
 use Rattle.error.specs.declared.Answer.{Answer}

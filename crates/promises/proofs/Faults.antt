@@ -19,8 +19,9 @@ use Rattle.rules.proofs.Codes.{length-codeBits}
 use Rattle.rules.proofs.Runs.{Takes, after, run-cases, run-falls}
 use Rattle.rules.proofs.Bits.{both-true}
 use Rattle.rules.proofs.Lines.{Each, line-cases, line-falls, moves}
-use Rattle.rules.proofs.Counts.{AtA1, to-a1, by-two-runs, Vertical}
-use Rattle.rules.proofs.Counts as Counts
+use Rattle.rules.specs.Counts.{Vertical}
+use Rattle.rules.proofs.Counts.{AtA1, to-a1, by-two-runs}
+use Rattle.rules.specs.Counts as Counts
 use Rattle.promises.specs.Places.{MakeUps, none, next as longer, entryAt, CodeFails, no-code, cut-code, cut-short, passes, RunFault, ModeFault, no-mode, cut-mode, cut-zeros, PushFails, in-run, too-long, MovesTo, by-pass, right, left, NoMove, below-0, above, left-of, Fails, run-1D, mode, move, too-many, idle-move, idle-runs, first-run, second-run, LineFault}
 
 -- ---- A run

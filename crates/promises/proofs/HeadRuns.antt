@@ -9,7 +9,7 @@ use lib.ListN.{getD}
 use borrow.Author.Tests.{ltb-true, ltb-false, lt-ltb, le-ltb}
 use Rattle.rules.specs.Codes.{Colour, white, black}
 use Rattle.rules.specs.Pixels.{colourAt}
-use Rattle.rules.proofs.Ascending.{Rising, none, some}
+use Rattle.rules.specs.Rising.{Rising, none, some}
 use Rattle.heads.specs.Form.{sum, ink}
 use Rattle.heads.specs.Steps.{within, blackBetween, blackRows}
 use Rattle.promises.specs.Heads.{runsBlack, RunsAreCounted}

@@ -22,10 +22,11 @@ use Rattle.rules.specs.WriteGroup3.{layout1D, page3Bits, write1D}
 use Rattle.rules.specs.Damage.{Arrived, own, other, Spared, no-lines, unchanged, any-row}
 use Rattle.rules.specs.Pixels.{pixelsOf}
 use Rattle.rules.proofs.Ascending.{rises-ascends}
-use Rattle.rules.proofs.PageBack.{Rows, no-rows, row-then}
+use Rattle.rules.specs.Rising.{Rows, no-rows, row-then}
 use Rattle.rules.proofs.Rows.{row4-cases, row3-cases, mended-cases}
 use Rattle.rules.proofs.Store.{length-joined, length-ends, length-rowsIn}
-use Rattle.rules.proofs.Marks.{Came, none-yet, and-row, Told, came-as-many}
+use Rattle.rules.specs.Marks.{Came, none-yet, and-row, Told}
+use Rattle.rules.proofs.Marks.{came-as-many}
 use Rattle.error.specs.declared.Answer.{Answer}
 use Rattle.rows.specs.declared.DecodeSettings.{DecodeSettings}
 use Rattle.rows.specs.Settings.{settingsOf}

@@ -15,8 +15,9 @@ use Rattle.rules.specs.Pages as Page
 use Rattle.rules.specs.Pages.{mostBytes, tooWide, noLine, ascends, placesIn, strictIfExact, decode, oneLine, readOneLine, changesAfter}
 use Rattle.rules.specs.Write.{mostMakeup, rowsIn}
 use Rattle.rules.proofs.Lines.{data-bound, read-broken}
-use Rattle.rules.proofs.Clean.{Twin, alike, apart, cutOf, Refused, refused, line-twins}
-use Rattle.rules.proofs.Marks.{Came, at-most-at, decode-came, came-listed, came-strict}
+use Rattle.rules.specs.Marks.{Refused, refused, Came}
+use Rattle.rules.proofs.Clean.{Twin, alike, apart, cutOf, line-twins}
+use Rattle.rules.proofs.Marks.{at-most-at, decode-came, came-listed, came-strict}
 use Rattle.rules.proofs.RoundTrip.{line-returns}
 use Rattle.error.specs.Error.{rowAnswerOf}
 use Rattle.error.specs.declared.Answer.{Answer}

@@ -11,13 +11,13 @@ use borrow.Author.Tests.{leb-false, ltb-true, ltb-false, eqb-true}
 use Rattle.rules.specs.Machine.{Out, more, done, run, ends}
 use Rattle.rules.specs.Bits.{firstBit}
 use Rattle.rules.specs.Lines.{Rules, Line, newLine, Went, went, failed, push, Kind, one, two, readLine}
-use Rattle.rules.specs.Eols.{Eols, skipToEol}
+use Rattle.rules.specs.Eols.{Eols, skipToEol, EolAt}
 use Rattle.rules.specs.Rows.{Encoding, group4, group3-1D, group3-2D, Settings, State, recoveredMark, RowOut, row, stop, rulesOf, alignedIf}
 use Rattle.rules.specs.Group4.{eolsBefore, afterLine4, row4}
 use Rattle.rules.specs.Group3.{Tagging, untagged, tagged, eols3, Before, line-at, end-at, no-eol-at, judged, searched, missing, checked, before, taggedLine, lineOfTag, line3, kept, whitened, recovered, afterLine3, row3}
 use Rattle.rules.specs.Pages.{Answer, Kept, noneKept, withRow, endWith, entries, pageOf, rowOf, rowsLeft, readPage}
 use Rattle.rules.proofs.Machine.{ends-ind, ends-stops}
-use Rattle.rules.proofs.Eols.{EolAt, eols3-ahead, eols3-read}
+use Rattle.rules.proofs.Eols.{eols3-ahead, eols3-read}
 use Rattle.rules.proofs.Budget.{Bytes}
 use Rattle.rules.proofs.Rows.{row4-cases, row3-cases}
 use Rattle.rules.proofs.Pages.{step, page-cases, page-falls}

@@ -10,7 +10,8 @@ use Rattle.rules.specs.Pages as Page
 use Rattle.rules.specs.Pages.{entries, joined, endsFrom, overlaid, changesAfter, endsAfter, marksAfter, decode, readOneLine}
 use Rattle.rules.proofs.Store.{length-joined}
 use Rattle.rules.proofs.Within as W
-use Rattle.rules.proofs.Within.{within, front-joined, front-ends}
+use Rattle.rules.specs.Within.{within}
+use Rattle.rules.proofs.Within.{front-joined, front-ends}
 use Rattle.rules.proofs.Marks.{decode-came, came-as-many}
 use Rattle.rules.proofs.Rooms.{decode-within, decode-front, decode-spent, four-wants, five-wants, four-never, four-never-more, five-never, one-within, one-front, one-spent, one-wants, one-never}
 use Rattle.rules.specs.Lines.{headOr}

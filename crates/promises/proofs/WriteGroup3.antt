@@ -14,7 +14,7 @@ use Rattle.rules.specs.Pages.{mostBytes, entries, decode, placesIn}
 use Rattle.rules.specs.Write.{mostMakeup, lineBits, eolBits, rowsIn, endsRise, allAscend, Written, unwritten}
 use Rattle.rules.specs.WriteGroup3.{Layout, mixed, codedLines, framed, layout1D, page3Bits, writeGroup3, write1D, write2D}
 use Rattle.rules.proofs.Bits.{both-true}
-use Rattle.rules.proofs.PageBack.{allClean}
+use Rattle.rules.specs.Damage.{allClean}
 use Rattle.rules.proofs.Writes.{write3-cases}
 use Rattle.rules.proofs.Group3Trip.{Returns, Page3Written, page3-written, Told1D, Told2D, write1D-returns, write2D-returns}
 use Rattle.error.specs.Error.{answerOf}

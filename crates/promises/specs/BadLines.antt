@@ -10,8 +10,7 @@ use Rattle.rules.specs.Lines.{one}
 use Rattle.rules.specs.Pages.{mostBytes}
 use Rattle.rules.specs.Write.{mostMakeup, lineBits, rowsIn}
 use Rattle.rules.specs.WriteGroup3.{filled, page3Bits, write1D}
-use Rattle.rules.specs.Damage.{stray, Arrived, own, other, owns, arrivedPage, upTo, mayAll, Spared}
-use Rattle.rules.proofs.OneBadLine.{RoomFor, AllButOne}
+use Rattle.rules.specs.Damage.{stray, Arrived, own, other, owns, arrivedPage, upTo, mayAll, Spared, RoomFor, AllButOne}
 use Rattle.error.specs.declared.Answer.{Answer}
 use Rattle.rows.specs.declared.DecodeSettings.{DecodeSettings}
 use Rattle.rows.specs.declared.EncodingMode.the-variants.{«Group3_1D»}

@@ -6,9 +6,8 @@ use mathlib.Core.List.{List, [], _∷_, map}
 use Prim.Native.Nat.{ℕ, _+_, _*_, _≤_, _<_}
 use lib.ListN.{length, take}
 use Rattle.rules.specs.Pages.{mostBytes}
-use Rattle.rules.specs.ByRow.{rowStart}
-use Rattle.rules.proofs.Ascending.{Rising}
-use Rattle.rules.proofs.FormsAgree.{FitIn}
+use Rattle.rules.specs.ByRow.{rowStart, FitIn}
+use Rattle.rules.specs.Rising.{Rising}
 use Rattle.rows.specs.declared.DecodeSettings.{DecodeSettings}
 use Rattle.by_row.specs.declared.Side.{Side}
 use Rattle.by_row.specs.declared.Side.the-variants.{First, Second}

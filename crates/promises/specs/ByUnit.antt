@@ -10,7 +10,7 @@ use Rattle.rules.specs.Bits.{bitsOf}
 use Rattle.rules.specs.Pages.{mostBytes, strictIfExact, placesIn}
 use Rattle.rules.specs.Units.{pageUnits, total, sameEach, callsFor}
 use Rattle.rules.specs.ByUnit.{endOf, part, opened, savedStart}
-use Rattle.rules.proofs.Ascending.{Rising}
+use Rattle.rules.specs.Rising.{Rising}
 use Rattle.rows.specs.declared.DecodeSettings.{DecodeSettings}
 use Rattle.rows.specs.declared.EncodingMode.the-variants.{Group4}
 use Rattle.rows.specs.Settings.{settingsOf}

@@ -6,7 +6,7 @@ use mathlib.Core.List.{List}
 use Prim.Native.Nat.{ℕ, _+_, _*_, _≤_, _<_}
 use lib.ListN.{length, take, drop}
 use Rattle.rules.specs.Pages.{mostBytes, ascends}
-use Rattle.rules.proofs.Ascending.{Rising}
+use Rattle.rules.specs.Rising.{Rising}
 use Rattle.error.specs.declared.Answer.{Answer}
 use Rattle.one_line.specs.OneLine.{ReadOne}
 

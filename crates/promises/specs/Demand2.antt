@@ -9,9 +9,8 @@ use Rattle.rules.specs.Codes.{Colour, Code}
 use Rattle.rules.specs.Runs.{ok, sum, Made}
 use Rattle.rules.specs.Write.{codesBits}
 use Rattle.rules.specs.Modes.{modeTake, modeByZeros, readMode}
-use Rattle.rules.specs.Pixels.{pixelsOf, b1On, b2On}
-use Rattle.rules.proofs.Ascending.{Rising}
-use Rattle.rules.proofs.Pixels.{a0At}
+use Rattle.rules.specs.Pixels.{pixelsOf, b1On, b2On, a0At}
+use Rattle.rules.specs.Rising.{Rising}
 use Rattle.codes.specs.Runs.{runOf, RunRead}
 use Rattle.codes.specs.declared.run.Run.{Run}
 use Rattle.codes.specs.Modes.{modeOf}

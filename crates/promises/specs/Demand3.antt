@@ -11,7 +11,7 @@ use Rattle.rules.specs.Bits.{bitsOf}
 use Rattle.rules.specs.Lines.{two}
 use Rattle.rules.specs.Pages.{mostBytes, entries}
 use Rattle.rules.specs.Write.{mostMakeup, lineBits, rowsIn, writeLine, writePage}
-use Rattle.rules.proofs.Ascending.{Rising}
+use Rattle.rules.specs.Rising.{Rising}
 use Rattle.error.specs.declared.Answer.{Answer}
 use Rattle.rows.specs.declared.DecodeSettings.{DecodeSettings}
 use Rattle.rows.specs.declared.EncodingMode.the-variants.{Group4}

@@ -10,12 +10,11 @@ use Rattle.rules.specs.Bits.{bitsOf}
 use Rattle.rules.specs.Runs.{ok}
 use Rattle.rules.specs.Modes.{Moded, readMode}
 use Rattle.rules.specs.Lines.{Rules, Line, movedTo, went, apply, code2D}
-use Rattle.rules.specs.Counts.{modeCodes, codesButMakeups}
+use Rattle.rules.specs.Counts.{modeCodes, codesButMakeups, MovesOn}
 use Rattle.rules.specs.Rows.{Settings, rulesOf}
 use Rattle.rules.specs.Group4.{eolsBefore, over}
 use Rattle.rules.specs.Pages.{mostBytes, Kept, noneKept, entries, pageStep, rowOf, rowsLeft, strictIfExact, placesIn}
-use Rattle.rules.proofs.Ascending.{Rising}
-use Rattle.rules.proofs.Counts.{MovesOn}
+use Rattle.rules.specs.Rising.{Rising}
 use Rattle.error.specs.declared.Answer.{Answer}
 use Rattle.rows.specs.declared.DecodeSettings.{DecodeSettings}
 use Rattle.rows.specs.declared.EncodingMode.the-variants.{Group4}

@@ -8,7 +8,7 @@ use Prim.Native.Nat.{ℕ, _+_, _-_, _*_, _≤_, _<_}
 use lib.Dec.{eqb}
 use lib.IntN.{ℤ, pos, _-ℤ_}
 use lib.ListN.{length, getD}
-use Rattle.rules.proofs.Ascending.{Rising}
+use Rattle.rules.specs.Rising.{Rising}
 use Rattle.heads.specs.Form.{sum, Page, pageIn, pixel, blackIn, ticked, sound, given, clean, refusal, heads}
 use Rattle.heads.specs.Numbers.{formIn, headsFrom}
 use Rattle.heads.specs.Steps.{within}

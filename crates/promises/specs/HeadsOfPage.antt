@@ -13,7 +13,7 @@ use Rattle.rules.specs.Pages.{mostBytes, entries, strictIfExact}
 use Rattle.rules.specs.Write.{mostMakeup, rowsIn, writePage}
 use Rattle.rules.specs.WriteGroup3.{write1D}
 use Rattle.rules.specs.Damage.{Arrived, own, other}
-use Rattle.rules.proofs.Marks.{Came, Told}
+use Rattle.rules.specs.Marks.{Came, Told}
 use Rattle.error.specs.declared.Answer.{Answer}
 use Rattle.rows.specs.declared.DecodeSettings.{DecodeSettings}
 use Rattle.rows.specs.Settings.{settingsOf}

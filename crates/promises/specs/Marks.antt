@@ -11,8 +11,8 @@ use Rattle.rules.specs.Lines.{two}
 use Rattle.rules.specs.Rows.{State}
 use Rattle.rules.specs.Pages.{mostBytes, entries, strictIfExact}
 use Rattle.rules.specs.Write.{mostMakeup, lineBits, rowsIn, writePage}
-use Rattle.rules.proofs.Ascending.{Rising}
-use Rattle.rules.proofs.Marks.{Came}
+use Rattle.rules.specs.Rising.{Rising}
+use Rattle.rules.specs.Marks.{Came}
 use Rattle.error.specs.declared.Answer.{Answer}
 use Rattle.rows.specs.declared.DecodeSettings.{DecodeSettings}
 use Rattle.rows.specs.Settings.{settingsOf}

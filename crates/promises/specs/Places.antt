@@ -19,8 +19,8 @@ use Rattle.rules.specs.Group4.{eolsBefore}
 use Rattle.rules.specs.Group3.{untagged, tagged, line-at, before}
 use Rattle.rules.specs.Pages.{Kept, noneKept, entries, pageStep, rowOf, strictIfExact, placesIn}
 use Rattle.rules.specs.Write.{Written, codesBits}
-use Rattle.rules.proofs.Eols.{EolAt}
-use Rattle.rules.proofs.Counts.{Vertical}
+use Rattle.rules.specs.Eols.{EolAt}
+use Rattle.rules.specs.Counts.{Vertical}
 use Rattle.error.specs.declared.Answer.{Answer}
 use Rattle.codes.specs.Runs.{runOf, RunRead}
 use Rattle.codes.specs.declared.run.Run.{Run}

@@ -8,7 +8,7 @@ use lib.ListN.{length, take, drop, getD}
 use Rattle.rules.specs.Pages as Page
 use Rattle.rules.specs.Pages.{changesAfter, placesIn}
 use Rattle.rules.specs.Write.{rowsIn}
-use Rattle.rules.proofs.Within.{within}
+use Rattle.rules.specs.Within.{within}
 use Rattle.error.specs.Error.{rowAnswerOf}
 use Rattle.error.specs.declared.Answer.{Answer}
 use Rattle.rows.specs.declared.DecodeSettings.{DecodeSettings}

@@ -6,7 +6,7 @@ use lib.ListN.{length, take, drop}
 use Rattle.rules.specs.Rows as Rule
 use Rattle.rules.specs.Rows.{RowOut, row, stop}
 use Rattle.rules.specs.Pages.{overlaid}
-use Rattle.rules.proofs.Ascending.{Rising}
+use Rattle.rules.specs.Rising.{Rising}
 use Rattle.tables.specs.Tables.{Lookups}
 use Rattle.bit_reader.specs.Loaded.{Loading}
 use Rattle.context.specs.Coding.{referenceIn, Placed}

@@ -9,7 +9,8 @@ use lib.ListN.{length}
 use borrow.Author.Tests.{leb-true}
 use Rattle.rules.specs.Codes.{Colour, black, opposite, differ}
 use Rattle.rules.specs.Lines.{rightOfA0, fromB1, headOr, tail, b2}
-use Rattle.rules.proofs.Ascending.{Rising, none, some, head-low}
+use Rattle.rules.specs.Rising.{Rising, none, some}
+use Rattle.rules.proofs.Ascending.{head-low}
 
 -- a bound before the first change is one for all
 pub above : {width low q : ℕ} {xs : List ℕ} → q < headOr width xs → Rising width low xs → Rising width (suc q) xs

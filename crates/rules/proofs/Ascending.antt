@@ -11,11 +11,7 @@ use lib.ListN.{length}
 use borrow.Author.Tests.{ltb-true, leb-true, le-leb, lt-ltb}
 use Rattle.rules.specs.Lines.{headOr, tail}
 use Rattle.rules.specs.Pages.{ascendsFrom}
-
--- strictly ascending from `low` on, and below the width
-pub data Rising (width : ℕ) : ℕ → List ℕ → Type 0 where
-  none : {low : ℕ} → Rising width low []
-  some : {low x : ℕ} {xs : List ℕ} → low ≤ x → x < width → Rising width (suc x) xs → Rising width low (x ∷ xs)
+use Rattle.rules.specs.Rising.{Rising, none, some}
 
 -- ---- The test
 

@@ -16,7 +16,8 @@ use Rattle.rules.specs.WriteGroup3.{filled, times, framed}
 use Rattle.rules.specs.Damage.{found, noEol, Arrived, own, other, arrivedBits, arrivedLines, arrivedPage, mayArrive, mayAll, Spared, no-lines, unchanged, any-row}
 use Rattle.rules.specs.Damage2D.{Coming, whole, bad, SparedTo1D, no-lines as none-come, whole-1D, bad-line}
 use Rattle.rules.proofs.Bits.{both-true}
-use Rattle.rules.proofs.Ascending.{none as no-changes, ascends-rises}
+use Rattle.rules.specs.Rising.{none as no-changes}
+use Rattle.rules.proofs.Ascending.{ascends-rises}
 use Rattle.rules.proofs.Mending.{Mends, May, MayAll, none-left, and-then}
 use Rattle.rules.proofs.MendedPage.{Behind, front-on, mended-page, mended-page-room}
 

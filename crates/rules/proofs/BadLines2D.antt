@@ -14,14 +14,13 @@ use Rattle.rules.specs.Rows.{Settings}
 use Rattle.rules.specs.Pages.{Answer, mostBytes, ascends, decode, readPage}
 use Rattle.rules.specs.Write.{eolBits}
 use Rattle.rules.specs.WriteGroup3.{times}
-use Rattle.rules.specs.Damage.{found, noEol}
+use Rattle.rules.specs.Damage.{found, noEol, RoomFor}
 use Rattle.rules.specs.Damage2D.{Coming, whole, bad, sentRow, tagCome, codeCome, comingPage, strayTagged, mayCome, mayComeAll, SparedTo1D}
 use Rattle.rules.proofs.Bits.{both-true}
 use Rattle.rules.proofs.Ascending.{ascends-rises}
 use Rattle.rules.proofs.ExactPages.{exact-off}
 use Rattle.rules.proofs.Mending.{Mends, May, MayAll, none-left, and-then}
 use Rattle.rules.proofs.MendedPage.{Behind, front-on, Done, mended-page, mended-page-room}
-use Rattle.rules.proofs.OneBadLine.{RoomFor}
 
 may-come : (width : ℕ) (ls : List Coming) → mayComeAll width ls ≡ true → MayAll tagged width ls
 unfolding mayComeAll

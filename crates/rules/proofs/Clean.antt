@@ -10,6 +10,7 @@ use Rattle.rules.specs.Machine.{Out, more, done, andThen, run, ends}
 use Rattle.rules.specs.Runs.{Res, ok, fault, Sum, readRun}
 use Rattle.rules.specs.Modes.{Mode, pass, horizontal, VR, VL, Moded, readMode}
 use Rattle.rules.specs.Lines.{Rules, Line, newLine, turned, movedTo, withCut, Went, went, failed, next, recorded, add, push, pushTurn, afterRun, pushRun, b1, b2, vertical, apply, afterMode, code2D, Kind, one, two, codeOf, goOn, lineOf, lineStep, lineEnd, readLine}
+use Rattle.rules.specs.Marks.{Refused, refused}
 use Rattle.rules.proofs.Lines.{inexact}
 use Rattle.rules.proofs.Exact.{strict-reads}
 
@@ -39,10 +40,6 @@ module _ {A : Type 0} (cutIn : A → Bool) (Refused : A → Type 0) where
 abbrev pub cutOf : Went → Bool
 cutOf (went s) = s .cut
 cutOf (failed n p s) = s .cut
-
--- the strict answer to too many pixels
-pub data Refused : Went → Type 0 where
-  refused : {p : ℕ} {s : Line} → Refused (failed 1 p s)
 
 abbrev Twins : Bool → Went → Went → Type 0
 Twins = Twin cutOf Refused

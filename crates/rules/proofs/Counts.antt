@@ -13,14 +13,14 @@ use Rattle.rules.specs.Machine.{costs}
 use Rattle.rules.specs.Codes.{Colour, white, black, opposite, differ}
 use Rattle.rules.specs.Runs.{Res, ok, fault, Sum, readRun}
 use Rattle.rules.specs.Modes.{Mode, pass, horizontal, VR, VL, Moded, moded, readMode}
-use Rattle.rules.specs.Lines.{Rules, Line, line, newLine, turned, movedTo, Went, went, failed, next, recorded, add, push, pushTurn, afterRun, pushRun, b1, b2, unmoved, atFirst, idle, vertical, apply, afterMode, code2D, lineStep}
-use Rattle.rules.specs.Counts.{ofSecond, behindMode, behindCode, ofCode, ofLine, modeCodes, codesButMakeups}
+use Rattle.rules.specs.Lines.{Rules, Line, line, newLine, turned, movedTo, Went, went, failed, next, recorded, add, push, pushTurn, afterRun, pushRun, b1, b2, unmoved, atFirst, idle, vertical, apply, afterMode, code2D, lineStep, lineIn}
+use Rattle.rules.specs.Counts.{ofSecond, behindMode, behindCode, ofCode, ofLine, modeCodes, codesButMakeups, Vertical, right, left, MovesOn, further, to-0}
 use Rattle.rules.proofs.Bits.{both-true}
 use Rattle.rules.proofs.Machine.{Paid, spent-most}
-use Rattle.rules.proofs.Ascending.{Rising}
+use Rattle.rules.specs.Rising.{Rising}
 use Rattle.rules.proofs.Ahead.{b2-behind}
 use Rattle.rules.proofs.Lines.{idle-went, exact-busy, Each, line-cases}
-use Rattle.rules.proofs.Grows.{lineIn, apply-grows, code2D-grows}
+use Rattle.rules.proofs.Grows.{apply-grows, code2D-grows}
 
 -- ---- A strict line moves by its counts, so what is unmoved is what 02 calls idle
 
@@ -103,15 +103,6 @@ module _ (R : Rules) (strict : R .strict ≡ true) where
       cases (failed n p u) e f = absurd (let z : _≡_ {A = ℕ} 0 1 = cc in omega arith)
 
 -- ---- One code
-
-pub data Vertical : Mode → Type 0 where
-  right : (k : ℕ) → Vertical (VR k)
-  left : (k : ℕ) → Vertical (VL k)
-
--- The code that took the line s to t moved on; or it is a vertical move of the line's first code to 0, and turns to black.
-pub data MovesOn (bs : List Bool) (s t : Line) : Type 0 where
-  further : s .position < t .position → MovesOn bs s t
-  to-0 : (m : Moded) → readMode bs (s .at) ≡ ok m → Vertical (m .mode) → atFirst s ≡ true → t .position ≡ 0 → t .colour ≡ black → MovesOn bs s t
 
 -- the first code is read in white, at 0
 at-first : (s : Line) → atFirst s ≡ true → (s .position ≡ 0) × (s .colour ≡ white)

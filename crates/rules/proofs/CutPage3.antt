@@ -16,13 +16,13 @@ use Rattle.rules.specs.Group3.{untagged, row3}
 use Rattle.rules.specs.Rows.{group3-1D, Settings, State, recoveredMark, RowOut}
 use Rattle.rules.specs.Pages.{Answer, Kept, noneKept, withRow, endWith, entries, keepRow, pageStep, rowOf, rowsLeft, pageOf, readPage, strictIfExact, mostBytes, decode}
 use Rattle.rules.specs.WriteGroup3.{filled, page3Bits}
-use Rattle.rules.specs.Damage.{owns, arrivedPage, upTo}
+use Rattle.rules.specs.Damage.{owns, arrivedPage, upTo, allClean}
 use Rattle.rules.specs.Cut.{BetweenLines, CutBefore, CutTold, first-rows, marked}
 use Rattle.rules.proofs.Machine.{ends-stops}
 use Rattle.rules.proofs.Budget.{Bytes, whole-bytes}
 use Rattle.rules.proofs.Pages.{page-falls}
 use Rattle.rules.proofs.Answers.{short-cases, Refuses, too-wide, too-long, no-columns, decode-cases}
-use Rattle.rules.proofs.PageBack.{Rows, allClean}
+use Rattle.rules.specs.Rising.{Rows}
 use Rattle.rules.proofs.Group3Back.{rows-are}
 use Rattle.rules.proofs.BadLines.{front}
 use Rattle.rules.proofs.OneBadLine.{own-page}

@@ -16,17 +16,17 @@ use Rattle.rules.specs.Eols.{zeroRun, Eols, eolsTo, allEols}
 use Rattle.rules.specs.Group3.{untagged, Before, line-at, end-at, leading, checkEob, before, afterLine3, rowFrom, row3}
 use Rattle.rules.specs.Rows.{Settings, State, recoveredMark, RowOut, row, stop, rulesOf}
 use Rattle.rules.specs.Write.{lineBits, eolBits}
-use Rattle.rules.specs.Damage.{noEol, owns, upTo}
+use Rattle.rules.specs.Damage.{noEol, owns, upTo, allClean}
 use Rattle.rules.specs.Cut.{BetweenLines, CutBefore}
 use Rattle.rules.proofs.Agree.{agree-word}
-use Rattle.rules.proofs.Ascending.{Rising}
+use Rattle.rules.specs.Rising.{Rising, Rows, row-then}
 use Rattle.rules.proofs.Lines.{read-whole}
 use Rattle.rules.proofs.Local.{read-local}
 use Rattle.rules.proofs.Eols.{zeros-inside}
 use Rattle.rules.proofs.ReadBack.{read-line}
 use Rattle.rules.proofs.MoreRoom.{line-went}
 use Rattle.rules.proofs.LessRoom.{Cut, same, short, line-cut}
-use Rattle.rules.proofs.PageBack.{Soon, eol-zeros, Rows, row-then, allClean}
+use Rattle.rules.proofs.PageBack.{Soon, eol-zeros}
 use Rattle.rules.proofs.CutPage.{zeros-cut, agrees, bits-cut}
 use Rattle.rules.proofs.EolChains.{Quiet, soon-quiet, none-quiet, no-more, chain-all, eol-long, zeros-then, fill-then, fill-after}
 use Rattle.rules.proofs.Group3Back.{from, line-begins}

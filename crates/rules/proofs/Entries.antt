@@ -10,16 +10,16 @@ use lib.Dec.{eqb}
 use lib.ListN.{length}
 use borrow.Author.Tests.{eqb-true, eqb-false}
 use Rattle.rules.specs.Lines.{Rules, Line, Went, went, failed, push, two, readLine}
-use Rattle.rules.specs.Eols.{Eols, eolsTo, skipToEol}
+use Rattle.rules.specs.Eols.{Eols, eolsTo, skipToEol, EolAt}
 use Rattle.rules.specs.Rows.{Encoding, group4, group3-1D, group3-2D, Settings, State, pageStart, readMark, recoveredMark, RowOut, row, stop, rulesOf, alignedIf}
 use Rattle.rules.specs.Group4.{eolsBefore, afterLine4, row4}
 use Rattle.rules.specs.Group3.{Tagging, untagged, tagged, eols3, Before, line-at, end-at, no-eol-at, searched, missing, checkEob, before, line3, kept, whitened, afterLine3, row3}
 use Rattle.rules.specs.Pages.{Kept, noneKept, withRow, entries, rowOf}
-use Rattle.rules.proofs.Ascending.{Rising}
+use Rattle.rules.specs.Rising.{Rising}
 use Rattle.rules.proofs.Lines.{Each, read-broken, data-bound}
 use Rattle.rules.proofs.PageBack.{entries-snoc}
 use Rattle.rules.proofs.Pages.{Goes, Does, row-goes, row-does, Held}
-use Rattle.rules.proofs.Eols.{EolAt, Ahead, eols-ahead, eols3-ahead, eols3-read, skip-finds, reach, reachOf, reaches, reach-eol}
+use Rattle.rules.proofs.Eols.{Ahead, eols-ahead, eols3-ahead, eols3-read, skip-finds, reach, reachOf, reaches, reach-eol}
 use Rattle.rules.proofs.Budget.{Budgeted, Budget, Bytes, judged-cases, eob-cases, from-here, aligned-ahead, Sets, before-sets}
 use Rattle.rules.proofs.Rows.{row4-cases, row3-cases, mended-cases, line3-whole, Damaged, line3-damaged}
 use Rattle.rules.proofs.Thrift.{count-both, count-mono, O, Z, Unread, Spent, Lost, line-spent, Paid, line2-paid, Pushed, Unpushed, push-pushed, owed-one}

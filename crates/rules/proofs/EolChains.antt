@@ -10,12 +10,12 @@ use lib.Dec.{eqb, leb}
 use lib.ListN.{length, drop, replicate, length-append, length-replicate}
 use borrow.Author.Tests.{le-leb, ne-eqb}
 use Rattle.rules.specs.Bits.{firstBit}
-use Rattle.rules.specs.Eols.{zeroRun, Eols, eolsTo, readEols, allEols}
+use Rattle.rules.specs.Eols.{zeroRun, Eols, eolsTo, readEols, allEols, EolAt}
 use Rattle.rules.specs.Group3.{betweenTags}
 use Rattle.rules.specs.Write.{eolBits}
 use Rattle.rules.specs.WriteGroup3.{times}
 use Rattle.rules.proofs.Bits.{drop-after}
-use Rattle.rules.proofs.Eols.{no-one, EolAt, eol-inside}
+use Rattle.rules.proofs.Eols.{no-one, eol-inside}
 use Rattle.rules.proofs.PageBack.{Soon, no-eols, one-eol, eol-zeros}
 
 -- ---- Zeros, and no EOL

@@ -9,7 +9,7 @@ use lib.Dec.{eqb, leb, ltb}
 use lib.ListN.{length, drop, length-drop, drop-of-length-le}
 use borrow.Author.Tests.{leb-true, leb-false, ltb-false, le-ltb, eqb-false}
 use Rattle.rules.specs.Bits.{firstBit}
-use Rattle.rules.specs.Eols.{zeroRun, eolAfter, Eols, eolsTo, readEols, allEols, skip, skipToEol}
+use Rattle.rules.specs.Eols.{zeroRun, eolAfter, Eols, eolsTo, readEols, allEols, skip, skipToEol, EolAt}
 use Rattle.rules.specs.Group3.{Tagging, untagged, tagged, betweenTags, eols3}
 use Rattle.rules.proofs.Lines.{Bound, data-bound}
 use Rattle.rules.proofs.Barrier.{eol-bound}
@@ -26,12 +26,6 @@ zeros-inside (false ∷ ds) z e = cases (λ k. zeros-inside ds k) (zeroRun ds) r
     cases : ((k : ℕ) → zeroRun ds ≡ some k → k < length ds) → (o : Option ℕ) → zeroRun ds ≡ o → (elim o as (λ _. Option ℕ) [ none ↦ none | some k ↦ some (suc k) ]) ≡ some z → z < length (false ∷ ds)
     cases ih none q f = absurd (let y : _≡_ {A = ℕ} 0 1 = cc in omega arith)
     cases ih (some k) q f = let y : suc k ≡ z = cc in omega (arith, ih k q)
-
--- an EOL stands at a bit: its zeros, and their number
-pub record EolAt (bs : List Bool) (at : ℕ) : Type 0 where
-  pub zeros : ℕ
-  pub run : zeroRun (drop at bs) ≡ some zeros
-  pub many : 11 ≤ zeros
 
 pub eol-inside : (bs : List Bool) (at : ℕ) (e : EolAt bs at) → at + e .zeros < length bs
 eol-inside bs at e = omega (arith, zeros-inside (drop at bs) (e .zeros) (e .run), length-drop at bs)

@@ -19,7 +19,7 @@ use Rattle.rules.proofs.Budget.{Bytes, whole-bytes}
 use Rattle.rules.proofs.Pages.{step, page-cases, page-kept, page-full, page-stopped, page-falls, ends-behind, read-answered}
 use Rattle.rules.proofs.Answers.{short-cases, Refuses, too-wide, too-long, no-columns, Allowed, decode-cases}
 use Rattle.rules.proofs.Exact.{One, with-1, one-fails, line-one}
-use Rattle.rules.proofs.Marks.{strictOf}
+use Rattle.rules.specs.Marks.{strictOf}
 
 -- ---- Both answers
 

@@ -18,7 +18,8 @@ use Rattle.rules.specs.Rows.{Settings, readMark, alignedIf}
 use Rattle.rules.specs.Pages.{Answer}
 use Rattle.rules.specs.Units.{Half, first, second, Stand, between, inLine, inRun, Keeping, Going, going, unitsStart, rulesAt, broken, nextEol, lineOrOver, overAt, eolOrLine, betweenRows, keeps, settle, afterCode, afterMode4, modeUnit, afterHalf, runEnd, runUnit, eolUnit, unit, call}
 use Rattle.rules.proofs.Machine.{run-keeps, ends-more, ends-done}
-use Rattle.rules.proofs.Ascending.{Rising, none as no-change, rises-wider}
+use Rattle.rules.specs.Rising.{Rising, none as no-change}
+use Rattle.rules.proofs.Ascending.{rises-wider}
 use Rattle.rules.proofs.Runs.{after, run-cases, run-falls}
 use Rattle.rules.proofs.Modes.{ModeAt, mode-at}
 use Rattle.rules.proofs.Lines.{Sound, data-bound, sound-new, Coded, code-coded}

@@ -14,7 +14,7 @@ use Rattle.rules.specs.Bits.{bitsOf}
 use Rattle.rules.specs.Rows.{Settings, State, RowOut, row, stop}
 use Rattle.rules.specs.Pages.{Answer, refusal, Kept, noneKept, withRow, endWith, entries, pageStep, rowsLeft, pageOf, readPage, strictIfExact, unlessShort, mostBytes, tooWide, ascendsFrom, decode}
 use Rattle.rules.specs.InSteps.{saysOnly, moreToCome, mostCounted}
-use Rattle.rules.specs.ByRow.{Side, first, second, other, Arrays, arrayAt, written, rowStart, referenceIn, between, roomIn, RowStep, afterRow, sound, refuses, noColumns, unlessFew, tested, readRow, Caller, callerWith, Over, goesOn, callStep, overOf}
+use Rattle.rules.specs.ByRow.{Side, first, second, other, Arrays, arrayAt, written, rowStart, referenceIn, between, roomIn, RowStep, afterRow, sound, refuses, noColumns, unlessFew, tested, readRow, Caller, callerWith, Over, goesOn, callStep, overOf, FitIn}
 use Rattle.rules.proofs.Bits.{length-bitsOf}
 use Rattle.rules.proofs.Machine.{ends-stops}
 use Rattle.rules.proofs.Budget.{whole-bytes}
@@ -35,11 +35,6 @@ Agrees S bytes c a = (m : ℕ) × (length (a .rows) ≡ length (c .rows) + m) ×
 -- no call from here on says 4
 abbrev pub Roomy : Settings → List ℕ → Caller → Type 0
 Roomy S bytes c = (m : ℕ) (o : Over) → run (callStep S bytes) m c ≡ done o → o .said .number ≡ 4 → ⊥
-
--- rows and then the loose one, into arrays that take turns: the next has room for m changes, the other for n
-unfoldable pub FitIn : ℕ → ℕ → List (List ℕ) → List ℕ → Type 0
-FitIn m n [] loose = length loose ≤ m
-FitIn m n (r ∷ rs) loose = (length r ≤ m) × FitIn n m rs loose
 
 -- arrays that would hold them all hold each
 fit-all : (m n : ℕ) (rows : List (List ℕ)) (loose : List ℕ) → entries rows + length loose ≤ m → entries rows + length loose ≤ n → FitIn m n rows loose

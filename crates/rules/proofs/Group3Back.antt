@@ -25,9 +25,10 @@ use Rattle.rules.proofs.Bits.{drop-after, fits-after}
 use Rattle.rules.proofs.Codes.{hasOne, zerosBefore, shape}
 use Rattle.rules.proofs.WriteRuns.{made-run}
 use Rattle.rules.proofs.Eols.{zeros-inside}
-use Rattle.rules.proofs.Ascending.{Rising, none as no-changes}
+use Rattle.rules.specs.Rising.{Rising, none as no-changes, Rows, no-rows, row-then}
 use Rattle.rules.proofs.ReadBack.{Proper, Reads, read-line}
-use Rattle.rules.proofs.PageBack.{Soon, line-zeros, Rows, no-rows, row-then, Given, page-ends, row-given, given-page, whole, allClean}
+use Rattle.rules.specs.Damage.{allClean}
+use Rattle.rules.proofs.PageBack.{Soon, line-zeros, Given, page-ends, row-given, given-page, whole}
 use Rattle.rules.proofs.EolChains.{Quiet, soon-quiet, none-quiet, chain-all, eol-long, after-bit, fill-then, fill-after, fill-one, eols-chain, tags-stay, tags-chain}
 
 -- ---- What a line begins with

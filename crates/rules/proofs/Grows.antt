@@ -11,14 +11,10 @@ use borrow.Author.Tests.{leb-true, eqb-false}
 use Rattle.rules.specs.Codes.{differ}
 use Rattle.rules.specs.Runs.{Res, ok, fault, Sum, readRun}
 use Rattle.rules.specs.Modes.{Mode, pass, horizontal, VR, VL, Moded, readMode}
-use Rattle.rules.specs.Lines.{Rules, Line, line, turned, movedTo, withCut, Went, went, failed, next, lastColour, recorded, add, push, pushTurn, afterRun, pushRun, b1, vertical, apply, afterMode, code2D, Kind, one, two, codeOf}
-use Rattle.rules.proofs.Ascending.{Rising, rises-wider, rises-snoc}
+use Rattle.rules.specs.Lines.{Rules, Line, line, turned, movedTo, withCut, Went, went, failed, next, lastColour, recorded, add, push, pushTurn, afterRun, pushRun, b1, vertical, apply, afterMode, code2D, Kind, one, two, codeOf, lineIn}
+use Rattle.rules.specs.Rising.{Rising}
+use Rattle.rules.proofs.Ascending.{rises-wider, rises-snoc}
 use Rattle.rules.proofs.Lines.{unless-idle}
-
--- the line that a code leaves, whole or not
-abbrev pub lineIn : Went → Line
-lineIn (went s) = s
-lineIn (failed n place s) = s
 
 pub record Grows (R : Rules) (s t : Line) : Type 0 where
   pub longer : length (s .changes) ≤ length (t .changes)

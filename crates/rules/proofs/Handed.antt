@@ -12,7 +12,8 @@ use Rattle.rules.specs.Rows.{Settings}
 use Rattle.rules.specs.Pages.{entries, overlaid, joined, endsFrom}
 use Rattle.rules.specs.Units.{first, second, Stand, between, inLine, inRun, Keeping, going, looseOf, anew}
 use Rattle.rules.specs.ByUnit.{Phase, atMode, atFirst, atSecond, Saved, endOf, part, baseOf, startOf, referenceOf, unfinishedOf, goingOf, sound, savedAt}
-use Rattle.rules.proofs.Ascending.{Rising, none as no-change, rises-ascends}
+use Rattle.rules.specs.Rising.{Rising, none as no-change}
+use Rattle.rules.proofs.Ascending.{rises-ascends}
 use Rattle.rules.proofs.PageBack.{entries-snoc}
 use Rattle.rules.proofs.Store.{length-joined, joined-snoc, ends-snoc}
 use Rattle.rules.proofs.Budget.{Bytes}

@@ -14,7 +14,7 @@ use Rattle.rules.specs.Bits.{firstBit}
 use Rattle.rules.specs.Codes.{differ}
 use Rattle.rules.specs.Runs.{Res, ok, fault, Sum, sum, readRun, unreachable}
 use Rattle.rules.specs.Modes.{Mode, pass, horizontal, VR, VL, Moded, readMode}
-use Rattle.rules.specs.Lines.{Rules, Line, line, newLine, turned, movedTo, withCut, Went, went, failed, next, lastColour, recorded, add, push, pushTurn, afterRun, pushRun, b1, b2, vertical, idle, unlessIdle, apply, afterMode, code2D, Kind, one, two, codeOf, goOn, lineOf, lineStep, lineEnd, readLine}
+use Rattle.rules.specs.Lines.{Rules, Line, line, newLine, turned, movedTo, withCut, Went, went, failed, next, lastColour, recorded, add, push, pushTurn, afterRun, pushRun, b1, b2, vertical, idle, unlessIdle, apply, afterMode, code2D, Kind, one, two, codeOf, goOn, lineOf, lineStep, lineEnd, readLine, lineIn}
 use Rattle.rules.specs.Rows.{Encoding, group4, group3-1D, group3-2D, Settings, State, readMark, recoveredMark, RowOut, row, stop, rulesOf}
 use Rattle.rules.specs.Group4.{row4, afterLine4, lineOrEnd, eolsBefore, over}
 use Rattle.rules.specs.Group3.{Tagging, untagged, tagged, Before, line-at, end-at, no-eol-at, before, taggedLine, lineOfTag, line3, kept, whitened, recovered, afterLine3, rowFrom, row3}
@@ -22,7 +22,7 @@ use Rattle.rules.specs.Pages.{rowOf}
 use Rattle.rules.proofs.Runs.{Within, read-within}
 use Rattle.rules.proofs.Modes.{ModeAt, mode-at}
 use Rattle.rules.proofs.Lines.{unless-idle, idle-stays}
-use Rattle.rules.proofs.Grows.{lineIn, apply-grows}
+use Rattle.rules.proofs.Grows.{apply-grows}
 
 -- ---- Changes are only ever appended
 

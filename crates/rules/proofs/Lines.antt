@@ -15,7 +15,8 @@ use Rattle.rules.specs.Modes.{Mode, pass, horizontal, VR, VL, Moded, rea
 use Rattle.rules.specs.Lines.{Rules, Line, line, newLine, turned, movedTo, withCut, Went, went, failed, next, lastColour, recorded, add, push, pushTurn, afterRun, pushRun, b1, b2, unmoved, atFirst, idle, unlessIdle, vertical, apply, afterMode, code2D, Kind, one, two, codeOf, goOn, lineOf, lineStep, lineEnd, readLine}
 use Rattle.rules.proofs.Bits.{both-true}
 use Rattle.rules.proofs.Machine.{Falls, ends-more, ends-done, ends-ind, ends-stops}
-use Rattle.rules.proofs.Ascending.{Rising, none, rises-wider, rises-snoc}
+use Rattle.rules.specs.Rising.{Rising, none}
+use Rattle.rules.proofs.Ascending.{rises-wider, rises-snoc}
 use Rattle.rules.proofs.Runs.{Within, read-within}
 use Rattle.rules.proofs.Modes.{ModeAt, mode-at}
 

@@ -17,23 +17,11 @@ use Rattle.rules.specs.Pages.{Answer, Kept, noneKept, withRow, endWith, 
 use Rattle.rules.proofs.Machine.{run-keeps}
 use Rattle.rules.proofs.Rows.{row4-cases, row3-cases, mended-cases}
 use Rattle.rules.proofs.Exact.{strict-reads}
-use Rattle.rules.proofs.Clean.{Twin, alike, apart, cutOf, Refused, refused, line-twins, read-twins}
+use Rattle.rules.specs.Marks.{Refused, refused, strictOf, rowLine, Begins, NotRead, Told, Came, none-yet, and-row}
+use Rattle.rules.proofs.Clean.{Twin, alike, apart, cutOf, line-twins, read-twins}
 use Rattle.rules.proofs.Answers.{short-cases, decode-cases}
 
 -- ---- The line of a row
-
--- as the settings, but strict, and no more than strict
-abbrev pub strictOf : Settings → Settings
-strictOf S = record {
-  columns = S .columns;
-  rows = S .rows;
-  endOfBlock = S .endOfBlock;
-  endOfLine = S .endOfLine;
-  aligned = S .aligned;
-  encoding = S .encoding;
-  strict = true;
-  exact = false;
-}
 
 -- exact implies strict (A12), as in the settings under which `decode` reads
 abbrev pub Implied : Settings → Type 0
@@ -41,34 +29,6 @@ Implied S = S .exact ≡ true → S .strict ≡ true
 
 pub implied : (S : Settings) → Implied (strictIfExact S)
 implied S e = rw e
-
--- what is read from the bit where a row's line begins, under a reference
-abbrev pub rowLine : Encoding → Settings → List Bool → ℕ → List ℕ → ℕ → Went
-rowLine group4 S bs room reference at = readLine (rulesOf S room) (two reference) bs at
-rowLine group3-1D S bs room reference at = line3 S untagged bs (rulesOf S room) reference at untagged
-rowLine group3-2D S bs room reference at = line3 S tagged bs (rulesOf S room) reference at tagged
-
--- and that bit, behind what stands between two rows
-abbrev pub Begins : Encoding → Settings → List Bool → State → ℕ → Type 0
-Begins group4 S bs st at = eolsBefore S bs st .at ≡ at
-Begins group3-1D S bs st at = (expected : Bool) × (before S untagged bs st (eqb (st .count) 0) ≡ line-at at expected)
-Begins group3-2D S bs st at = (expected : Bool) × (before S tagged bs st (eqb (st .count) 0) ≡ line-at at expected)
-
-abbrev pub NotRead : Went → Type 0
-NotRead w = (l : Line) → w ≡ went l → ⊥
-
--- A row that was kept, with its mark: where its line began, and what the page's reader and the strict reader make of it from there.
-pub record Told (enc : Encoding) (S : Settings) (bs : List Bool) (room : ℕ) (st : State) (r : List ℕ) (mark : ℕ) : Type 0 where
-  pub at : ℕ
-  pub begins : Begins enc S bs st at
-  pub few : mark ≤ 2
-  pub when-strict : S .strict ≡ true → mark ≡ 0
-  -- clean: both read this row, and take the same bits
-  pub clean : mark ≡ 0 → (l : Line) × (rowLine enc S bs room (st .reference) at ≡ went l) × (rowLine enc (strictOf S) bs room (st .reference) at ≡ went l) × (l .changes ≡ r)
-  -- cut: the page's reads it, and the strict one answers 1
-  pub cut : mark ≡ 1 → (l : Line) × (rowLine enc S bs room (st .reference) at ≡ went l) × (l .changes ≡ r) × Refused (rowLine enc (strictOf S) bs room (st .reference) at)
-  -- recovered: neither reads a line
-  pub recovered : mark ≡ 2 → NotRead (rowLine enc S bs room (st .reference) at) × NotRead (rowLine enc (strictOf S) bs room (st .reference) at)
 
 abbrev RowTold : Encoding → Settings → List Bool → ℕ → State → RowOut → Type 0
 RowTold enc S bs room st (row r mark next) = Told enc S bs room st r mark
@@ -219,14 +179,6 @@ module _ (S : Settings) (bs : List Bool) (room : ℕ) (st : State) where
   row-marked group3-2D = row3-marked tagged
 
 -- ---- A page
-
--- How the rows of a page came, the last one last: each is what one row does from the state behind the one before, the first from the page's start, and
--- its mark tells how it was read.
-pub data Came (S : Settings) (bs : List Bool) : List (List ℕ) → List ℕ → State → Type 0 where
-  none-yet : Came S bs [] [] pageStart
-  and-row : {rows : List (List ℕ)} {marks : List ℕ} {st : State} → Came S bs rows marks st
-      → (room : ℕ) (r : List ℕ) (mark : ℕ) (next : State) → rowOf (S .encoding) S bs room st ≡ row r mark next → Told (S .encoding) S bs room st r mark
-      → Came S bs (rows ++ r ∷ []) (marks ++ mark ∷ []) next
 
 module _ (S : Settings) (implies : Implied S) (bs : List Bool) (store places : ℕ) where
   abbrev rowAt : ℕ → State → RowOut

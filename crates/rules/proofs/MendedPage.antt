@@ -19,7 +19,8 @@ use Rattle.rules.specs.Write.{lineBits, eolBits}
 use Rattle.rules.specs.WriteGroup3.{times}
 use Rattle.rules.specs.Damage2D.{Coming, whole, bad, sentRow, tagCome, codeCome, SparedTo1D, no-lines, whole-1D, whole-2D, under-lost, bad-line}
 use Rattle.rules.proofs.Bits.{drop-after}
-use Rattle.rules.proofs.Ascending.{Rising, none as no-changes, rises-length}
+use Rattle.rules.specs.Rising.{Rising, none as no-changes}
+use Rattle.rules.proofs.Ascending.{rises-length}
 use Rattle.rules.proofs.ReadBack.{Proper, read-line}
 use Rattle.rules.proofs.MoreRoom.{page-stays}
 use Rattle.rules.proofs.Eols.{eol-inside}

@@ -13,19 +13,20 @@ use lib.ListN.{length, drop, replicate, length-drop}
 use borrow.Author.Tests.{lt-ltb, le-leb, lt-leb, eq-eqb, ne-eqb, eqb-true, eqb-false}
 use Rattle.rules.specs.Bits.{firstBit}
 use Rattle.rules.specs.Lines.{Rules, Line, line, Went, went, failed, push, Kind, one, readLine}
-use Rattle.rules.specs.Eols.{zeroRun, eolsTo, allEols}
+use Rattle.rules.specs.Eols.{zeroRun, eolsTo, allEols, EolAt}
 use Rattle.rules.specs.Group3.{Tagging, untagged, tagged, withTags, eols3, Before, line-at, end-at, leading, judged, searched, missing, checked, checkEob, before, taggedLine, line3, kept, whitened, recovered, afterLine3}
 use Rattle.rules.specs.Rows.{Settings, State, readMark, recoveredMark, RowOut, row, rulesOf}
 use Rattle.rules.specs.Write.{lineBits, eolBits}
 use Rattle.rules.specs.Damage.{found, noEol, stray}
 use Rattle.rules.specs.Damage2D.{Coming, whole, bad, sentRow, tagCome, kindOf, codeCome}
-use Rattle.rules.proofs.Ascending.{Rising, rises-length}
+use Rattle.rules.specs.Rising.{Rising}
+use Rattle.rules.proofs.Ascending.{rises-length}
 use Rattle.rules.proofs.Lines.{Bound, read-whole}
 use Rattle.rules.proofs.Barrier.{eol-bound}
 use Rattle.rules.proofs.Rows.{line3-damaged, mended}
 use Rattle.rules.proofs.ReadBack.{Proper}
 use Rattle.rules.proofs.Roomy.{never-four, pushed-full}
-use Rattle.rules.proofs.Eols.{zeros-inside, EolAt, eol-inside}
+use Rattle.rules.proofs.Eols.{zeros-inside, eol-inside}
 use Rattle.rules.proofs.PageBack.{Soon, eol-zeros}
 use Rattle.rules.proofs.EolChains.{zeros-then, soon-quiet, Chain, no-more, eol-then, chain-all, after-bit, tags-stay}
 use Rattle.rules.proofs.Group3Back.{from, ends-rows, encodingOf}

@@ -10,10 +10,10 @@ use lib.Dec.{leb, ltb}
 use lib.ListN.{length, drop, replicate, length-append, length-replicate, length-drop}
 use lib.Seq.{drop-drop}
 use borrow.Author.Tests.{lt-ltb, ltb-true, leb-true, leb-false}
-use Rattle.rules.specs.Eols.{zeroRun, skip, skipToEol}
+use Rattle.rules.specs.Eols.{zeroRun, skip, skipToEol, EolAt}
 use Rattle.rules.specs.Damage.{found, noEol, stray}
 use Rattle.rules.proofs.Bits.{both-true, drop-after}
-use Rattle.rules.proofs.Eols.{zeros-inside, EolAt, eol-inside, skip-here}
+use Rattle.rules.proofs.Eols.{zeros-inside, eol-inside, skip-here}
 use Rattle.rules.proofs.PageBack.{Soon}
 use Rattle.rules.proofs.EolChains.{zeros-then}
 

@@ -15,7 +15,7 @@ use Rattle.rules.specs.Write.{lineBits}
 use Rattle.rules.specs.Damage.{found, noEol}
 use Rattle.rules.proofs.Lines.{Bound, sound-new, Ends, line-end}
 use Rattle.rules.proofs.Barrier.{eol-bound}
-use Rattle.rules.proofs.Ascending.{Rising}
+use Rattle.rules.specs.Rising.{Rising}
 use Rattle.rules.proofs.ReadBack.{Proper, read-line}
 use Rattle.rules.proofs.Eols.{zeros-inside}
 use Rattle.rules.proofs.Group3Back.{line-begins}

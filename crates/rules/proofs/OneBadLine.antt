@@ -14,17 +14,13 @@ use Rattle.rules.specs.Rows.{Settings}
 use Rattle.rules.specs.Pages.{Answer, mostBytes, ascends, decode, readPage}
 use Rattle.rules.specs.Write.{lineBits, eolBits}
 use Rattle.rules.specs.WriteGroup3.{filled, CodedLine, codedLines, framed, page3Bits}
-use Rattle.rules.specs.Damage.{stray, Arrived, own, other, owns, arrivedBits, arrivedLines, arrivedPage, upTo, mayArrive, mayAll, Spared, no-lines, unchanged, any-row}
+use Rattle.rules.specs.Damage.{stray, Arrived, own, other, owns, arrivedBits, arrivedLines, arrivedPage, upTo, mayArrive, mayAll, Spared, no-lines, unchanged, any-row, allClean, RoomFor, AllButOne}
 use Rattle.rules.proofs.Ascending.{rises-ascends}
-use Rattle.rules.proofs.PageBack.{Rows, no-rows, row-then, allClean}
+use Rattle.rules.specs.Rising.{Rows, no-rows, row-then}
 use Rattle.rules.proofs.ExactPages.{exact-off}
 use Rattle.rules.proofs.BadLines.{Mending, Done, bad-lines, bad-lines-room}
 
 -- ---- In bytes
-
--- "room enough": the answer is neither 4 nor 5; or there is room for so many rows of full width, where it never is
-abbrev pub RoomFor : ℕ → ℕ → ℕ → ℕ → ℕ → Type 0
-RoomFor rows columns store places number = (number ≤ 3) ⊎ ((rows * columns ≤ store) × (rows ≤ places))
 
 -- Any lines may be bad. Read leniently is without strict, and without exact, which implies it (A12).
 module _ (most : ℕ) (some-most : 1 ≤ most) (most-fits : most ≤ 40) (S : Settings) (inexact : S .exact ≡ false) (fill : ℕ) (three : 3 ≤ fill)
@@ -94,10 +90,6 @@ spared-all [] given marks no-lines = (refl, refl)
 spared-all (r ∷ rs) given marks (unchanged {rows = later} {marks = ms} s) =
     let p = spared-all rs later ms s in
     (ap (λ (l : List (List ℕ)). r ∷ l) (p .0), ap (λ (l : List ℕ). 0 ∷ l) (p .1))
-
--- the rows first and last, all clean, and one between them
-abbrev pub AllButOne : List (List ℕ) → List (List ℕ) → List (List ℕ) → List ℕ → Type 0
-AllButOne first last rows marks = (x : List ℕ) × (m : ℕ) × (rows ≡ first ++ x ∷ last) × (marks ≡ allClean first ++ m ∷ allClean last)
 
 spared-but-one : (first last : List (List ℕ)) (bits : List Bool) (given : List (List ℕ)) (marks : List ℕ) → Spared (owns first ++ other bits ∷ owns last) given marks → AllButOne first last given marks
 unfolding owns

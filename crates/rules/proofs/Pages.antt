@@ -16,9 +16,9 @@ use Rattle.rules.specs.Group4.{eolsBefore, over, afterLine4, row4}
 use Rattle.rules.specs.Group3.{Tagging, untagged, tagged, Before, line-at, end-at, before, line3, kept, whitened, afterLine3, row3}
 use Rattle.rules.specs.Pages.{Answer, Kept, noneKept, withRow, endWith, entries, keepRow, pageStep, rowsLeft, pageOf, rowOf, readPage}
 use Rattle.rules.proofs.Machine.{Falls, run-ind, ends-ind, ends-stops}
-use Rattle.rules.proofs.Ascending as Asc
-use Rattle.rules.proofs.Ascending.{Rising}
-use Rattle.rules.proofs.PageBack.{Rows, no-rows, row-then, entries-snoc}
+use Rattle.rules.specs.Rising as Asc
+use Rattle.rules.specs.Rising.{Rising, Rows, no-rows, row-then}
+use Rattle.rules.proofs.PageBack.{entries-snoc}
 use Rattle.rules.proofs.Lines.{Whole, read-whole, read-broken, data-bound, Each, Pushes, PushFails, push-pushes}
 use Rattle.rules.proofs.Eols.{Ahead, eols-ahead, reach, reaches}
 use Rattle.rules.proofs.Budget.{Budgeted, Budget, Due, Bytes, aligned-ahead, Starts, Sets, before-sets}

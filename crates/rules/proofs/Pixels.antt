@@ -11,9 +11,10 @@ use native.Mathlib.Omega.{arith}
 use lib.Dec.{leb, ltb, eqb}
 use borrow.Author.Tests.{ltb-true, ltb-false, leb-true, leb-false, eqb-true, eqb-false, lt-ltb, le-ltb, le-leb, lt-leb}
 use Rattle.rules.specs.Codes.{Colour, white, black, opposite, differ}
-use Rattle.rules.specs.Pixels.{Pixels, colourAt, pixelsOf, changing, firstOf, firstFrom, A0, imaginary, on, rightOf, a1On, a2On, b1On, b2On}
+use Rattle.rules.specs.Pixels.{Pixels, colourAt, pixelsOf, changing, firstOf, firstFrom, A0, imaginary, on, rightOf, a1On, a2On, b1On, b2On, a0At}
 use Rattle.rules.specs.Lines.{lastColour, rightOfA0, fromB1, headOr, tail, b1, b2}
-use Rattle.rules.proofs.Ascending.{Rising, none, some, change-within}
+use Rattle.rules.specs.Rising.{Rising, none, some}
+use Rattle.rules.proofs.Ascending.{change-within}
 
 -- ---- Colours, and places
 
@@ -273,11 +274,6 @@ unfolding a2On a1On
 a2-agrees {row = row} r a0 = next-agrees r (changes-from (rightOf a0) white row) _ (a1-agrees r a0)
 
 -- ---- b1 and b2
-
--- "a0 lies before the line while the position is 0, else at the position"
-abbrev pub a0At : ℕ → A0
-a0At zero = imaginary
-a0At (suc p) = on (suc p)
 
 -- `fromB1` finds the changes where the colours that differ from the current one are wanted
 b1-from : (colour : Colour) (n : ℕ) (c : Colour) (xs : List ℕ) → From (differ colour) n c xs (fromB1 colour n (opposite c) xs)

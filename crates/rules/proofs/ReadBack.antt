@@ -15,7 +15,8 @@ use Rattle.rules.specs.Lines.{Rules, Line, line, turned, movedTo, Went, 
 use Rattle.rules.specs.Write.{runBits, verticalTo, near, bits1D, bits2D, lineBits}
 use Rattle.rules.proofs.Bits.{drop-after}
 use Rattle.rules.proofs.Modes.{Coded, c-pass, c-horizontal, c-right, c-left, read-mode}
-use Rattle.rules.proofs.Ascending.{Rising, none, some, rises-lower, head-low, head-fits}
+use Rattle.rules.specs.Rising.{Rising, none, some}
+use Rattle.rules.proofs.Ascending.{rises-lower, head-low, head-fits}
 use Rattle.rules.proofs.Ahead.{above, b2-behind, no-longer, shorter}
 use Rattle.rules.proofs.Lines.{not-idle, moves, line-more, line-done}
 use Rattle.rules.proofs.WriteRuns.{read-run}

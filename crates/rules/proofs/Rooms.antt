@@ -26,7 +26,8 @@ use Rattle.rules.proofs.Marks.{decode-came, came-as-many}
 use Rattle.rules.proofs.Entries.{Spared, spared-start, spared-next, spared-row, spared-loose}
 use Rattle.rules.proofs.LessRoom.{Cut, same, short, line-cut, Fills, line-fills, changesIn, RowFills, row-fills, RowCut, row-cut, row-cut-cases}
 use Rattle.rules.proofs.Answers.{short-cases, Refuses, too-wide, too-long, no-columns, decode-cases}
-use Rattle.rules.proofs.Within.{cutBehind, four, withinFrom, within, within-all, within-loose, within-four, within-five, within-kept, Cuts, cuts, Front, cuts-front, cuts-four, cuts-five, short-within}
+use Rattle.rules.specs.Within.{cutBehind, four, withinFrom, within}
+use Rattle.rules.proofs.Within.{within-all, within-loose, within-four, within-five, within-kept, Cuts, cuts, Front, cuts-front, cuts-four, cuts-five, short-within}
 
 -- ---- A page with less room
 

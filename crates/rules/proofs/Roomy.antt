@@ -9,7 +9,8 @@ use lib.ListN.{length}
 use borrow.Author.Tests.{le-leb, eqb-false}
 use Rattle.rules.specs.Codes.{differ}
 use Rattle.rules.specs.Lines.{Rules, Line, line, Went, went, failed, lastColour, recorded, add, push, Kind, readLine}
-use Rattle.rules.proofs.Ascending.{Rising, rises-snoc, rises-length}
+use Rattle.rules.specs.Rising.{Rising}
+use Rattle.rules.proofs.Ascending.{rises-snoc, rises-length}
 use Rattle.rules.proofs.Lines.{data-bound, read-whole, read-broken}
 use Rattle.rules.proofs.LessRoom.{changesOf, Cut, same, short, Fills, line-cut, line-fills}
 

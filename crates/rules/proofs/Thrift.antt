@@ -21,8 +21,8 @@ use Rattle.rules.specs.Lines.{Rules, Line, line, newLine, turned, movedT
 use Rattle.rules.specs.Bits.{firstBit}
 use Rattle.rules.specs.Rows.{Settings, rulesOf}
 use Rattle.rules.specs.Group3.{Tagging, untagged, tagged, taggedLine, lineOfTag, line3}
-use Rattle.rules.proofs.Ascending as Asc
-use Rattle.rules.proofs.Ascending.{Rising}
+use Rattle.rules.specs.Rising as Asc
+use Rattle.rules.specs.Rising.{Rising}
 use Rattle.rules.proofs.Machine.{ends-ind, ends-stops}
 use Rattle.rules.proofs.Unless.{unless-not}
 use Rattle.rules.proofs.MoreRoom.{Full, full, line-room}

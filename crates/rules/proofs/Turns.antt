@@ -11,7 +11,7 @@ use lib.ListN.{length}
 use Rattle.rules.specs.Machine.{Out, more, done}
 use Rattle.rules.specs.Runs.{Res, ok, fault, Sum, runStep}
 use Rattle.rules.specs.Modes.{Mode, pass, horizontal, VR, VL, Moded, readMode}
-use Rattle.rules.specs.Lines.{Line, movedTo, Went, went, failed, afterRun, unlessIdle, apply, unmoved}
+use Rattle.rules.specs.Lines.{Line, movedTo, Went, went, failed, afterRun, unlessIdle, apply, unmoved, lineIn}
 use Rattle.rules.specs.Eols.{Eols, eolsTo}
 use Rattle.rules.specs.Rows.{Settings, readMark, alignedIf}
 use Rattle.rules.specs.Pages.{Answer, entries}
@@ -19,7 +19,7 @@ use Rattle.rules.specs.Units.{Half, first, second, Stand, between, inLin
 use Rattle.rules.proofs.Machine.{run-keeps}
 use Rattle.rules.proofs.PageBack.{entries-snoc}
 use Rattle.rules.proofs.Lines.{unless-idle}
-use Rattle.rules.proofs.Grows.{lineIn, apply-grows, afterRun-grows}
+use Rattle.rules.proofs.Grows.{apply-grows, afterRun-grows}
 
 -- ---- What holds of the rows kept, and stays so with each whole row
 

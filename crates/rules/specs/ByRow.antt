@@ -3,7 +3,7 @@
 -- (proofs/FormsAgree.antt, `forms-agree`).
 use mathlib.Core.Bool.{Bool, true, false, cond, _&&_}
 use mathlib.Core.List.{List, [], _∷_, _++_}
-use Prim.Native.Nat.{ℕ, suc, _+_, _*_}
+use Prim.Native.Nat.{ℕ, suc, _+_, _*_, _≤_}
 use lib.Dec.{eqb, leb, ltb}
 use lib.ListN.{length, take}
 use Rattle.rules.specs.Machine.{Out, more, done}
@@ -205,3 +205,8 @@ overOf a = record {
   marks = a .marks;
   loose = a .loose;
 }
+
+-- rows and then the loose one, into arrays that take turns: the next has room for m changes, the other for n
+unfoldable pub FitIn : ℕ → ℕ → List (List ℕ) → List ℕ → Type 0
+FitIn m n [] loose = length loose ≤ m
+FitIn m n (r ∷ rs) loose = (length r ≤ m) × FitIn n m rs loose

@@ -1,14 +1,15 @@
 -- How many codes a 2D line has (02, A12 and A9), counted along its own steps: mode codes, and what is counted for a run.
-use mathlib.Core.Bool.{Bool, cond}
+use mathlib.Core.Path.{_≡_}
+use mathlib.Core.Bool.{Bool, true, cond}
 use mathlib.Core.List.{List}
-use Prim.Native.Nat.{ℕ, suc, _+_, _-_}
+use Prim.Native.Nat.{ℕ, suc, _+_, _-_, _<_}
 use lib.Dec.{eqb}
 use lib.ListN.{length}
 use Rattle.rules.specs.Machine.{costs}
-use Rattle.rules.specs.Codes.{Colour}
+use Rattle.rules.specs.Codes.{Colour, black}
 use Rattle.rules.specs.Runs.{Res, ok, fault}
 use Rattle.rules.specs.Modes.{Mode, pass, horizontal, VR, VL, Moded, readMode}
-use Rattle.rules.specs.Lines.{Rules, Line, newLine, movedTo, Went, went, failed, pushRun, code2D, lineStep}
+use Rattle.rules.specs.Lines.{Rules, Line, newLine, movedTo, Went, went, failed, pushRun, atFirst, code2D, lineStep}
 
 -- `ofRun` is what is counted for the run of a colour that begins at a bit
 module _ (ofRun : Colour → ℕ → ℕ) (R : Rules) (bs : List Bool) where
@@ -43,3 +44,13 @@ modeCodes R reference bs at = ofLine (λ colour a. 0) R bs reference (newLine at
 -- its codes besides make-ups: with each run the one code that ends it, or at which it fails
 abbrev pub codesButMakeups : Rules → List ℕ → List Bool → ℕ → ℕ
 codesButMakeups R reference bs at = ofLine (λ colour a. 1) R bs reference (newLine at)
+
+-- the modes that go to a1 beside b1: V0, VR and VL
+pub data Vertical : Mode → Type 0 where
+  right : (k : ℕ) → Vertical (VR k)
+  left : (k : ℕ) → Vertical (VL k)
+
+-- The code that took the line s to t moved on; or it is a vertical move of the line's first code to 0, and turns to black.
+pub data MovesOn (bs : List Bool) (s t : Line) : Type 0 where
+  further : s .position < t .position → MovesOn bs s t
+  to-0 : (m : Moded) → readMode bs (s .at) ≡ ok m → Vertical (m .mode) → atFirst s ≡ true → t .position ≡ 0 → t .colour ≡ black → MovesOn bs s t

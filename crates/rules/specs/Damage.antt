@@ -1,10 +1,12 @@
 -- A page that arrives with bad lines (02 A13): what may stand in a line's place, the page then, and which of its rows must be read all the same, and clean.
+use mathlib.Core.Path.{_≡_}
+use mathlib.Core.Logic.{_⊎_}
 use mathlib.Core.Bool.{Bool, true, false, _&&_}
 use mathlib.Core.List.{List, [], _∷_, _++_}
 use mathlib.Core.Option.{Option, none, some}
-use Prim.Native.Nat.{ℕ, suc}
+use Prim.Native.Nat.{ℕ, suc, _*_, _≤_}
 use lib.Dec.{ltb}
-use lib.ListN.{replicate}
+use lib.ListN.{length, replicate}
 use Rattle.rules.specs.Lines.{one}
 use Rattle.rules.specs.Eols.{zeroRun}
 use Rattle.rules.specs.Pages.{ascends}
@@ -76,3 +78,15 @@ pub data Spared : List Arrived → List (List ℕ) → List ℕ → Type 0 where
   unchanged : {row : List ℕ} {ls : List Arrived} {rows : List (List ℕ)} {marks : List ℕ} → Spared ls rows marks → Spared (own row ∷ ls) (row ∷ rows) (0 ∷ marks)
   any-row : {bits : List Bool} {row : List ℕ} {mark : ℕ} {ls : List Arrived} {rows : List (List ℕ)} {marks : List ℕ}
       → Spared ls rows marks → Spared (other bits ∷ ls) (row ∷ rows) (mark ∷ marks)
+
+-- "room enough": the answer is neither 4 nor 5; or there is room for so many rows of full width, where it never is
+abbrev pub RoomFor : ℕ → ℕ → ℕ → ℕ → ℕ → Type 0
+RoomFor rows columns store places number = (number ≤ 3) ⊎ ((rows * columns ≤ store) × (rows ≤ places))
+
+-- rows that were read clean
+abbrev pub allClean : List (List ℕ) → List ℕ
+allClean rows = replicate (length rows) 0
+
+-- the rows first and last, all clean, and one between them
+abbrev pub AllButOne : List (List ℕ) → List (List ℕ) → List (List ℕ) → List ℕ → Type 0
+AllButOne first last rows marks = (x : List ℕ) × (m : ℕ) × (rows ≡ first ++ x ∷ last) × (marks ≡ allClean first ++ m ∷ allClean last)

@@ -1,8 +1,9 @@
 -- EOLs: at least eleven zeros, then a one (T.4 4.1.2 and, for the fill before it, 4.1.3; 01 "Codes"; `read_eols` and `skip_to_eol` of codes.rs).
+use mathlib.Core.Path.{_≡_}
 use mathlib.Core.Bool.{Bool, true, false, cond}
 use mathlib.Core.List.{List, [], _∷_}
 use mathlib.Core.Option.{Option, none, some}
-use Prim.Native.Nat.{ℕ, zero, suc, _+_}
+use Prim.Native.Nat.{ℕ, zero, suc, _+_, _≤_}
 use lib.Dec.{ltb}
 use lib.ListN.{length, drop}
 
@@ -11,6 +12,12 @@ unfoldable pub zeroRun : List Bool → Option ℕ
 zeroRun [] = none
 zeroRun (true ∷ bs) = some 0
 zeroRun (false ∷ bs) = elim (zeroRun bs) [ none ↦ none | some z ↦ some (suc z) ]
+
+-- an EOL stands at a bit: its zeros, and their number
+pub record EolAt (bs : List Bool) (at : ℕ) : Type 0 where
+  pub zeros : ℕ
+  pub run : zeroRun (drop at bs) ≡ some zeros
+  pub many : 11 ≤ zeros
 
 -- The bit after an EOL that begins at a bit. "Zeros without a closing one are no EOL and aren't consumed."
 abbrev pub eolAfter : ℕ → Option ℕ → Option ℕ

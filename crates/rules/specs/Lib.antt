@@ -6,6 +6,7 @@ pub mod Runs
 pub mod Plain
 pub mod Modes
 pub mod Pixels
+pub mod Rising
 pub mod Lines
 pub mod Counts
 pub mod Eols
@@ -13,6 +14,8 @@ pub mod Rows
 pub mod Group4
 pub mod Group3
 pub mod Pages
+pub mod Within
+pub mod Marks
 pub mod InSteps
 pub mod ByRow
 pub mod Units

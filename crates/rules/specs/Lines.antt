@@ -46,6 +46,11 @@ pub data Went : Type 0 where
   went : Line → Went
   failed : ℕ → ℕ → Line → Went
 
+-- the line that a code leaves, whole or not
+abbrev pub lineIn : Went → Line
+lineIn (went s) = s
+lineIn (failed n place s) = s
+
 abbrev pub next : Went → (Line → Went) → Went
 next (went s) then = then s
 next (failed n place s) then = failed n place s

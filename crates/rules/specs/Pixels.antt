@@ -39,6 +39,11 @@ pub data A0 : Type 0 where
   imaginary : A0
   on : ℕ → A0
 
+-- "a0 lies before the line while the position is 0, else at the position"
+abbrev pub a0At : ℕ → A0
+a0At zero = imaginary
+a0At (suc p) = on (suc p)
+
 -- where the positions to the right of a0 begin
 abbrev pub rightOf : A0 → ℕ
 rightOf imaginary = 0

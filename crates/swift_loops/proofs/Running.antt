@@ -11,10 +11,10 @@ use Rattle.rules.specs.Codes.{white, black, opposite, differ}
 use Rattle.rules.specs.Runs.{ok, sum, readRun}
 use Rattle.rules.specs.Machine.{Out, more, done}
 use Rattle.rules.specs.Lines as Rule
-use Rattle.rules.specs.Lines.{Rules, Went, went, failed, lastColour, recorded, pushRun, one, codeOf, lineStep, lineEnd, readLine}
+use Rattle.rules.specs.Lines.{Rules, Went, went, failed, lastColour, recorded, pushRun, one, codeOf, lineStep, lineEnd, readLine, lineIn}
 use Rattle.rules.specs.Pages.{overlaid}
 use Rattle.rules.proofs.Bits.{length-bitsOf}
-use Rattle.rules.proofs.Grows.{lineIn, Grows, GrowsTo, grows-here, code-grows}
+use Rattle.rules.proofs.Grows.{Grows, GrowsTo, grows-here, code-grows}
 use Rattle.rules.proofs.Lines.{moves, line-cases, line-falls, line-more, line-done}
 use Rattle.rules.proofs.Machine.{ends-ind, ends-stops}
 use Rattle.tables.specs.Tables.{colourOf}

@@ -12,7 +12,7 @@ use Rattle.rules.specs.Modes.{Mode, VR, VL, moded, readMode}
 use Rattle.rules.specs.Lines as Rule
 use Rattle.rules.specs.Lines.{recorded, rightOfA0, headOr, code2D, lineEnd}
 use Rattle.rules.specs.Pages.{overlaid}
-use Rattle.rules.proofs.Ascending.{Rising}
+use Rattle.rules.specs.Rising.{Rising}
 use Rattle.tables.specs.Tables.{colourOf, Lookups}
 use Rattle.bit_reader.specs.Cursor.{mostBits}
 use Rattle.bit_reader.specs.Loaded.{Ahead, Loading}

@@ -9,7 +9,7 @@ use lib.ListN.{length, getD, drop, length-append}
 use borrow.Author.Tests.{leb-true, leb-false}
 use Rattle.rules.specs.Bits.{bitsOf}
 use Rattle.rules.specs.Write.{toByte, writtenAt}
-use Rattle.rules.proofs.Ascending.{Rising, none}
+use Rattle.rules.specs.Rising.{Rising, none}
 use Rattle.writer.specs.Putting.{inked, Cleared, Room, Puts}
 use Rattle.writer.specs.Paging.{goodRows, Sheet, Pages}
 use Rattle.writer.proofs.Owing.{Owes, owes-all, owes-put, puts-zeros}

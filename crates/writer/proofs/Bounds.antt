@@ -13,7 +13,8 @@ use Rattle.rules.specs.Codes.{Colour, white, opposite}
 use Rattle.rules.specs.Lines.{Kind}
 use Rattle.rules.specs.Write.{mostMakeup, runBits, bits1D, lineBits, rowsBits, eolBits, eofb, pageBits, rowsIn}
 use Rattle.rules.specs.WriteGroup3.{Layout, bare, filled, mixed, kOf, kindNext, leftNext, codedLines, ahead, times, ending, framed, page3Bits}
-use Rattle.rules.proofs.Ascending.{Rising, none, some, rises-lower}
+use Rattle.rules.specs.Rising.{Rising, none, some}
+use Rattle.rules.proofs.Ascending.{rises-lower}
 use Rattle.writer.specs.Coding.{lineOf}
 use Rattle.writer.specs.Paging.{goodRows, pageOf, Pages}
 use Rattle.writer.specs.Paging3.{Laid, lineFrom, page3Of}

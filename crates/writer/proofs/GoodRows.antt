@@ -10,7 +10,8 @@ use lib.Seq.{drop-cons}
 use borrow.Author.Tests.{leb-true, le-leb, lt-leb}
 use Rattle.rules.specs.Pages.{ascends}
 use Rattle.rules.specs.Write.{rowsIn, endsRise, allAscend}
-use Rattle.rules.proofs.Ascending.{Rising, ascends-rises}
+use Rattle.rules.specs.Rising.{Rising}
+use Rattle.rules.proofs.Ascending.{ascends-rises}
 use Rattle.writer.specs.Paging.{goodRows}
 
 -- the row from `base` to `end`

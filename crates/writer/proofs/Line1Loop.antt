@@ -9,7 +9,8 @@ use lib.ListN.{length, getD, drop, drop-of-length-le}
 use lib.Seq.{drop-cons}
 use Rattle.rules.specs.Codes.{Colour, opposite}
 use Rattle.rules.specs.Write.{mostMakeup, runBits, bits1D, lineBits}
-use Rattle.rules.proofs.Ascending.{Rising, some, rises-lower}
+use Rattle.rules.specs.Rising.{Rising, some}
+use Rattle.rules.proofs.Ascending.{rises-lower}
 use Rattle.tables.specs.Tables.{colourOf}
 use Rattle.writer.specs.Putting.{Room, Puts}
 use Rattle.writer.specs.Coding.{line1Of, Rowed}

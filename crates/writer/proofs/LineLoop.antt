@@ -10,7 +10,8 @@ use Rattle.rules.specs.Codes.{Colour, opposite}
 use Rattle.rules.specs.Modes.{pass, horizontal, modeBits}
 use Rattle.rules.specs.Lines.{rightOfA0, headOr, tail}
 use Rattle.rules.specs.Write.{mostMakeup, runBits, verticalTo, bits2D, lineBits}
-use Rattle.rules.proofs.Ascending.{Rising, rises-lower, head-low, head-fits, tail-rises}
+use Rattle.rules.specs.Rising.{Rising}
+use Rattle.rules.proofs.Ascending.{rises-lower, head-low, head-fits, tail-rises}
 use Rattle.tables.specs.Tables.{colourOf}
 use Rattle.tables.specs.declared.Code.{Code}
 use Rattle.context.specs.declared.reference.Found.{Found}

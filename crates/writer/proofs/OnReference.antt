@@ -9,7 +9,8 @@ use lib.ListN.{length}
 use borrow.Author.Tests.{leb-true, leb-false, le-leb, lt-leb}
 use Rattle.rules.specs.Codes.{Colour, black, opposite, differ}
 use Rattle.rules.specs.Lines.{rightOfA0, fromB1, headOr, tail, b2}
-use Rattle.rules.proofs.Ascending.{Rising, none, some, rises-lower}
+use Rattle.rules.specs.Rising.{Rising, none, some}
+use Rattle.rules.proofs.Ascending.{rises-lower}
 
 -- how many changes lie at a place or behind it
 unfoldable pub right : ℕ → List ℕ → ℕ

@@ -13,7 +13,8 @@ use Rattle.rules.specs.Codes.{Colour, white, opposite}
 use Rattle.rules.specs.Lines.{Kind}
 use Rattle.rules.specs.Write.{mostMakeup, runBits, bits1D, lineBits, eolBits, rowsIn}
 use Rattle.rules.specs.WriteGroup3.{Layout, bare, filled, mixed, kOf, kindNext, leftNext, codedLines, ahead, times, ending, framed, page3Bits}
-use Rattle.rules.proofs.Ascending.{Rising, none, some, rises-lower, rises-length}
+use Rattle.rules.specs.Rising.{Rising, none, some}
+use Rattle.rules.proofs.Ascending.{rises-lower, rises-length}
 use Rattle.writer.specs.Putting.{Room, Puts}
 use Rattle.writer.specs.Coding.{Rowed}
 use Rattle.writer.specs.Paging.{Sheet, Pages}

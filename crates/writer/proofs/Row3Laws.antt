@@ -8,7 +8,7 @@ use lib.ListN.{length, replicate}
 use Rattle.rules.specs.Lines.{Kind}
 use Rattle.rules.specs.Write.{eolBits}
 use Rattle.rules.specs.WriteGroup3.{Layout, bare, filled, mixed, leftNext, ahead, times, ending}
-use Rattle.rules.proofs.Ascending.{none}
+use Rattle.rules.specs.Rising.{none}
 use Rattle.writer.specs.Putting.{Cleared, Room, Puts}
 use Rattle.writer.specs.Coding.{lineOf, line1Of, Rowed, Lined}
 use Rattle.writer.specs.Paging3.{kindFrom, lineFrom, row3Of}

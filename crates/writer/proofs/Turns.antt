@@ -11,7 +11,8 @@ use Rattle.rules.specs.Codes.{Colour, white, opposite}
 use Rattle.rules.specs.Modes.{Mode, pass, horizontal, VR, VL, modeBits}
 use Rattle.rules.specs.Lines.{rightOfA0, headOr, tail, b1, b2}
 use Rattle.rules.specs.Write.{mostMakeup, runBits, verticalTo, near, bits2D, lineBits}
-use Rattle.rules.proofs.Ascending.{Rising, rises-lower, head-low, head-fits, tail-rises}
+use Rattle.rules.specs.Rising.{Rising}
+use Rattle.rules.proofs.Ascending.{rises-lower, head-low, head-fits, tail-rises}
 use Rattle.rules.proofs.Ahead.{above, b2-behind, leftOver, no-longer, shorter}
 use Rattle.context.proofs.Search.{right-grows}
 use Rattle.writer.specs.Coding.{across, lineOf}

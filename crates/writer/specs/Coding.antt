@@ -8,7 +8,7 @@ use Rattle.rules.specs.Codes.{Colour, opposite}
 use Rattle.rules.specs.Modes.{horizontal, modeBits}
 use Rattle.rules.specs.Lines.{one, two}
 use Rattle.rules.specs.Write.{mostMakeup, runBits, lineBits}
-use Rattle.rules.proofs.Ascending.{Rising}
+use Rattle.rules.specs.Rising.{Rising}
 use Rattle.tables.specs.Tables.{Terminating, Makeup}
 use Rattle.writer.specs.Putting.{Room}
 
