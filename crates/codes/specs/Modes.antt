@@ -20,9 +20,9 @@ kindOf Kind.Pass = pass
 kindOf Kind.Horizontal = horizontal
 kindOf (Kind.Vertical offset) = offsetMode offset
 
--- a mode that was read at a bit, at which a fault lies too
-abbrev pub modeOf : ℕ → Mode → Res Moded
-modeOf at (Pass next) = ok (moded next pass)
-modeOf at (Horizontal next) = ok (moded next horizontal)
-modeOf at (Vertical offset next) = ok (moded next (offsetMode offset))
-modeOf at (Bad e) = fault (numberOf e) at
+-- a mode that was read, or the bit at which its failing code began
+abbrev pub modeOf : Mode → Res Moded
+modeOf (Pass next) = ok (moded next pass)
+modeOf (Horizontal next) = ok (moded next horizontal)
+modeOf (Vertical offset next) = ok (moded next (offsetMode offset))
+modeOf (Bad e place) = fault (numberOf e) place

@@ -11,12 +11,12 @@ ghost use Rattle.bit_reader.specs.Cursor.{Taking};
 ghost use Rattle.bit_reader.specs.Loaded.{Loading};
 ghost use Rattle.codes.specs.Modes.{kindOf, modeOf};
 
-// Each mode with the bit after its code. The offset of a vertical mode is positive to the right.
+// Each mode with the bit after its code, or the error with the bit at which the failing code began. The offset of a vertical mode is positive to the right.
 pub enum Mode {
     Pass(usize),
     Horizontal(usize),
     Vertical(i64, usize),
-    Bad(DecodeError),
+    Bad(DecodeError, usize),
 }
 
 enum Kind {
@@ -28,10 +28,10 @@ enum Kind {
 // A mode whose code has `size` bits, where these are there.
 fn coded(len: usize, at: usize, size: usize, kind: Kind) -> Mode
     requires { ⌜ Taking len at size ⌝ }
-    ensures { λ r. ⌜ modeOf at r ≡ modeTake (8 * len) at (known (kindOf kind) size) ⌝ }
+    ensures { λ r. ⌜ modeOf r ≡ modeTake (8 * len) at (known (kindOf kind) size) ⌝ }
 {
     let Moved::To(next) = bit_reader::consume(len, at, size) else {
-        return Mode::Bad(DecodeError::UnexpectedEof);
+        return Mode::Bad(DecodeError::UnexpectedEof, at);
     };
     match kind {
         Kind::Pass => Mode::Pass(next),
@@ -43,11 +43,11 @@ fn coded(len: usize, at: usize, size: usize, kind: Kind) -> Mode
 // No code has six leading zeros. These six are consumed before the error, so it is another where they are not left.
 fn no_mode(len: usize, at: usize) -> Mode
     requires { ⌜ Taking len at 6 ⌝ }
-    ensures { λ r. ⌜ modeOf at r ≡ modeTake (8 * len) at unknown ⌝ }
+    ensures { λ r. ⌜ modeOf r ≡ modeTake (8 * len) at unknown ⌝ }
 {
     match bit_reader::consume(len, at, 6) {
-        Moved::To(_) => Mode::Bad(DecodeError::InvalidCode),
-        Moved::End => Mode::Bad(DecodeError::UnexpectedEof),
+        Moved::To(_) => Mode::Bad(DecodeError::InvalidCode, at),
+        Moved::End => Mode::Bad(DecodeError::UnexpectedEof, at),
     }
 }
 
@@ -66,7 +66,7 @@ fn side(bits: u32, zeros: u32, right: i64, left: i64) -> i64
 // The mode by the next 32 bits.
 pub fn by_zeros(src: &[u8], at: usize, bits: u32) -> Mode
     requires { ⌜ (Loading (now src) at) × (bits ≡ peek 32 (drop at (bitsOf (now src)))) ⌝ }
-    ensures { λ r. ⌜ modeOf at r ≡ readMode (bitsOf (now (src .entry))) at ⌝ }
+    ensures { λ r. ⌜ modeOf r ≡ readMode (bitsOf (now (src .entry))) at ⌝ }
 {
     let len = src.len();
     match u32::leading_zeros(bits) {
@@ -83,7 +83,7 @@ pub fn by_zeros(src: &[u8], at: usize, bits: u32) -> Mode
 // For the line loop.
 pub fn read_mode(src: &[u8], at: usize) -> Mode
     requires { ⌜ Loading (now src) at ⌝ }
-    ensures { λ r. ⌜ modeOf at r ≡ readMode (bitsOf (now (src .entry))) at ⌝ }
+    ensures { λ r. ⌜ modeOf r ≡ readMode (bitsOf (now (src .entry))) at ⌝ }
 {
     let bits = bit_reader::peek(src, at);
     by_zeros(src, at, bits)
@@ -92,7 +92,7 @@ pub fn read_mode(src: &[u8], at: usize) -> Mode
 // For one code by itself (A9). With this caller too `read_mode` would no longer be compiled in place in the line loop, which feels it.
 pub fn mode_at(src: &[u8], at: usize) -> Mode
     requires { ⌜ Loading (now src) at ⌝ }
-    ensures { λ r. ⌜ modeOf at r ≡ readMode (bitsOf (now (src .entry))) at ⌝ }
+    ensures { λ r. ⌜ modeOf r ≡ readMode (bitsOf (now (src .entry))) at ⌝ }
 {
     let ahead = bit_reader::peek(src, at);
     by_zeros(src, at, ahead)

@@ -86,13 +86,13 @@ module _ (bytes xs : List ℕ) (l : Line) (at : ℕ) (rules : Code.Rules) where
   abbrev s : Rule.Line
   s = lineAt at xs l
 
-  module _ (m : Mode) (q : modeOf at m ≡ readMode bs at) where
+  module _ (m : Mode) (q : modeOf m ≡ readMode bs at) where
     -- the bits of horizontal mode lie in the data
     pub mode-inside : (next : ℕ) → m ≡ Horizontal next → next ≤ 8 * length bytes
-    mode-inside next e = let w = subst (ModeAt bs at) (sym q ∙ ap (modeOf at) e) (mode-at bs at) in omega (arith, w .fits, length-bitsOf bytes)
+    mode-inside next e = let w = subst (ModeAt bs at) (sym q ∙ ap modeOf e) (mode-at bs at) in omega (arith, w .fits, length-bitsOf bytes)
 
     offset-small : (z : ℤ) (next : ℕ) → m ≡ Vertical z next → Offset z
-    offset-small z next e = let w = subst (ModeAt bs at) (sym q ∙ ap (modeOf at) e) (mode-at bs at) in small z (w .coded)
+    offset-small z next e = let w = subst (ModeAt bs at) (sym q ∙ ap modeOf e) (mode-at bs at) in small z (w .coded)
       where
         small : (z : ℤ) → Coded (offsetMode z) → Offset z
         small (pos k) (c-right h) = h
@@ -102,19 +102,19 @@ module _ (bytes xs : List ℕ) (l : Line) (at : ℕ) (rules : Code.Rules) where
     mode-offset z next e = let h = offset-small z next e in subst Offset (sym (offset-held z h)) h
 
     module _ (reference : List ℕ) where
-      coded : (o : Res Moded) → modeOf at m ≡ o → code2D R reference bs s ≡ afterMode R reference bs s o
+      coded : (o : Res Moded) → modeOf m ≡ o → code2D R reference bs s ≡ afterMode R reference bs s o
       unfolding code2D
       coded o e = ap (afterMode R reference bs s) (sym q ∙ e)
 
-      pub mode-bad : Holds xs l → (e : DecodeError) → m ≡ Bad e → Steps (l .width) xs (code2D R reference bs s) (Step.Stop (numberOf e) l at) xs
-      mode-bad h e f =
-          rw (coded (fault (numberOf e) at) (ap (modeOf at) f))
-          (record { answer = ap (λ (m : Line). Step.Stop (numberOf e) m at) (sym (line-for xs l h at)); store = overlaid-same (l .changes) xs (h .held) })
+      pub mode-bad : Holds xs l → (e : DecodeError) (place : ℕ) → m ≡ Bad e place → Steps (l .width) xs (code2D R reference bs s) (Step.Stop (numberOf e) l place) xs
+      mode-bad h e place f =
+          rw (coded (fault (numberOf e) place) (ap modeOf f))
+          (record { answer = ap (λ (m : Line). Step.Stop (numberOf e) m place) (sym (line-for xs l h at)); store = overlaid-same (l .changes) xs (h .held) })
 
       pub mode-horizontal : (next′ : ℕ) → m ≡ Horizontal next′ → (r : Step) (ys : List ℕ)
           → TwoRuns bytes xs l at next′ rules r ys → Steps (l .width) xs (code2D R reference bs s) r ys
       unfolding apply
-      mode-horizontal next′ f r ys t = rw (coded (ok (moded next′ Modes.horizontal)) (ap (modeOf at) f)) t
+      mode-horizontal next′ f r ys t = rw (coded (ok (moded next′ Modes.horizontal)) (ap modeOf f)) t
 
       -- a count that the code pushes on the line behind its bits
       comes : (next′ count : ℕ) (r : Push) (ys : List ℕ) → Pushes xs l count (rules .strict) r ys → Comes (l .width) xs (push R at count (lineAt next′ xs l)) r ys
@@ -124,12 +124,12 @@ module _ (bytes xs : List ℕ) (l : Line) (at : ℕ) (rules : Code.Rules) where
           → Pushes xs l (b - l .position) (rules .strict) r ys → Steps (l .width) xs (code2D R reference bs s) (afterPush r at next′ false) ys
       unfolding apply
       mode-pass next′ b f e r ys p =
-          rw (coded (ok (moded next′ Modes.pass)) (ap (modeOf at) f) ∙ pass-busy R s (apply R reference bs at Modes.pass (lineAt next′ xs l)), ← e)
+          rw (coded (ok (moded next′ Modes.pass)) (ap modeOf f) ∙ pass-busy R s (apply R reference bs at Modes.pass (lineAt next′ xs l)), ← e)
           (pushed-steps R xs at (b - l .position) (lineAt next′ xs l) false r ys (comes next′ (b - l .position) r ys p))
 
       module _ (z : ℤ) (next′ b : ℕ) (f : m ≡ Vertical z next′) (e : b ≡ b1 (l .width) reference (l .position) (colourOf (l .colour))) where
         moved : (v : Move) → v ≡ moveBy b (offsetMode (held z)) (l .position) → code2D R reference bs s ≡ unlessIdle R (offsetMode z) s (afterMove R at (lineAt next′ xs l) v)
-        moved v k = coded (ok (moded next′ (offsetMode z))) (ap (modeOf at) f) ∙ ap (unlessIdle R (offsetMode z) s) (offset-moves R reference bs at (lineAt next′ xs l) z e (k ∙ ap (λ (y : ℤ). moveBy b (offsetMode y) (l .position)) (offset-held z (offset-small z next′ f))))
+        moved v k = coded (ok (moded next′ (offsetMode z))) (ap modeOf f) ∙ ap (unlessIdle R (offsetMode z) s) (offset-moves R reference bs at (lineAt next′ xs l) z e (k ∙ ap (λ (y : ℤ). moveBy b (offsetMode y) (l .position)) (offset-held z (offset-small z next′ f))))
 
         pub mode-over : Holds xs l → Over ≡ moveBy b (offsetMode (held z)) (l .position) → Steps (l .width) xs (code2D R reference bs s) (Step.Stop 3 l at) xs
         mode-over h k =

@@ -23,12 +23,12 @@ use Rattle.one_line.proofs.ModeCode.{pushed-steps}
 
 -- ---- Which modes have runs to come
 
-module _ (bytes : List ℕ) (at : ℕ) (m : Mode) (q : modeOf at m ≡ readMode (bitsOf bytes) at) where
+module _ (bytes : List ℕ) (at : ℕ) (m : Mode) (q : modeOf m ≡ readMode (bitsOf bytes) at) where
   pub runs-at : (next : ℕ) → m ≡ Horizontal next → RunsAt bytes at next
-  runs-at next e = sym q ∙ ap (modeOf at) e
+  runs-at next e = sym q ∙ ap modeOf e
 
-  pub bad-no-runs : (e : DecodeError) → m ≡ Bad e → (next : ℕ) → RunsAt bytes at next → ⊥
-  bad-no-runs e f next r = let z : _≡_ {A = ℕ} 0 1 = cc in omega arith
+  pub bad-no-runs : (e : DecodeError) (place : ℕ) → m ≡ Bad e place → (next : ℕ) → RunsAt bytes at next → ⊥
+  bad-no-runs e place f next r = let z : _≡_ {A = ℕ} 0 1 = cc in omega arith
 
   pub pass-no-runs : (n : ℕ) → m ≡ Pass n → (next : ℕ) → RunsAt bytes at next → ⊥
   pass-no-runs n f next r =

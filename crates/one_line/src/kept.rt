@@ -77,7 +77,7 @@ fn full_code<'a>(
 {
     let bits = bit_reader::peek(src, at);
     match mode::by_zeros(src, at, bits) {
-        Mode::Bad(e) => Step::Stop(error::number(e), line, at),
+        Mode::Bad(e, place) => Step::Stop(error::number(e), line, place),
         Mode::Horizontal(next) => {
             two::horizontal(white, black, src, changes, line, at, next, rules)
         }

@@ -41,7 +41,7 @@ pub fn mode_code(
     ensures { λ r. ⌜ OneCoded (now (src .entry)) (now (changes .entry)) line at b1 b2 rules r (now (changes .exit)) ⌝ }
 {
     match mode::mode_at(src, at) {
-        Mode::Bad(e) => OneCode::Did(Step::Stop(error::number(e), line, at)),
+        Mode::Bad(e, place) => OneCode::Did(Step::Stop(error::number(e), line, place)),
         Mode::Horizontal(next) => OneCode::Runs(next),
         Mode::Pass(next) => {
             let pushed = line::push_pixels(changes, line, b2 - line.position, rules.strict);

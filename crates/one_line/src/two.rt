@@ -106,7 +106,7 @@ fn code_2d<'a>(
     ensures { λ r. ⌜ Coded (now (src .entry)) (now (changes .entry)) line at b1 b2 rules r (now (changes .exit)) ⌝ }
 {
     match mode::read_mode(src, at) {
-        Mode::Bad(e) => Step::Stop(error::number(e), line, at),
+        Mode::Bad(e, place) => Step::Stop(error::number(e), line, place),
         Mode::Horizontal(next) => horizontal(white, black, src, changes, line, at, next, rules),
         Mode::Pass(next) => {
             let pushed = line::push_pixels(changes, line, b2 - line.position, rules.strict);

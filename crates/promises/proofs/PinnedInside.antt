@@ -130,17 +130,17 @@ modeAt next (VL (suc k)) = Vertical (negsuc k) next
 
 abbrev modeFrom : Res Moded → Mode
 modeFrom (ok m) = modeAt (m .at) (m .mode)
-modeFrom (fault n place) = Code.Bad (errorFrom n)
+modeFrom (fault n place) = Code.Bad (errorFrom n) place
 
-mode-back : (at : ℕ) (r : Mode) → modeFrom (modeOf at r) ≡ r
-mode-back at (Pass next) = refl
-mode-back at (Horizontal next) = refl
-mode-back at (Vertical (pos k) next) = refl
-mode-back at (Vertical (negsuc k) next) = refl
-mode-back at (Code.Bad e) = ap Code.Bad (error-back e)
+mode-back : (r : Mode) → modeFrom (modeOf r) ≡ r
+mode-back (Pass next) = refl
+mode-back (Horizontal next) = refl
+mode-back (Vertical (pos k) next) = refl
+mode-back (Vertical (negsuc k) next) = refl
+mode-back (Code.Bad e place) = ap (λ (e : DecodeError). Code.Bad e place) (error-back e)
 
 pub read-mode-pinned : Pinned.ReadModePinned
-read-mode-pinned bytes at = settled-by (modeOf at) modeFrom (mode-back at) _
+read-mode-pinned bytes at = settled-by modeOf modeFrom mode-back _
 
 pub read-eols-pinned : Pinned.ReadEolsPinned
 read-eols-pinned bytes from most = settled-by eolsOf (λ e. record { count = e .count; at = e .at }) (λ r. refl) _

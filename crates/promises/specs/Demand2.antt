@@ -30,8 +30,8 @@ RunsAreTheStandards =
 -- what `read_mode` answers is the standard's table (T.4 table 4), of which its contract speaks, and 01's count of leading zeros alike
 abbrev pub ModesAreTheStandards : Type 0
 ModesAreTheStandards =
-    (bytes : List ℕ) (at : ℕ) (r : Mode) → modeOf at r ≡ readMode (bitsOf bytes) at
-    → modeOf at r ≡ modeTake (length (bitsOf bytes)) at (modeByZeros (drop at (bitsOf bytes)))
+    (bytes : List ℕ) (at : ℕ) (r : Mode) → modeOf r ≡ readMode (bitsOf bytes) at
+    → modeOf r ≡ modeTake (length (bitsOf bytes)) at (modeByZeros (drop at (bitsOf bytes)))
 
 -- what the reader's search finds on a list of changes is what T.4 4.2.1.1 says of the reference line's pixels
 abbrev pub ChangingElementsAreTheStandards : Type 0

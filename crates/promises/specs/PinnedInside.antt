@@ -117,7 +117,7 @@ OneRunCodePinned = (colour : Colour) (bytes : List ℕ) (at total : ℕ) → One
 
 -- read_mode and mode_at
 abbrev pub ReadModePinned : Type 0
-ReadModePinned = (bytes : List ℕ) (at : ℕ) → OneAnswer (λ (r : Mode). modeOf at r ≡ readMode (bitsOf bytes) at)
+ReadModePinned = (bytes : List ℕ) (at : ℕ) → OneAnswer (λ (r : Mode). modeOf r ≡ readMode (bitsOf bytes) at)
 
 -- read_eols; and read_all_eols, whose most is the count of bits
 abbrev pub ReadEolsPinned : Type 0

@@ -100,8 +100,8 @@ pub data ModeFault (bs : List Bool) (at : ℕ) : ℕ → Type 0 where
 
 abbrev pub ModeFaults : Type 0
 ModeFaults =
-    (bytes : List ℕ) (at : ℕ) (r : Mode) → modeOf at r ≡ readMode (bitsOf bytes) at
-    → (n place : ℕ) → modeOf at r ≡ fault n place
+    (bytes : List ℕ) (at : ℕ) (r : Mode) → modeOf r ≡ readMode (bitsOf bytes) at
+    → (n place : ℕ) → modeOf r ≡ fault n place
     → (place ≡ at) × ModeFault (bitsOf bytes) at n
 
 -- ---- A code of a line

@@ -10,21 +10,21 @@ ghost use Rattle.codes.specs.Modes.{modeOf};
 
 pub fn by_zeros(src: &[u8], at: usize, bits: u32) -> Mode
     requires { ⌜ (Loading (now src) at) × (bits ≡ peek 32 (drop at (bitsOf (now src)))) ⌝ }
-    ensures { λ r. ⌜ modeOf at r ≡ readMode (bitsOf (now (src .entry))) at ⌝ }
+    ensures { λ r. ⌜ modeOf r ≡ readMode (bitsOf (now (src .entry))) at ⌝ }
 {
     codes::mode::by_zeros(src, at, bits)
 }
 
 pub fn read_mode(src: &[u8], at: usize) -> Mode
     requires { ⌜ Loading (now src) at ⌝ }
-    ensures { λ r. ⌜ modeOf at r ≡ readMode (bitsOf (now (src .entry))) at ⌝ }
+    ensures { λ r. ⌜ modeOf r ≡ readMode (bitsOf (now (src .entry))) at ⌝ }
 {
     codes::mode::read_mode(src, at)
 }
 
 pub fn mode_at(src: &[u8], at: usize) -> Mode
     requires { ⌜ Loading (now src) at ⌝ }
-    ensures { λ r. ⌜ modeOf at r ≡ readMode (bitsOf (now (src .entry))) at ⌝ }
+    ensures { λ r. ⌜ modeOf r ≡ readMode (bitsOf (now (src .entry))) at ⌝ }
 {
     codes::mode::mode_at(src, at)
 }

@@ -67,8 +67,8 @@ returns-2 c =
     let a = c .before .before .before .before .before .before .before .args in
     let m = c .before .before .before .before .mode-at .ensures in
     let f = c .before .before .e .given .1 in (
-      bad-no-runs (now (a .src)) (a .at) _ m _ f,
-      λ reference e1 e2. rw (c .number .ensures) (mode-bad (now (a .src)) (now (a .changes)) (a .line) (a .at) (a .rules) _ m reference (c .before .before .before .before .before .before .before .pre .holds) _ f),
+      bad-no-runs (now (a .src)) (a .at) _ m _ _ f,
+      λ reference e1 e2. rw (c .number .ensures) (mode-bad (now (a .src)) (now (a .changes)) (a .line) (a .at) (a .rules) _ m reference (c .before .before .before .before .before .before .before .pre .holds) _ _ f),
     )
 
 returns-3 : tie.Need-returns-3

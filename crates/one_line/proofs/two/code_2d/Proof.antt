@@ -71,7 +71,7 @@ after-push-requires-2 c κs = comes-coloured _ _ _ _ _ (c .before .before .push-
 returns-2 : tie.Need-returns-2
 returns-2 c = λ reference e1 e2.
     let a = c .before .before .before .before .before .before .before .args in
-    rw (c .number .ensures) (mode-bad (now (a .src)) (now (a .changes)) (a .line) (a .at) (a .rules) _ (c .before .before .before .before .read-mode .ensures) reference (c .before .before .before .before .before .before .before .pre .reads .holds) _ (c .before .before .e .given .1))
+    rw (c .number .ensures) (mode-bad (now (a .src)) (now (a .changes)) (a .line) (a .at) (a .rules) _ (c .before .before .before .before .read-mode .ensures) reference (c .before .before .before .before .before .before .before .pre .reads .holds) _ _ (c .before .before .e .given .1))
 
 same-length : tie.Need-same-length
 same-length c = search needs
