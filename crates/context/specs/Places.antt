@@ -5,7 +5,7 @@ use mathlib.Core.List.{List}
 use Prim.Native.Nat.{ℕ, suc, _+_, _-_, _%_, _≤_, _<_, max}
 use lib.ListN.{length, getD, drop}
 use Rattle.rules.specs.Lines.{rightOfA0, headOr}
-use Rattle.rules.proofs.Ascending.{Rising}
+use Rattle.rules.specs.Rising.{Rising}
 
 -- each change that lies two places or more before a place is left of `least`
 abbrev pub Left : List ℕ → ℕ → ℕ → Type 0

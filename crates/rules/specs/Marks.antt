@@ -39,6 +39,7 @@ Begins group4 S bs st at = eolsBefore S bs st .at ≡ at
 Begins group3-1D S bs st at = (expected : Bool) × (before S untagged bs st (eqb (st .count) 0) ≡ line-at at expected)
 Begins group3-2D S bs st at = (expected : Bool) × (before S tagged bs st (eqb (st .count) 0) ≡ line-at at expected)
 
+-- no line is read there: the reader stops at a fault, or there is nothing to read
 abbrev pub NotRead : Went → Type 0
 NotRead w = (l : Line) → w ≡ went l → ⊥
 

@@ -10,6 +10,20 @@ use Rattle.rules.specs.Bits.{window}
 use Rattle.rules.specs.Codes.{Colour, Code, codesOf}
 use Rattle.rules.specs.Lookup.{Entry, valid, invalid, lookup}
 
+-- ---- A run in the standard's own words, apart from any way of reading it (T.4 4.1.1, T.6 2.2.4)
+
+-- a code of the colour, for a run
+pub record For (colour : Colour) (run : ℕ) (c : Code) : Type 0 where
+  pub member : List·Memᴰ c (codesOf colour)
+  pub run-is : c .run ≡ run
+
+-- "make-up codes (64 or more), then one terminating code (0 to 63), summed": these codes of the colour make the run n
+pub data Made (colour : Colour) : ℕ → List Code → Type 0 where
+  last : {run : ℕ} {c : Code} → For colour run c → run < 64 → Made colour run (c ∷ [])
+  next : {run n : ℕ} {c : Code} {cs : List Code} → For colour run c → 64 ≤ run → Made colour n cs → Made colour (run + n) (c ∷ cs)
+
+-- ---- How a run is read, code by code, by the lookup (01 "Codes")
+
 -- what a reading answers: a value; or a fault, with its number of 01's list and the bit at which the failing code began
 pub data Res (A : Type 0) : Type 0 where
   ok : A → Res A
@@ -53,15 +67,3 @@ module _ {S A : Type 0} where
 -- the run of a colour that begins at a bit
 unfoldable pub readRun : Colour → List Bool → ℕ → Res Sum
 readRun colour bs at = answer (ends (runStep colour bs) (bitsAfter bs) (sum at 0))
-
--- ---- A run in the standard's own words, apart from any way of reading it
-
--- a code of the colour, for a run
-pub record For (colour : Colour) (run : ℕ) (c : Code) : Type 0 where
-  pub member : List·Memᴰ c (codesOf colour)
-  pub run-is : c .run ≡ run
-
--- "make-up codes (64 or more), then one terminating code (0 to 63), summed": these codes of the colour make the run n
-pub data Made (colour : Colour) : ℕ → List Code → Type 0 where
-  last : {run : ℕ} {c : Code} → For colour run c → run < 64 → Made colour run (c ∷ [])
-  next : {run n : ℕ} {c : Code} {cs : List Code} → For colour run c → 64 ≤ run → Made colour n cs → Made colour (run + n) (c ∷ cs)
