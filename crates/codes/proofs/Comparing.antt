@@ -14,13 +14,17 @@ use Rattle.rules.specs.Bits.{bitsFor, bitsOf, window, peek}
 use Rattle.rules.specs.Codes.{Colour, codesOf}
 use Rattle.rules.specs.Lookup.{Entry, valid, invalid, lookup}
 use Rattle.rules.specs.Machine.{more, done}
+use Rattle.rules.specs.Pages.{mostBytes}
 use Rattle.rules.specs.Runs.{ok, fault, sum, runTake, runStep, readRun}
 use Rattle.rules.specs.Plain.{Candidate, candidates, agreeing, Verdict, no-code, is-code, more-bits, verdict, compare, plain, Found, lost, found, byEntry}
 use Rattle.rules.proofs.Plain.{Short, short-table, short-agreeing, more-bits-come, plain-is-lookup, foundTake, plain-step}
 use Rattle.rules.proofs.Lookup.{lookup-valid}
 use Rattle.rules.proofs.Bits.{window-take, peek-lt, peek-one, bits-peek, length-bitsOf}
 use Rattle.rules.proofs.Codes.{shape}
-use Rattle.codes.specs.Plain.{agreed}
+use Rattle.codes.specs.Plain.{agreed, foundOf}
+use Rattle.codes.specs.Runs.{summed, Addable}
+use Rattle.codes.specs.declared.plain.Found as OfCode
+use Rattle.codes.specs.declared.plain.Found.the-variants as Variant
 use Rattle.codes.proofs.Runs.{Summing, sum-stops, sum-goes}
 use Rattle.codes.proofs.Verdicts.{saying}
 
@@ -188,6 +192,16 @@ module _ (colour : Colour) (bytes : List ℕ) (at : ℕ) (inside′ : at ≤ 8 *
 
       pub found-next : 64 ≤ run → runStep colour (bitsOf bytes) (sum at total) ≡ more (sum (at + size) (total + run))
       found-next k = added ∙ simp (le-leb (total + run) 4294967295 h, le-ltb run 64 k)
+
+-- whichever code was found at a bit of the data, it can be added, and that is a step of the run
+module _ (colour : Colour) (bytes : List ℕ) (at : ℕ) (inside′ : at ≤ 8 * length bytes) where
+  pub addable : length bytes ≤ mostBytes → (f : OfCode.Found) → foundOf f ≡ plain colour (drop at (bitsOf bytes)) → Addable at f
+  addable h (Variant.Code run taken) e = let k = found-inside colour bytes at inside′ 0 run taken e in (omega (arith, k), omega (arith, k))
+  addable h (Variant.Lost n taken) e = tt
+
+  pub code-steps : (total : ℕ) (f : Found) → f ≡ plain colour (drop at (bitsOf bytes)) → summed (sum at total) f ≡ runStep colour (bitsOf bytes) (sum at total)
+  code-steps total (found run taken) e = sym (added colour bytes at inside′ total run taken e)
+  code-steps total (lost n taken) e = sym (lost-step colour bytes at inside′ total n taken e)
 
 -- the bit that a sum has come to lies in the data
 pub record Adding (colour : Colour) (bytes : List ℕ) (start at total : ℕ) : Type 0 where

@@ -6,7 +6,7 @@ use Prim.Native.Nat.{ℕ, _+_, _-_, _*_, _/_, _%_, _^_, _≤_, _<_}
 use native.Mathlib.Omega.{arith}
 use native.Mathlib.Nat.{zero-add}
 use lib.ListN.{length, getD, drop}
-use borrow.Author.Tests.{le-leb, lt-ltb, le-ltb, ne-eqb}
+use borrow.Author.Tests.{le-leb, lt-ltb, le-ltb, eq-eqb, ne-eqb}
 use Rattle.rules.specs.Machine.{more, done}
 use Rattle.rules.specs.Bits.{bitsOf, window, peek}
 use Rattle.rules.specs.Codes.{Colour}
@@ -17,8 +17,31 @@ use Rattle.rules.proofs.Codes.{shape}
 use Rattle.rules.proofs.Lookup.{lookup-valid, table-at}
 use Rattle.bit_reader.specs.Loaded.{Ahead}
 use Rattle.bit_reader.proofs.Window.{ahead-first, ahead-shift}
-use Rattle.codes.specs.Fronts.{FrontRun}
+use Rattle.codes.specs.declared.front.Front.{Front}
+use Rattle.codes.specs.Fronts.{FrontRun, noFront, frontOf}
 use Rattle.codes.proofs.Runs.{stepBy, step-by, Summing, no-sum, sum-stops, sum-goes}
+
+-- ---- Each case of `frontOf`
+
+module _ (table : List ℕ) (first bits : ℕ) where
+  pub front-one : first % 4096 < 64 → record { pixels = first % 4096; size = first / 4096 } ≡ frontOf table first bits
+  unfolding frontOf
+  front-one k = rw (lt-ltb (first % 4096) 64 k) refl
+
+  module _ (long : 64 ≤ first % 4096) where
+    pub front-none : first % 4096 ≡ 4095 → noFront ≡ frontOf table first bits
+    unfolding frontOf
+    front-none k = rw (le-ltb (first % 4096) 64 long, eq-eqb (first % 4096) 4095 k) refl
+
+    module _ (is-run : first % 4096 ≡ 4095 → ⊥) {top : ℕ} (there : top ≡ bits * 2 ^ (first / 4096) % 2 ^ 64 / 2 ^ 51) where
+      pub front-makeups : 64 ≤ getD table top 0 % 4096 → noFront ≡ frontOf table first bits
+      unfolding frontOf
+      front-makeups k = rw (le-ltb (first % 4096) 64 long, ne-eqb (first % 4096) 4095 is-run, sym there, le-ltb (getD table top 0 % 4096) 64 k) refl
+
+      pub front-two : getD table top 0 % 4096 < 64
+          → record { pixels = first % 4096 + getD table top 0 % 4096; size = first / 4096 + getD table top 0 / 4096 } ≡ frontOf table first bits
+      unfolding frontOf
+      front-two k = rw (le-ltb (first % 4096) 64 long, ne-eqb (first % 4096) 4095 is-run, sym there, lt-ltb (getD table top 0 % 4096) 64 k) refl
 
 -- an entry's code has 13 bits at most, but where no code begins the bits
 entry-size : (colour : Colour) (ws : List Bool) (e : ℕ) → e ≡ entryNumber (lookup colour ws) → (e % 4096 ≡ 4095 → ⊥) → e / 4096 ≤ 13

@@ -17,9 +17,7 @@ use Rattle.rules.proofs.Bits.{length-bitsOf}
 use Rattle.rules.proofs.Codes.{shape}
 use Rattle.rules.proofs.Lookup.{lookup-valid, table-at}
 use Rattle.rules.proofs.Runs.{run-falls}
-use Rattle.bit_reader.specs.Cursor.{movedBy}
 use Rattle.bit_reader.specs.Loaded.{Loaded, LoadedAt, Top}
-use Rattle.bit_reader.specs.declared.Moved.the-variants.{To, End}
 use Rattle.bit_reader.specs.declared.buffer.Buffer.{Buffer}
 
 -- ---- A step by an entry's number
@@ -178,21 +176,6 @@ module _ {colour : Colour} {bytes : List ℕ} {start total run size : ℕ} {b : 
 
 -- ---- One code alone
 
--- the bits are there, or not
-moved-to : (len at size n : ℕ) → movedBy len at size ≡ To n → (at + size ≤ 8 * len) × (n ≡ at + size)
-moved-to len at size n = tests (leb (at + size) (8 * len)) (leb-true _ _)
-  where
-    tests : (b : Bool) → (b ≡ true → at + size ≤ 8 * len) → cond b (To (at + size)) End ≡ To n → (at + size ≤ 8 * len) × (n ≡ at + size)
-    tests true h e = (h refl, let q : at + size ≡ n = cc in sym q)
-    tests false h e = absurd (let z : _≡_ {A = ℕ} 0 1 = cc in omega arith)
-
-moved-end : (len at size : ℕ) → movedBy len at size ≡ End → leb (at + size) (8 * len) ≡ false
-moved-end len at size = tests (leb (at + size) (8 * len))
-  where
-    tests : (b : Bool) → cond b (To (at + size)) End ≡ End → b ≡ false
-    tests true e = absurd (let z : _≡_ {A = ℕ} 0 1 = cc in omega arith)
-    tests false e = refl
-
 -- the entry for the 13 bits at a bit
 pub record At (colour : Colour) (bytes : List ℕ) (at run size : ℕ) : Type 0 where
   pub entry : ℕ
@@ -208,46 +191,3 @@ look-at {colour} {bytes} {table} {at} {top} t k r s = record {
   run-is = r;
   size-is = s;
 }
-
-module _ {colour : Colour} {bytes : List ℕ} {at run size : ℕ} (total : ℕ) (t : At colour bytes at run size) where
-  abbrev stepHere : Out Sum (Res Sum)
-  stepHere = runStep colour (bitsOf bytes) (sum at total)
-
-  here-by : stepHere ≡ stepBy (8 * length bytes) (sum at total) run size
-  here-by =
-      step-by colour (bitsOf bytes) (sum at total) (t .entry) (t .entered)
-      ∙ ap (λ (n : ℕ). stepBy n (sum at total) (t .entry % 4096) (t .entry / 4096)) (length-bitsOf bytes)
-      ∙ (λ i. stepBy (8 * length bytes) (sum at total) (sym (t .run-is) i) (sym (t .size-is) i))
-
-  pub code-short : movedBy (length bytes) at size ≡ End → done (fault 2 at) ≡ stepHere
-  unfolding stepBy
-  code-short h = sym (here-by ∙ simp (moved-end (length bytes) at size h))
-
-  module _ {n : ℕ} (m : movedBy (length bytes) at size ≡ To n) where
-    there : at + size ≤ 8 * length bytes
-    there = moved-to (length bytes) at size n m .0
-
-    pub code-wrong : run ≡ 4095 → done (fault 1 at) ≡ stepHere
-    unfolding stepBy
-    code-wrong h = sym (here-by ∙ simp (le-leb _ _ there, eq-eqb _ _ h))
-
-    module _ (is-run : run ≡ 4095 → ⊥) where
-      pub code-large : 4294967295 - run < total → done (fault 3 at) ≡ stepHere
-      unfolding stepBy
-      code-large h = sym (here-by ∙ simp (le-leb _ _ there, ne-eqb _ _ is-run, lt-leb (total + run) 4294967295 (omega arith)))
-
-      module _ (h : total ≤ 4294967295 - run) where
-        pub code-small : total + run ≤ 4294967295
-        code-small = omega (arith, t .run-is)
-
-        pub code-last : run < 64 → done (ok (sum n (total + run))) ≡ stepHere
-        unfolding stepBy
-        code-last k =
-            ap (λ (a : ℕ). done (ok (sum a (total + run)))) (moved-to (length bytes) at size n m .1)
-            ∙ sym (here-by ∙ simp (le-leb _ _ there, ne-eqb _ _ is-run, le-leb _ _ code-small, lt-ltb _ _ k))
-
-        pub code-more : 64 ≤ run → more (sum n (total + run)) ≡ stepHere
-        unfolding stepBy
-        code-more k =
-            ap (λ (a : ℕ). more (sum a (total + run))) (moved-to (length bytes) at size n m .1)
-            ∙ sym (here-by ∙ simp (le-leb _ _ there, ne-eqb _ _ is-run, le-leb _ _ code-small, le-ltb _ _ k))

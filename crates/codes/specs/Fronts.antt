@@ -1,8 +1,10 @@
 -- What a run that is taken from the front of some bits is.
 use mathlib.Core.Path.{_≡_}
+use mathlib.Core.Bool.{cond}
 use mathlib.Core.List.{List}
-use Prim.Native.Nat.{ℕ, _+_, _≤_, _<_}
-use lib.ListN.{drop}
+use Prim.Native.Nat.{ℕ, _+_, _*_, _/_, _%_, _^_, _≤_, _<_}
+use lib.Dec.{eqb, ltb}
+use lib.ListN.{drop, getD}
 use Rattle.rules.specs.Bits.{bitsOf, window}
 use Rattle.rules.specs.Codes.{Colour}
 use Rattle.rules.specs.Lookup.{lookup, entryNumber, lookupTable}
@@ -15,8 +17,25 @@ pub record FrontRun (colour : Colour) (bytes : List ℕ) (at : ℕ) (r : Front) 
   pub within : r .size ≤ 26
   pub same : readRun colour (bitsOf bytes) at ≡ ok (sum (at + r .size) (r .pixels))
 
--- Such a run, if it has pixels or bits, whatever colour's table is lent, and wherever the bits stand in some data. `first` is the table's entry for the first 13 of them.
+-- ---- Which runs are taken so, by the entries of the lent table: each is its code's bits × 4096 + its run, or 4095 for a run where no code begins
+
+-- none is
+abbrev pub noFront : Front
+noFront = record { pixels = 0; size = 0 }
+
+-- behind a make-up code's entry, that of the bits behind it, which must be a terminating code's
+abbrev pub behindMakeup : ℕ → ℕ → Front
+behindMakeup first last = cond (ltb (last % 4096) 64) (record { pixels = first % 4096 + last % 4096; size = first / 4096 + last / 4096 }) noFront
+
+-- One terminating code, or one make-up code and a terminating one. `first` is the table's entry for the first 13 of the bits.
+unfoldable pub frontOf : List ℕ → ℕ → ℕ → Front
+frontOf table first bits =
+    cond (ltb (first % 4096) 64) (record { pixels = first % 4096; size = first / 4096 })
+    (cond (eqb (first % 4096) 4095) noFront (behindMakeup first (getD table (bits * 2 ^ (first / 4096) % 2 ^ 64 / 2 ^ 51) 0)))
+
+-- Exactly that, and a run of the colour's, if it has pixels or bits, whatever colour's table is lent, and wherever the bits stand in some data.
 pub record Fronted (table : List ℕ) (first bits : ℕ) (r : Front) : Type 0 where
+  pub is : r ≡ frontOf table first bits
   pub few : r .size ≤ 30
   pub narrow : r .pixels ≤ 8190
   pub read : (colour : Colour) (bytes : List ℕ) (at live : ℕ) → table ≡ lookupTable colour → Ahead bytes at live bits → 26 ≤ live

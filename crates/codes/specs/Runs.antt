@@ -1,17 +1,23 @@
 -- What the answer of the run reader means.
 use mathlib.Core.Path.{_≡_}
+use mathlib.Core.Bool.{cond}
 use mathlib.Core.List.{List}
-use Prim.Native.Nat.{ℕ, _≤_}
+use Prim.Native.Nat.{ℕ, _+_, _*_, _≤_}
+use lib.Dec.{leb, ltb}
 use lib.ListN.{length}
 use Rattle.rules.specs.Bits.{bitsOf}
 use Rattle.rules.specs.Codes.{Colour}
 use Rattle.rules.specs.Machine.{Out, more, done}
 use Rattle.rules.specs.Runs.{Res, ok, fault, Sum, sum, readRun}
 use Rattle.rules.specs.Pages.{mostBytes}
+use Rattle.rules.specs.Plain as Rule
+use Rattle.rules.specs.Plain.{found, lost}
 use Rattle.tables.specs.Tables.{Lookups}
 use Rattle.bit_reader.specs.Loaded.{Loaded, Loading}
 use Rattle.bit_reader.specs.declared.buffer.Buffer.{Buffer}
 use Rattle.error.specs.Error.{numberOf}
+use Rattle.codes.specs.declared.plain.Found.{Found}
+use Rattle.codes.specs.declared.plain.Found.the-variants as Found
 use Rattle.codes.specs.declared.run.Run.{Run}
 use Rattle.codes.specs.declared.run.Run.the-variants.{Length, Bad}
 use Rattle.codes.specs.declared.run.Code.{Code}
@@ -47,3 +53,16 @@ codeOf (Code.Bad e place) = done (fault (numberOf e) place)
 pub record CodeFrom (w b bytes : List ℕ) (at : ℕ) : Type 0 where
   pub lookups : Lookups w b
   pub loading : Loading bytes at
+
+-- What a code makes of the sum so far, whichever engine found it: "A sum above 4,294,967,295 is 3" (01, "Codes"), and a run of less than 64 is the last.
+abbrev pub summed : Sum → Rule.Found → Out Sum (Res Sum)
+summed s (found run taken) =
+    cond (leb (s .total + run) 4294967295)
+    (cond (ltb run 64) (done (ok (sum (s .at + taken) (s .total + run)))) (more (sum (s .at + taken) (s .total + run))))
+    (done (fault 3 (s .at)))
+summed s (lost n taken) = done (fault n (s .at))
+
+-- what adding one asks: no code has a longer run than 2,560, and its bits lie in the data
+abbrev pub Addable : ℕ → Found → Type 0
+Addable at (Found.Code run taken) = (run ≤ 2560) × (at + taken ≤ 8 * mostBytes)
+Addable at (Found.Lost e taken) = Unit {0}

@@ -1,16 +1,19 @@
 // Runs of one colour, by its lookup table.
-use bit_reader::Moved;
+use crate::plain::Found;
 use bit_reader::buffer;
 use bit_reader::buffer::Buffer;
 use bit_reader::buffer::Fed;
 use error::DecodeError;
 ghost use mathlib.Core.Path.{_≡_};
 ghost use Prim.Native.Nat.{_/_, _%_, _≤_};
+ghost use lib.ListN.{drop};
 ghost use Rattle.rules.specs.Bits.{bitsOf};
 ghost use Rattle.rules.specs.Lookup.{lookupTable};
+ghost use Rattle.rules.specs.Plain.{byLookup};
 ghost use Rattle.rules.specs.Runs.{sum, runStep};
 ghost use Rattle.tables.specs.Tables.{colourOf, Lookups};
-ghost use Rattle.codes.specs.Runs.{Reading, RunRead, CodeFrom, codeOf};
+ghost use Rattle.codes.specs.Plain.{foundOf};
+ghost use Rattle.codes.specs.Runs.{Reading, RunRead, CodeFrom, codeOf, Addable, summed};
 
 // A run and the buffer behind it; or the error, and the bit at which the failing code began.
 pub enum Run {
@@ -83,6 +86,52 @@ pub enum Code {
     Bad(DecodeError, usize),
 }
 
+// The code of a colour that begins at a bit, by its lookup table. The zeros that are seen past the end never complete a code: its bits must all be there.
+pub fn look_up<'a>(
+    white: &'a [u16; 8192],
+    black: &'a [u16; 8192],
+    colour: usize,
+    src: &[u8],
+    at: usize,
+) -> Found
+    requires { ⌜ CodeFrom (now white) (now black) (now src) at ⌝ }
+    ensures { λ r. ⌜ foundOf r ≡ byLookup (colourOf colour) (drop at (bitsOf (now (src .entry)))) ⌝ }
+{
+    let table = table_of(white, black, colour);
+    let top = bit_reader::peek13(src, at);
+    let entry = table[top];
+    let run = run_in(entry);
+    let size = size_in(entry);
+    let left = 8 * src.len() - at;
+    if left < size {
+        return Found::Lost(DecodeError::UnexpectedEof, left);
+    }
+    if run == 4095 {
+        return Found::Lost(DecodeError::InvalidCode, size);
+    }
+    Found::Code(run as usize, size)
+}
+
+// What a code makes of the sum so far, whichever engine found it.
+pub(crate) fn add_code(found: Found, at: usize, total: u32) -> Code
+    requires { ⌜ Addable at found ⌝ }
+    ensures { λ r. ⌜ codeOf r ≡ summed (sum at total) (foundOf found) ⌝ }
+{
+    match found {
+        Found::Lost(e, _) => Code::Bad(e, at),
+        Found::Code(run, taken) => {
+            let sum = total as usize + run;
+            if 4294967295 < sum {
+                return Code::Bad(DecodeError::Overflow, at);
+            }
+            if run < 64 {
+                return Code::Last(sum as u32, at + taken);
+            }
+            Code::More(sum as u32, at + taken)
+        }
+    }
+}
+
 // One step of `read_run`, for a form that may stop between make-up codes (A9). The page form does not call it.
 pub fn read_code<'a>(
     white: &'a [u16; 8192],
@@ -95,21 +144,6 @@ pub fn read_code<'a>(
     requires { ⌜ CodeFrom (now white) (now black) (now src) at ⌝ }
     ensures { λ r. ⌜ codeOf r ≡ runStep (colourOf colour) (bitsOf (now (src .entry))) (sum at total) ⌝ }
 {
-    let table = table_of(white, black, colour);
-    let top = bit_reader::peek13(src, at);
-    let entry = table[top];
-    let run = run_in(entry);
-    let Moved::To(next) = bit_reader::consume(src.len(), at, size_in(entry)) else {
-        return Code::Bad(DecodeError::UnexpectedEof, at);
-    };
-    if run == 4095 {
-        return Code::Bad(DecodeError::InvalidCode, at);
-    }
-    if 4294967295 - run < total {
-        return Code::Bad(DecodeError::Overflow, at);
-    }
-    if run < 64 {
-        return Code::Last(total + run, next);
-    }
-    Code::More(total + run, next)
+    let found = look_up(white, black, colour, src, at);
+    add_code(found, at, total)
 }

@@ -1,6 +1,6 @@
 -- A terminating code is all of the run; any other entry is left to `long_run`.
 use native.Mathlib.Omega.{arith}
-use Rattle.codes.proofs.Fronts.{one-code}
+use Rattle.codes.proofs.Fronts.{one-code, front-one}
 use borrow.Author.Needs.{needs}
 use Rattle.codes.proofs.front.front_run.Statement.{statement}
 use Rattle.codes.proofs.front.front_run.Tie as tie
@@ -21,6 +21,7 @@ returns : tie.Need-returns
 returns c =
     let run = c .before .before .run-in in
     record {
+      is = rw (run .ensures, c .size-in .ensures .0) (front-one _ _ _ (omega (arith, run .ensures, c .before .if1 .taken)));
       few = omega (arith, c .size-in .ensures .1);
       narrow = omega (arith, run .ensures);
       read = λ colour bytes at live t h k e p.

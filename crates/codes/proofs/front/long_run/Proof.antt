@@ -1,8 +1,8 @@
 -- A make-up code, and a terminating code behind it, by their entries.
-use mathlib.Core.Path.{ap, _∙_}
+use mathlib.Core.Path.{sym, ap, _∙_}
 use Prim.Native.Nat.{ℕ, _*_, _/_, _%_, _^_}
 use native.Mathlib.Omega.{arith}
-use Rattle.codes.proofs.Fronts.{two-codes}
+use Rattle.codes.proofs.Fronts.{two-codes, front-none, front-makeups, front-two}
 use borrow.Author.Needs.{needs}
 use Rattle.codes.proofs.front.long_run.Statement.{statement}
 use Rattle.codes.proofs.front.long_run.Tie as tie
@@ -29,10 +29,26 @@ run-in-requires-2 : tie.Need-run-in-requires-2
 run-in-requires-2 c κs = search needs
 
 returns : tie.Need-returns
-returns c = record { few = omega arith; narrow = omega arith; read = λ colour bytes at live t h k e p. absurd (omega arith) }
+returns c = record {
+  is = front-none _ _ _ (c .before .before .before .before .before .before .pre) (sym (c .before .run-in2 .ensures) ∙ c .if1 .taken);
+  few = omega arith;
+  narrow = omega arith;
+  read = λ colour bytes at live t h k e p. absurd (omega arith);
+}
 
 returns-2 : tie.Need-returns-2
-returns-2 c = record { few = omega arith; narrow = omega arith; read = λ colour bytes at live t h k e p. absurd (omega arith) }
+returns-2 c =
+    let a = c .before .before .before .before .before .before .before .args in
+    let size = c .before .before .before .before .before .before .size-in in
+    let top = c .before .before .before .before .before .top13 in
+    let run = c .before .before .run-in2 in
+    record {
+      is = front-makeups _ _ _ (c .before .before .before .before .before .before .before .pre) (λ z. c .before .if1 .left (run .ensures ∙ z))
+          (top .ensures .0 ∙ ap (λ (n : ℕ). a .bits * 2 ^ n % 2 ^ 64 / 2 ^ 51) (size .ensures .0)) (omega (arith, c .before .before .before .run-in .ensures, c .if2 .taken));
+      few = omega arith;
+      narrow = omega arith;
+      read = λ colour bytes at live t h k e p. absurd (omega arith);
+    }
 
 add-t16 : tie.Need-add-t16
 add-t16 c = search needs
@@ -49,12 +65,15 @@ returns-3 c =
     let size = c .before .before .before .before .before .before .before .size-in in
     let last = c .before .before .before .before .run-in in
     let run = c .before .before .before .run-in2 in
+    let there = c .before .before .before .before .before .before .top13 .ensures .0 ∙ ap (λ (n : ℕ). a .bits * 2 ^ n % 2 ^ 64 / 2 ^ 51) (size .ensures .0) in
+    let makeup = c .before .before .before .before .before .before .before .before .pre in
     record {
+      is = rw (run .ensures, last .ensures, size .ensures .0, c .size-in2 .ensures .0) (front-two _ _ _ makeup (λ z. c .before .before .if1 .left (run .ensures ∙ z)) there (omega (arith, last .ensures, c .before .if2 .left)));
       few = omega (arith, size .ensures .1, c .size-in2 .ensures .1);
       narrow = omega (arith, run .ensures, last .ensures);
       read = λ colour bytes at live t h k e p.
           rw (run .ensures, last .ensures, size .ensures .0, c .size-in2 .ensures .0)
-          (two-codes colour h k e (λ z. c .before .before .if1 .left (run .ensures ∙ z)) t (c .before .before .before .before .before .before .top13 .ensures .0 ∙ ap (λ (n : ℕ). a .bits * 2 ^ n % 2 ^ 64 / 2 ^ 51) (size .ensures .0)) (c .before .before .before .before .before .before .before .before .pre) (omega (arith, last .ensures, c .before .if2 .left)));
+          (two-codes colour h k e (λ z. c .before .before .if1 .left (run .ensures ∙ z)) t there makeup (omega (arith, last .ensures, c .before .if2 .left)));
     }
 
 pub long-run-spec : {M : Type 1} → statement M
