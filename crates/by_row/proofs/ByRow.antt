@@ -29,12 +29,15 @@ use Rattle.rows.specs.declared.Row.the-variants.{Kept, Stop}
 use Rattle.rows.specs.Settings.{settingsOf}
 use Rattle.rows.specs.Between.{stateOf, rowFor, changesIn, RowFrom}
 use Rattle.ccitt.specs.Decode.{Rowed, strictFor}
+use Rattle.ccitt.specs.Ends.{Allowed}
+use Rattle.ccitt.proofs.Ends.{short-allowed}
 use Rattle.by_row.specs.declared.Side.{Side}
 use Rattle.by_row.specs.declared.Side.the-variants.{First, Second}
 use Rattle.by_row.specs.declared.RowState.{RowState}
 use Rattle.by_row.specs.declared.RowStep.{RowStep}
 use Rattle.by_row.specs.ByRow.{sideOf, otherSide, Ending, endOf, rowStateOf, answerOf, Gives, ReadsRow, saidFor, refusedFor, noneFor, soundFor, givenFor, Grows, Ends, arraysAt, NextFrom, Comes, Next, Tested}
 use Rattle.by_row.proofs.States.{not-more}
+use Rattle.by_row.proofs.Allowed.{RowAllowed, row-allowed}
 
 other-is : (s : Side) → sideOf (otherSide s) ≡ Rule.other (sideOf s)
 other-is First = refl
@@ -206,10 +209,11 @@ module _ (bytes : List ℕ) (settings : DecodeSettings) (st : RowState) (referen
       abbrev outcome : RowOut
       outcome = rowOf (settingsOf settings .encoding) (strictIfExact (settingsOf settings)) (bitsOf bytes) (length xs - 0) (stateOf lentRow xs between)
 
+      standing : st .at ≤ length (bitsOf bytes)
+      standing = omega (arith, facts .inside, length-bitsOf bytes)
+
       bounded : Bounded (bitsOf bytes) outcome
-      bounded =
-          row-bounded (strictIfExact (settingsOf settings)) wide (bitsOf bytes) (whole-bytes bytes) (length xs - 0) (stateOf lentRow xs between) (omega (arith, facts .inside, length-bitsOf bytes))
-          (settingsOf settings .encoding)
+      bounded = row-bounded (strictIfExact (settingsOf settings)) wide (bitsOf bytes) (whole-bytes bytes) (length xs - 0) (stateOf lentRow xs between) standing (settingsOf settings .encoding)
 
       -- the rules' row is this one
       outcome-is : Rule.rowHere (settingsOf settings) bytes (rowStateOf st) lent ≡ outcome
@@ -266,12 +270,32 @@ module _ (bytes : List ℕ) (settings : DecodeSettings) (st : RowState) (referen
               cases (stop n p b l) o q = absurd (let z : _≡_ {A = ℕ} 0 1 = cc in omega arith)
 
         module _ (n place b loose : ℕ) (e : r ≡ Stop n place b loose) where
-          pub few : n ≤ 4
+          few : n ≤ 4
           few = cases outcome bounded (sym e ∙ g .answer)
             where
               cases : (o : RowOut) → Bounded (bitsOf bytes) o → Stop n place b loose ≡ rowFor o → n ≤ 4
               cases (row c m next) h q = absurd (let z : _≡_ {A = ℕ} 0 1 = cc in omega arith)
               cases (stop m p d l) h q = let z : n ≡ m = cc in omega arith
+
+          -- it has what 01 allows
+          allowed : Allowed n place b loose
+          allowed = cases outcome (row-allowed (strictIfExact (settingsOf settings)) wide (bitsOf bytes) (whole-bytes bytes) (length xs - 0) (stateOf lentRow xs between) standing (settingsOf settings .encoding)) (sym e ∙ g .answer)
+            where
+              cases : (o : RowOut) → RowAllowed o → Stop n place b loose ≡ rowFor o → Allowed n place b loose
+              cases (row c m next) h q = absurd (let z : _≡_ {A = ℕ} 0 1 = cc in omega arith)
+              cases (stop m p d l) h q =
+                  let n1 : m ≡ n = cc in
+                  let p1 : p ≡ place = cc in
+                  let b1 : d ≡ b = cc in
+                  let l1 : length l ≡ loose = cc in
+                  subst (λ (x : ℕ). Allowed x place b loose) n1 (subst (λ (x : ℕ). Allowed m x b loose) p1 (subst (λ (x : ℕ). Allowed m p x loose) b1 (subst (Allowed m p d) l1 h)))
+
+          pub next-ends : Ending n × Allowed n place b loose
+          next-ends = (inl few, allowed)
+
+          -- and so has 14
+          pub short-ends : true ≡ tooFew (settingsOf settings) n (st .rows) → Ending 14 × Allowed 14 0 0 loose
+          short-ends t = (inr refl, short-allowed (settingsOf settings) n (st .rows) place b loose (sym t) allowed)
 
           -- the end that is told, where it is the one that the rules put in place of the row's
           ended-so : (m p d : ℕ) → Ending m → ((k : List ℕ) → unlessFewHere (stop n place b k) ≡ stop m p d k) → (s : RowStep) → Ends st m p d loose s → Next bytes settings st reference xs s ys

@@ -23,8 +23,7 @@ sideFrom Rule.second = Second
 abbrev endFrom : Rule.End → End
 endFrom unended = Unended
 endFrom (ended n place bytes loose) =
-    cond (eqb n 0) (Done place bytes loose)
-    (cond (eqb n 1) (InvalidCode place bytes loose) (cond (eqb n 2) (UnexpectedEof place bytes loose) (cond (eqb n 3) (Overflow place bytes loose) (cond (eqb n 4) (NoRoom place bytes loose) (Short place bytes loose)))))
+    cond (eqb n 0) (Done bytes) (cond (eqb n 1) (InvalidCode place loose) (cond (eqb n 2) (UnexpectedEof place loose) (cond (eqb n 3) (Overflow place loose) (cond (eqb n 4) (NoRoom loose) Short))))
 
 side-back : (s : Side) → sideFrom (sideOf s) ≡ s
 side-back First = refl
@@ -32,12 +31,12 @@ side-back Second = refl
 
 end-back : (e : End) → endFrom (endOf e) ≡ e
 end-back Unended = refl
-end-back (Done place bytes loose) = refl
-end-back (InvalidCode place bytes loose) = refl
-end-back (UnexpectedEof place bytes loose) = refl
-end-back (Overflow place bytes loose) = refl
-end-back (NoRoom place bytes loose) = refl
-end-back (Short place bytes loose) = refl
+end-back (Done bytes) = refl
+end-back (InvalidCode place loose) = refl
+end-back (UnexpectedEof place loose) = refl
+end-back (Overflow place loose) = refl
+end-back (NoRoom loose) = refl
+end-back Short = refl
 
 pub same-side : (s t : Side) → sideOf s ≡ sideOf t → s ≡ t
 same-side s t e = sym (side-back s) ∙ ap sideFrom e ∙ side-back t
@@ -65,9 +64,9 @@ EndListed (ended n place bytes loose) = Ending n
 
 pub end-listed : (e : End) → EndListed (endOf e)
 end-listed Unended = tt
-end-listed (Done place bytes loose) = inl (omega arith)
-end-listed (InvalidCode place bytes loose) = inl (omega arith)
-end-listed (UnexpectedEof place bytes loose) = inl (omega arith)
-end-listed (Overflow place bytes loose) = inl (omega arith)
-end-listed (NoRoom place bytes loose) = inl (omega arith)
-end-listed (Short place bytes loose) = inr refl
+end-listed (Done bytes) = inl (omega arith)
+end-listed (InvalidCode place loose) = inl (omega arith)
+end-listed (UnexpectedEof place loose) = inl (omega arith)
+end-listed (Overflow place loose) = inl (omega arith)
+end-listed (NoRoom loose) = inl (omega arith)
+end-listed Short = inr refl

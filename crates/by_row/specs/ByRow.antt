@@ -34,14 +34,15 @@ otherSide Second = First
 abbrev pub Ending : ℕ → Type 0
 Ending n = (n ≤ 4) ⊎ (n ≡ 14)
 
+-- number, place, bytes and loose entries: each number has those that 01 allows it, and the others are 0
 abbrev pub endOf : End → Rule.End
 endOf Unended = unended
-endOf (Done place bytes loose) = ended 0 place bytes loose
-endOf (InvalidCode place bytes loose) = ended 1 place bytes loose
-endOf (UnexpectedEof place bytes loose) = ended 2 place bytes loose
-endOf (Overflow place bytes loose) = ended 3 place bytes loose
-endOf (NoRoom place bytes loose) = ended 4 place bytes loose
-endOf (Short place bytes loose) = ended 14 place bytes loose
+endOf (Done bytes) = ended 0 0 bytes 0
+endOf (InvalidCode place loose) = ended 1 place 0 loose
+endOf (UnexpectedEof place loose) = ended 2 place 0 loose
+endOf (Overflow place loose) = ended 3 place 0 loose
+endOf (NoRoom loose) = ended 4 0 0 loose
+endOf Short = ended 14 0 0 0
 
 abbrev pub rowStateOf : RowState → Rule.RowState
 rowStateOf st = record { at = st .at; rows = st .rows; entries = st .entries; eols = st .eols; side = sideOf (st .side); held = st .held; end = endOf (st .end) }
@@ -80,7 +81,7 @@ abbrev pub refusedFor : ℕ → RowState → RowStep
 refusedFor number st = toldFor (answerOf (saysOnly number)) 0 st
 
 abbrev pub noneFor : RowState → RowStep
-noneFor st = saidFor 0 0 0 0 (record { at = st .at; rows = 0; entries = 0; eols = st .eols; side = st .side; held = st .held; end = Done 0 0 0 })
+noneFor st = saidFor 0 0 0 0 (record { at = st .at; rows = 0; entries = 0; eols = st .eols; side = st .side; held = st .held; end = Done 0 })
 
 -- the tests of 8, on the array that holds the reference
 abbrev pub soundFor : ℕ → ℕ → RowState → List ℕ → Bool

@@ -13,6 +13,7 @@ ghost use Rattle.rules.specs.ByRow.{ended, rowStart};
 ghost use Rattle.tables.specs.Pairs.{pairTable};
 ghost use Rattle.rows.specs.Between.{RowFrom};
 ghost use Rattle.ccitt.specs.Decode.{Rowed};
+ghost use Rattle.ccitt.specs.Ends.{Allowed};
 ghost use Rattle.by_row.specs.ByRow.{otherSide, endOf, Ending, rowStateOf, toldFor, saidFor, refusedFor, noneFor, soundFor, Grows, givenFor, Ends, NextFrom, Next, Tested, ReadsRow};
 
 // One of the two line arrays.
@@ -21,16 +22,16 @@ pub enum Side {
     Second,
 }
 
-// The page goes on; or it has ended with a number of the list, so that no other can be repeated: 0 to 4, and 14. Each has the bit at fault,
-// the bytes, and the loose entries.
+// The page goes on; or it has ended with a number of the list, 0 to 4 or 14, and with what that number may have beside it, so that no other
+// end can be repeated: 0 its bytes; 1, 2 and 3 the bit at fault and the loose entries; 4 the loose entries; 14 nothing.
 pub enum End {
     Unended,
-    Done(usize, usize, usize),
-    InvalidCode(usize, usize, usize),
-    UnexpectedEof(usize, usize, usize),
-    Overflow(usize, usize, usize),
-    NoRoom(usize, usize, usize),
-    Short(usize, usize, usize),
+    Done(usize),
+    InvalidCode(usize, usize),
+    UnexpectedEof(usize, usize),
+    Overflow(usize, usize),
+    NoRoom(usize),
+    Short,
 }
 
 // What a call hands back and the next one takes: the next bit, the rows given and the entries in them, whether EOLs are expected, and the
@@ -126,7 +127,7 @@ fn no_columns(state: RowState) -> RowStep
         eols: state.eols,
         side,
         held: state.held,
-        end: End::Done(0, 0, 0),
+        end: End::Done(0),
     };
     said(0, 0, 0, 0, ended)
 }
@@ -190,21 +191,21 @@ fn given(state: RowState, count: usize, mark: u32, at: usize, eols: bool) -> Row
 }
 
 fn end_of(number: u32, place: usize, bytes: usize, loose: usize) -> End
-    requires { ⌜ Ending number ⌝ }
+    requires { ⌜ Ending number × Allowed number place bytes loose ⌝ }
     ensures { λ r. ⌜ endOf r ≡ ended number place bytes loose ⌝ }
 {
     match number {
-        0 => End::Done(place, bytes, loose),
-        1 => End::InvalidCode(place, bytes, loose),
-        2 => End::UnexpectedEof(place, bytes, loose),
-        3 => End::Overflow(place, bytes, loose),
-        4 => End::NoRoom(place, bytes, loose),
-        _ => End::Short(place, bytes, loose),
+        0 => End::Done(bytes),
+        1 => End::InvalidCode(place, loose),
+        2 => End::UnexpectedEof(place, loose),
+        3 => End::Overflow(place, loose),
+        4 => End::NoRoom(loose),
+        _ => End::Short,
     }
 }
 
 fn ends(state: RowState, number: u32, place: usize, bytes: usize, loose: usize) -> RowStep
-    requires { ⌜ Ending number ⌝ }
+    requires { ⌜ Ending number × Allowed number place bytes loose ⌝ }
     ensures { λ r. ⌜ Ends state number place bytes loose r ⌝ }
 {
     let side = state.side;
@@ -324,11 +325,11 @@ pub fn read_row(
     let end = state.end;
     match end {
         End::Unended => tested(src, settings, state, first, second),
-        End::Done(place, bytes, loose) => said(0, place, bytes, loose, state),
-        End::InvalidCode(place, bytes, loose) => said(1, place, bytes, loose, state),
-        End::UnexpectedEof(place, bytes, loose) => said(2, place, bytes, loose, state),
-        End::Overflow(place, bytes, loose) => said(3, place, bytes, loose, state),
-        End::NoRoom(place, bytes, loose) => said(4, place, bytes, loose, state),
-        End::Short(place, bytes, loose) => said(14, place, bytes, loose, state),
+        End::Done(bytes) => said(0, 0, bytes, 0, state),
+        End::InvalidCode(place, loose) => said(1, place, 0, loose, state),
+        End::UnexpectedEof(place, loose) => said(2, place, 0, loose, state),
+        End::Overflow(place, loose) => said(3, place, 0, loose, state),
+        End::NoRoom(loose) => said(4, 0, 0, loose, state),
+        End::Short => said(14, 0, 0, 0, state),
     }
 }

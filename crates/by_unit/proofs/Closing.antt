@@ -1,5 +1,6 @@
 -- Closing a row or the page: what the code makes of it is what the rules make of the reading. Assumes nothing.
 use mathlib.Core.Path.{_≡_, refl, sym, ap, ap₂, _∙_, subst}
+use mathlib.Core.Logic.{⊎-elim}
 use mathlib.Core.Bool.{Bool, true, false, cond}
 use mathlib.Core.List.{List, [], _∷_, _++_, append-nil}
 use mathlib.Core.Option.{Option, none, some}
@@ -92,7 +93,11 @@ module _ (bytes : List ℕ) (settings : DecodeSettings) (asked : Asked bytes set
         over-same = ap (λ (n : ℕ). over S bs (record { at = e .at; reference = []; count = n; eols = false }) (eolsOf e)) rows-same
 
         begins : (b : Bool) → Told bytes width rows base xs es ms (lineOrOver S bs store places K (eolsOf e) b) (lineOrOverFor settings k e b)
-        begins true = record { answer = said-behind rows base K k 0 0 (bytesTo (e .at)) [] rows-same base-same behind; listed = omega arith }
+        begins true = record {
+          answer = said-behind rows base K k 0 0 (bytesTo (e .at)) [] rows-same base-same behind;
+          listed = omega arith;
+          allowed = record { no-bytes = λ h. absurd (h refl); no-place = λ h. refl; no-loose = λ h. refl };
+        }
         begins false = record {
           is = ap (λ (x : Keeping). going x (inLine (newLine (e .at)))) same;
           rows-are = rows-same ∙ behind .rows-are;
@@ -205,6 +210,7 @@ module _ (bytes : List ℕ) (settings : DecodeSettings) (asked : Asked bytes set
         told = record {
           answer = ap (λ (n : ℕ). answerOf (says 5 0 0 (k .rows) (k .base) n)) (sym sized) ∙ said-behind (k .rows) (k .base) K k 5 0 0 (L .changes) refl refl none-behind;
           listed = omega arith;
+          allowed = record { no-bytes = λ h. refl; no-place = λ h. refl; no-loose = ⊎-elim (λ h. absurd (omega arith)) (λ h. absurd (omega arith)) };
         };
         leaves = leaves-none (broken S bs (length xs) places K 5 0 L) refl refl as-left;
       }

@@ -16,6 +16,7 @@ use Rattle.rules.specs.Lines as Lines
 use Rattle.rules.specs.Lines.{rightOfA0}
 use Rattle.rules.specs.Runs.{sum}
 use Rattle.rules.specs.Pages.{ascends, placesIn}
+use Rattle.rules.specs.InSteps.{Said, says}
 use Rattle.rules.specs.Units as Units
 use Rattle.rules.specs.Units.{going}
 use Rattle.rules.specs.ByUnit as Rule
@@ -29,11 +30,13 @@ use Rattle.context.specs.State.{flagOf, flagNumber, lineAt, Holds}
 use Rattle.context.proofs.State.{flag-number}
 use Rattle.context.proofs.Search.{passed-none}
 use Rattle.rows.specs.declared.DecodeSettings.{DecodeSettings}
+use Rattle.ccitt.specs.Ends.{Allowed}
 use Rattle.by_unit.specs.declared.Phase.{Phase}
 use Rattle.by_unit.specs.declared.Phase.the-variants as Phase
 use Rattle.by_unit.specs.declared.Saved.{Saved}
 use Rattle.by_unit.specs.declared.End.{End}
 use Rattle.by_unit.specs.declared.End.the-variants as End
+use Rattle.by_unit.specs.declared.Counts.{Counts}
 use Rattle.by_unit.specs.declared.Reading.{Reading}
 use Rattle.by_unit.specs.declared.Reading.the-variants.{Open, Ended}
 use Rattle.by_unit.specs.declared.stand.Half.the-variants.{First, Second}
@@ -41,7 +44,7 @@ use Rattle.by_unit.specs.declared.stand.Stand.{Stand}
 use Rattle.by_unit.specs.declared.stand.Stand.the-variants.{Between, InLine, InRun}
 use Rattle.by_unit.specs.declared.stand.Kept.{Kept}
 use Rattle.by_unit.specs.Standing.{standOf, goingAt, KeptIn, LineIn, StandIn, Asked}
-use Rattle.by_unit.specs.Reading.{phaseOf, blackIf, savedOf, endNumber, Ending, readingOf, endFrom, looseFor, savedFor, keptBy, lineBy, standBy, bitsFor, countsFor, soundFor}
+use Rattle.by_unit.specs.Reading.{phaseOf, blackIf, savedOf, Ending, saidOf, readingOf, endFrom, looseFor, savedFor, keptBy, lineBy, standBy, bitsFor, countsFor, soundFor}
 
 -- ---- The tests
 
@@ -206,32 +209,35 @@ module _ (bytes : List ℕ) (width : ℕ) (xs : List ℕ) (k : Kept) where
 
 -- ---- The numbers of the ends
 
-pub end-number : (n : ℕ) → Ending n → endNumber (endFrom n) ≡ n
-end-number n (inr h) = subst (λ (m : ℕ). endNumber (endFrom m) ≡ m) (sym h) refl
-end-number n (inl h) = cases n h
+-- an end of the list that has what 01 allows is held whole
+pub end-held : (n place bytes loose : ℕ) (c : Counts) → Ending n → Allowed n place bytes loose → saidOf (endFrom n place bytes loose) c ≡ says n place bytes (c .rows) (c .entries) loose
+end-held n place bytes loose c (inr h) a =
+    ap (λ (m : ℕ). saidOf (endFrom m place bytes loose) c) h
+    ∙ (λ i. says (sym h i) (sym (a .no-place (inr (omega (arith, h)))) i) (sym (a .no-bytes (λ z. omega (arith, h))) i) (c .rows) (c .entries) (sym (a .no-loose (inr (omega (arith, h)))) i))
+end-held n place bytes loose c (inl h) a = cases n h a
   where
-    cases : (n : ℕ) → n ≤ 5 → endNumber (endFrom n) ≡ n
-    cases zero h = refl
-    cases (suc zero) h = refl
-    cases (suc (suc zero)) h = refl
-    cases (suc (suc (suc zero))) h = refl
-    cases (suc (suc (suc (suc zero)))) h = refl
-    cases (suc (suc (suc (suc (suc zero))))) h = refl
-    cases (suc (suc (suc (suc (suc (suc n)))))) h = absurd (omega arith)
+    cases : (n : ℕ) → n ≤ 5 → Allowed n place bytes loose → saidOf (endFrom n place bytes loose) c ≡ says n place bytes (c .rows) (c .entries) loose
+    cases zero h a = λ i. says 0 (sym (a .no-place (inl refl)) i) bytes (c .rows) (c .entries) (sym (a .no-loose (inl refl)) i)
+    cases (suc zero) h a = λ i. says 1 place (sym (a .no-bytes (λ z. omega arith)) i) (c .rows) (c .entries) loose
+    cases (suc (suc zero)) h a = λ i. says 2 place (sym (a .no-bytes (λ z. omega arith)) i) (c .rows) (c .entries) loose
+    cases (suc (suc (suc zero))) h a = λ i. says 3 place (sym (a .no-bytes (λ z. omega arith)) i) (c .rows) (c .entries) loose
+    cases (suc (suc (suc (suc zero)))) h a = λ i. says 4 (sym (a .no-place (inr (omega arith))) i) (sym (a .no-bytes (λ z. omega arith)) i) (c .rows) (c .entries) loose
+    cases (suc (suc (suc (suc (suc zero))))) h a = λ i. says 5 (sym (a .no-place (inr (omega arith))) i) (sym (a .no-bytes (λ z. omega arith)) i) (c .rows) (c .entries) loose
+    cases (suc (suc (suc (suc (suc (suc n)))))) h a = absurd (omega arith)
 
--- any other
-pub end-other : (n : ℕ) → 5 < n → End.Short ≡ endFrom n
-end-other n h =
+-- any other number
+pub end-other : (n place bytes loose : ℕ) → 5 < n → End.Short ≡ endFrom n place bytes loose
+end-other n place bytes loose h =
     rw (ne-eqb n 0 (λ e. omega (arith, e)), ne-eqb n 1 (λ e. omega (arith, e)), ne-eqb n 2 (λ e. omega (arith, e)), ne-eqb n 3 (λ e. omega (arith, e)), ne-eqb n 4 (λ e. omega (arith, e)), ne-eqb n 5 (λ e. omega (arith, e)))
 
-pub end-listed : (e : End) → Ending (endNumber e)
-end-listed End.Done = inl (omega arith)
-end-listed End.InvalidCode = inl (omega arith)
-end-listed End.UnexpectedEof = inl (omega arith)
-end-listed End.Overflow = inl (omega arith)
-end-listed End.NoEntry = inl (omega arith)
-end-listed End.NoRowEnd = inl (omega arith)
-end-listed End.Short = inr refl
+pub end-listed : (e : End) (c : Counts) → Ending (saidOf e c .number)
+end-listed (End.Done bytes) c = inl (omega arith)
+end-listed (End.InvalidCode place loose) c = inl (omega arith)
+end-listed (End.UnexpectedEof place loose) c = inl (omega arith)
+end-listed (End.Overflow place loose) c = inl (omega arith)
+end-listed (End.NoEntry loose) c = inl (omega arith)
+end-listed (End.NoRowEnd loose) c = inl (omega arith)
+end-listed End.Short c = inr refl
 
 -- ---- No two states stand for the same
 
@@ -255,14 +261,17 @@ black-back : (b : Bool) → isBlack (blackIf b) ≡ b
 black-back true = refl
 black-back false = refl
 
-end-back : (e : End) → endFrom (endNumber e) ≡ e
-end-back End.Done = refl
-end-back End.InvalidCode = refl
-end-back End.UnexpectedEof = refl
-end-back End.Overflow = refl
-end-back End.NoEntry = refl
-end-back End.NoRowEnd = refl
-end-back End.Short = refl
+abbrev endedFrom : Said → Reading
+endedFrom d = Ended (endFrom (d .number) (d .place) (d .bytes) (d .loose)) (record { rows = d .rows; entries = d .entries })
+
+end-back : (e : End) (c : Counts) → endedFrom (saidOf e c) ≡ Ended e c
+end-back (End.Done bytes) c = refl
+end-back (End.InvalidCode place loose) c = refl
+end-back (End.UnexpectedEof place loose) c = refl
+end-back (End.Overflow place loose) c = refl
+end-back (End.NoEntry loose) c = refl
+end-back (End.NoRowEnd loose) c = refl
+end-back End.Short c = refl
 
 pub same-reading : (s t : Reading) → readingOf s ≡ readingOf t → s ≡ t
 same-reading s t e = sym (back s) ∙ ap from e ∙ back t
@@ -285,7 +294,7 @@ same-reading s t e = sym (back s) ∙ ap from e ∙ back t
 
     from : Rule.Reading → Reading
     from (opened p) = Open (savedFrom p)
-    from (ended c) = Ended (endFrom (c .number)) (record { rows = c .rows; entries = c .entries; loose = c .loose; bytes = c .bytes; place = c .place })
+    from (ended d) = endedFrom d
 
     back : (s : Reading) → from (readingOf s) ≡ s
     back (Open s) = λ i. Open (record {
@@ -302,4 +311,4 @@ same-reading s t e = sym (back s) ∙ ap from e ∙ back t
       «mode_at» = s .«mode_at»;
       blank = s .blank;
     })
-    back (Ended e c) = λ i. Ended (end-back e i) c
+    back (Ended e c) = end-back e c

@@ -48,6 +48,7 @@ told-behind bytes width rows base k b xs es ms (more g) (More n s seen) t = reco
 told-behind bytes width rows base k b xs es ms (done a) (Done r) t = record {
   answer = t .answer ∙ (λ i. answerOf (says (a .number) (a .place) (a .bytes) (rows-are i) (entries-are i) (length (a .loose))));
   listed = t .listed;
+  allowed = t .allowed;
 }
   where
     rows-are : k .count + length (a .rows) ≡ rows + length (k .rows ++ a .rows)

@@ -22,6 +22,8 @@ use Rattle.error.specs.declared.Answer.{Answer}
 use Rattle.error.specs.Error as Error
 use Rattle.rows.specs.declared.DecodeSettings.{DecodeSettings}
 use Rattle.rows.specs.Settings.{settingsOf}
+use Rattle.ccitt.specs.Ends.{Allowed}
+use Rattle.ccitt.proofs.Ends.{short-allowed}
 use Rattle.by_unit.specs.declared.Saved.{Saved}
 use Rattle.by_unit.specs.declared.End.{End}
 use Rattle.by_unit.specs.declared.Counts.{Counts}
@@ -36,7 +38,7 @@ use Rattle.by_unit.specs.declared.take.Taken.{Taken}
 use Rattle.by_unit.specs.Standing.{Asked, answerOf, Comes}
 use Rattle.by_unit.specs.Taking.{TakeFrom, Takes}
 use Rattle.by_unit.specs.Reading.{savedOf, Ending, readingOf, TurnIs, ReadsUnits, TurnsOn, asReadFor, answerFor, stillFor, endedFor, unlessFew, looseFor, savedFor, turnOut, turnFor, keptBy, standBy, soundFor}
-use Rattle.by_unit.proofs.States.{sound-is, Good, good, stands-so, kept-in, stand-in, back-so, loose-so, end-number}
+use Rattle.by_unit.proofs.States.{sound-is, Good, good, stands-so, kept-in, stand-in, back-so, loose-so, end-held}
 
 -- a page that goes on
 abbrev stillOpen : Answer → ℕ → Saved → Turn
@@ -199,21 +201,21 @@ module _ (bytes : List ℕ) (settings : DecodeSettings) (xs es ms : List ℕ) wh
                     cases true = refl
                     cases false = refl
 
-                listed : (b : Bool) → Ending (cond b (says 14 0 0 (C .rows) (C .entries) (C .loose)) C .number)
-                listed true = inr refl
-                listed false = inl (c .told .listed)
+                -- an end that the state can hold
+                Held : Said → Type 0
+                Held d = Ending (d .number) × Allowed (d .number) (d .place) (d .bytes) (d .loose) × (d .mark ≡ 0)
 
-                plain-mark : (b : Bool) → cond b (says 14 0 0 (C .rows) (C .entries) (C .loose)) C .mark ≡ 0
-                plain-mark true = refl
-                plain-mark false = refl
+                held : (b : Bool) → tooFew S (C .number) (C .rows) ≡ b → Held (cond b (says 14 0 0 (C .rows) (C .entries) (C .loose)) C)
+                held true q = (inr refl, short-allowed S (C .number) (C .rows) (C .place) (C .bytes) (C .loose) q (c .told .allowed), refl)
+                held false q = (inl (c .told .listed), c .told .allowed, refl)
 
-                again : (d : Said) → Ending (d .number) → d .mark ≡ 0 → readingOf (endedFor (answerOf d) units .reading) ≡ ended d
-                again d h m = λ i. ended (record { number = end-number (d .number) h i; mark = sym m i; rows = d .rows; entries = d .entries; loose = d .loose; bytes = d .bytes; place = d .place })
+                again : (d : Said) → Held d → readingOf (endedFor (answerOf d) units .reading) ≡ ended d
+                again d h =
+                    ap ended (end-held (d .number) (d .place) (d .bytes) (d .loose) (record { rows = d .rows; entries = d .entries }) (h .0) (h .1))
+                    ∙ (λ i. ended (record { number = d .number; mark = sym (h .2) i; rows = d .rows; entries = d .entries; loose = d .loose; bytes = d .bytes; place = d .place }))
 
                 reading-so : readingOf (endedFor (unlessFew settings r) units .reading) ≡ ended (unlessFewer S C)
-                reading-so =
-                    ap (λ (x : Answer). readingOf (endedFor x units .reading)) said
-                    ∙ again (unlessFewer S C) (listed (tooFew S (C .number) (C .rows))) (plain-mark (tooFew S (C .number) (C .rows)))
+                reading-so = ap (λ (x : Answer). readingOf (endedFor x units .reading)) said ∙ again (unlessFewer S C) (held (tooFew S (C .number) (C .rows)) refl)
             told-so units ys fs ns (more g) (Done r) c = absurd (c .told)
             told-so units ys fs ns (done a) (More k at seen) c = absurd (c .told)
 

@@ -1,13 +1,14 @@
 -- One unit: an EOL, a mode code, or a code of a run, and what the code makes of the page behind it. Assumes nothing.
 use mathlib.Core.Path.{_≡_, refl, sym, ap, _∙_, subst}
+use mathlib.Core.Logic.{⊎-elim}
 use mathlib.Core.Bool.{Bool, true, false, cond, _&&_}
 use mathlib.Core.List.{List, [], _++_}
 use mathlib.Core.Option.{Option, some}
 use mathlib.Core.Option as Option
-use Prim.Native.Nat.{ℕ, _+_, _*_, _≤_, _<_}
+use Prim.Native.Nat.{ℕ, _+_, _-_, _*_, _≤_, _<_}
 use native.Mathlib.Numerals.{add-one}
 use native.Mathlib.Omega.{arith}
-use lib.Dec.{eqb}
+use lib.Dec.{eqb, leb}
 use lib.ListN.{length, take, drop, length-drop}
 use lib.Seq.{length-take-le}
 use borrow.Author.Tests.{eqb-true}
@@ -17,7 +18,7 @@ use Rattle.rules.specs.Bits.{bitsOf}
 use Rattle.rules.specs.Runs.{Res, ok, fault, Sum, sum, runStep}
 use Rattle.rules.specs.Modes.{Mode, pass, horizontal, VR, VL, Moded, moded, readMode}
 use Rattle.rules.specs.Lines as Lines
-use Rattle.rules.specs.Lines.{Rules, Went, went, failed, turned, movedTo, push, afterRun, rightOfA0, afterMode, code2D, two}
+use Rattle.rules.specs.Lines.{Rules, Went, went, failed, turned, movedTo, withCut, recorded, add, push, afterRun, rightOfA0, afterMode, code2D, two}
 use Rattle.rules.specs.Eols.{eolsTo}
 use Rattle.rules.specs.Rows.{Settings}
 use Rattle.rules.specs.Pages as Page
@@ -30,6 +31,7 @@ use Rattle.rules.proofs.Bits.{length-bitsOf}
 use Rattle.rules.proofs.Grows.{Grows, GrowsTo, grows-here, afterRun-grows, code2D-grows}
 use Rattle.rules.proofs.Lines.{Each, Pushes, PushFails, push-pushes, data-bound, Coded, code-coded}
 use Rattle.rules.proofs.Modes.{ModeAt, mode-at}
+use Rattle.rules.proofs.Places.{Placed, code-placed}
 use Rattle.rules.proofs.Runs.{run-cases}
 use Rattle.rules.proofs.Turns.{size-settle}
 use Rattle.tables.specs.Tables.{colourOf}
@@ -61,9 +63,36 @@ use Rattle.by_unit.specs.OneUnit.{rulesIn, eolUnitFor, AfterCodes, first
 use Rattle.by_unit.proofs.Leaves.{from-front, from-row, from-length, from-none, Behind, leaves-then}
 use Rattle.by_unit.proofs.Closing.{said-behind, none-behind, placed-ends, placed-marks, between-comes, sized, as-left, settles}
 
--- a line that goes on stands in the data, and one that fails does so with a number of the list
+-- a code fails with 1 to 4, and 4 names no place
+abbrev Failing : ℕ → ℕ → Type 0
+Failing n place = (1 ≤ n) × (n ≤ 4) × (3 < n → place ≡ 0)
+
+-- a line that goes on stands in the data, and one that fails does so as a code fails
 abbrev pub Fair : List Bool → Went → Type 0
-Fair bs w = Each (λ t. t .at ≤ length bs) (λ n t. n ≤ 5) w
+Fair bs (went t) = t .at ≤ length bs
+Fair bs (failed n place t) = Failing n place
+
+-- a count of pixels for which there is no entry names no place
+abbrev Late : Went → Type 0
+Late (went t) = Unit {0}
+Late (failed n place t) = 3 < n → place ≡ 0
+
+push-late : (R : Rules) (place count : ℕ) (s : Lines.Line) → Late (push R place count s)
+unfolding push add
+push-late R place count s = tests (leb count (R .width - s .position)) (R .strict)
+  where
+    adds : (count : ℕ) (s : Lines.Line) → Late (add R count s)
+    adds count s = cases (eqb count 0) (leb (length (recorded s)) (R .room))
+      where
+        cases : (b c : Bool) → Late (cond b (went s) (cond c (went (Lines.line (s .at) (s .position + count) (s .colour) (recorded s) (s .cut))) (failed 4 0 s)))
+        cases true c = tt
+        cases false true = tt
+        cases false false = λ h. refl
+
+    tests : (b c : Bool) → Late (cond b (add R count s) (cond c (failed 1 place s) (add R (R .width - s .position) (withCut s))))
+    tests true c = adds count s
+    tests false true = λ h. absurd (omega arith)
+    tests false false = adds (R .width - s .position) (withCut s)
 
 module _ (bytes : List ℕ) (settings : DecodeSettings) (asked : Asked bytes settings) where
   abbrev S : Settings
@@ -109,11 +138,19 @@ module _ (bytes : List ℕ) (settings : DecodeSettings) (asked : Asked bytes set
 
     -- ---- A page that fails behind the rows kept
 
-    pub fails : (n place : ℕ) (loose : List ℕ) (ys : List ℕ) → n ≤ 5 → ys ≡ overlaidFrom (k .base) loose xs → length ys ≡ length xs
+    pub fails : (n place : ℕ) (loose : List ℕ) (ys : List ℕ) → Failing n place → ys ≡ overlaidFrom (k .base) loose xs → length ys ≡ length xs
         → ComesTo (done (record { number = n; place = place; bytes = 0; rows = []; marks = []; loose = loose })) (doneFor n place 0 k (length loose)) ys es ms
     unfolding joined endsFrom
     fails n place loose ys h e long = record {
-      told = record { answer = said-behind bytes settings asked (k .rows) (k .base) K k n place 0 loose refl refl none; listed = h };
+      told = record {
+        answer = said-behind bytes settings asked (k .rows) (k .base) K k n place 0 loose refl refl none;
+        listed = omega (arith, h .1);
+        allowed = record {
+          no-bytes = λ z. refl;
+          no-place = ⊎-elim (λ z. absurd (omega (arith, h .0))) (h .2);
+          no-loose = ⊎-elim (λ z. absurd (omega (arith, h .0))) (λ z. absurd (omega (arith, h .1)));
+        };
+      };
       leaves = record {
         changes = e;
         ends = from-none (k .rows) es (placed-ends bytes settings asked xs es ms k kept);
@@ -262,15 +299,15 @@ module _ (bytes : List ℕ) (settings : DecodeSettings) (asked : Asked bytes set
         unfolding unit code2D
         mode-comes n step zs c ys e seen′ p r fs ns d =
             subst (λ (o : Rule.Out Going Page.Answer). ComesTo o r ys fs ns) (sym (mode-is (readMode bs at) refl n))
-            (code-comes at (code2D R reference bs (L at)) (code2D-grows R reference bs (L at)) (fair (code2D R reference bs (L at)) (code-coded R bs (length bs) (data-bound bs) 0 (two reference) (L at)))
+            (code-comes at (code2D R reference bs (L at)) (code2D-grows R reference bs (L at)) (fair (code2D R reference bs (L at)) (code-coded R bs (length bs) (data-bound bs) 0 (two reference) (L at)) (code-placed bs R (two reference) (L at) (omega (arith, line .inside, length-bitsOf bytes))))
             step (same .answer) ys (e ∙ ap (λ (l : List ℕ). take (k .base) xs ++ l) (same .store)) seen′ p r fs ns d)
           where
             same : Steps width row (code2D R reference bs (L at)) step zs
             same = subst (λ (v : Rules). Steps (v .width) row (code2D v reference bs (L at)) step zs) rules-same c
 
-            fair : (w : Went) → Coded R bs (length bs) (data-bound bs) 0 (L at) w → Fair bs w
-            fair (went t) c = c .1
-            fair (failed n p t) c = omega (arith, c .1)
+            fair : (w : Went) → Coded R bs (length bs) (data-bound bs) 0 (L at) w → Placed bs w → Fair bs w
+            fair (went t) c h = c .1
+            fair (failed n p t) c h = (c .0, c .1, h .later)
 
         -- horizontal mode has its runs to come
         pub runs-come : (next : ℕ) → RunsAt bytes at next → (seen′ : ℕ) → Passed (rightOfA0 (l .position)) seen′ reference
@@ -308,10 +345,10 @@ module _ (bytes : List ℕ) (settings : DecodeSettings) (asked : Asked bytes set
         abbrev Steady : Rule.Out Sum (Res Sum) → Type 0
         Steady (more s) = s .at ≤ length bs
         Steady (done (ok s)) = s .at ≤ length bs
-        Steady (done (fault n p)) = n ≤ 5
+        Steady (done (fault n p)) = Failing n p
 
         steady : Steady stepHere
-        steady = run-cases (colourOf (l .colour)) bs (sum at total) Steady (λ c t i. t .fits) (λ c t i. t .fits) (λ n i j. omega arith)
+        steady = run-cases (colourOf (l .colour)) bs (sum at total) Steady (λ c t i. t .fits) (λ c t i. t .fits) (λ n i j. (i, omega arith, λ h. absurd (omega arith)))
 
         pub run-fails : (n place : ℕ) → done (fault n place) ≡ stepHere → ComesTo unitHere (doneFor n place 0 k (l .changes)) xs es ms
         unfolding unit
@@ -363,11 +400,11 @@ module _ (bytes : List ℕ) (settings : DecodeSettings) (asked : Asked bytes set
           inside′ = subst Steady (sym e) steady
 
           pub fair : Fair bs W
-          fair = cases (push R from total′ (movedTo next (L from))) (push-pushes R (length bs) 0 from total′ (movedTo next (L from)))
+          fair = cases (push R from total′ (movedTo next (L from))) (push-pushes R (length bs) 0 from total′ (movedTo next (L from))) (push-late R from total′ (movedTo next (L from)))
             where
-              cases : (w : Went) → Each (Pushes R (length bs) 0 (movedTo next (L from))) (PushFails R (length bs) 0 (movedTo next (L from))) w → Fair bs (Lines.next w λ t. went (turned t))
-              cases (went t) p = omega (arith, p .0, inside′)
-              cases (failed n q t) p = omega (arith, p .1)
+              cases : (w : Went) → Each (Pushes R (length bs) 0 (movedTo next (L from))) (PushFails R (length bs) 0 (movedTo next (L from))) w → Late w → Fair bs (Lines.next w λ t. went (turned t))
+              cases (went t) p h = omega (arith, p .0, inside′)
+              cases (failed n q t) p h = (p .0, p .1, h)
 
           pub run-ends : AfterRuns bytes settings es ms k h l step seen r fs ns → ComesTo unitHere r ys fs ns
           unfolding unit
@@ -409,7 +446,7 @@ module _ (bytes : List ℕ) (settings : DecodeSettings) (asked : Asked bytes set
 
                   idle : eqb (t .position) (l .position) ≡ true → AfterCodes bytes settings es ms k (Step.Stop 1 l mode) seen r fs ns → ComesTo (afterCode S bs (length xs) places K (failed 1 mode (L from))) r ys fs ns
                   idle b d =
-                      code-comes from (failed 1 mode (L from)) (grows-here R (L from) from) (let z : 1 ≤ 5 = omega arith in z) (Step.Stop 1 l mode)
+                      code-comes from (failed 1 mode (L from)) (grows-here R (L from) from) (omega arith, omega arith, λ h. absurd (omega arith)) (Step.Stop 1 l mode)
                       (λ i. Step.Stop 1 (sym (ap (λ (n : ℕ). lineFor n (L from)) (sym (line .width-is)) ∙ line-for row l (line .holds) from) i) mode)
                       ys (u ∙ ap (λ (l : List ℕ). overlaidFrom (k .base) l xs) (g .still (eqb-true _ _ b))) seen (line .passed) r fs ns d
 

@@ -65,20 +65,18 @@ savedOf s = record {
 }
 
 -- the numbers with which a page ends, and no other can be repeated
-abbrev pub endNumber : End → ℕ
-endNumber End.Done = 0
-endNumber End.InvalidCode = 1
-endNumber End.UnexpectedEof = 2
-endNumber End.Overflow = 3
-endNumber End.NoEntry = 4
-endNumber End.NoRowEnd = 5
-endNumber End.Short = 14
-
 abbrev pub Ending : ℕ → Type 0
 Ending n = (n ≤ 5) ⊎ (n ≡ 14)
 
+-- number, place and bytes, rows, entries and loose entries: each number has those that 01 allows it, and the others are 0
 abbrev pub saidOf : End → Counts → Said
-saidOf e c = says (endNumber e) (c .place) (c .bytes) (c .rows) (c .entries) (c .loose)
+saidOf (End.Done bytes) c = says 0 0 bytes (c .rows) (c .entries) 0
+saidOf (End.InvalidCode place loose) c = says 1 place 0 (c .rows) (c .entries) loose
+saidOf (End.UnexpectedEof place loose) c = says 2 place 0 (c .rows) (c .entries) loose
+saidOf (End.Overflow place loose) c = says 3 place 0 (c .rows) (c .entries) loose
+saidOf (End.NoEntry loose) c = says 4 0 0 (c .rows) (c .entries) loose
+saidOf (End.NoRowEnd loose) c = says 5 0 0 (c .rows) (c .entries) loose
+saidOf End.Short c = says 14 0 0 (c .rows) (c .entries) 0
 
 abbrev pub readingOf : Reading → Rule.Reading
 readingOf (Open s) = opened (savedOf s)
@@ -118,10 +116,11 @@ asReadFor s = record {
   plain = s .plain;
 }
 
-abbrev pub endFrom : ℕ → End
-endFrom n =
-    cond (eqb n 0) End.Done
-    (cond (eqb n 1) End.InvalidCode (cond (eqb n 2) End.UnexpectedEof (cond (eqb n 3) End.Overflow (cond (eqb n 4) End.NoEntry (cond (eqb n 5) End.NoRowEnd End.Short)))))
+abbrev pub endFrom : ℕ → ℕ → ℕ → ℕ → End
+endFrom n place bytes loose =
+    cond (eqb n 0) (End.Done bytes)
+    (cond (eqb n 1) (End.InvalidCode place loose)
+    (cond (eqb n 2) (End.UnexpectedEof place loose) (cond (eqb n 3) (End.Overflow place loose) (cond (eqb n 4) (End.NoEntry loose) (cond (eqb n 5) (End.NoRowEnd loose) End.Short)))))
 
 abbrev pub answerFor : End → Counts → Answer
 answerFor e c = answerOf (saidOf e c)
@@ -133,7 +132,7 @@ abbrev pub endedFor : Answer → ℕ → Turn
 endedFor a units = record {
   answer = a;
   units = units;
-  reading = Ended (endFrom (a .number)) (record { rows = a .rows; entries = a .entries; loose = a .loose; bytes = a .bytes; place = a .place });
+  reading = Ended (endFrom (a .number) (a .place) (a .bytes) (a .loose)) (record { rows = a .rows; entries = a .entries });
 }
 
 -- "14 with bytes 0", where the page has too few rows (A12)

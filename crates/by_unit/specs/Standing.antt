@@ -28,6 +28,7 @@ use Rattle.context.specs.State.{lineAt, newFor, Holds}
 use Rattle.context.specs.Reference.{Passed}
 use Rattle.rows.specs.declared.DecodeSettings.{DecodeSettings}
 use Rattle.rows.specs.Settings.{settingsOf}
+use Rattle.ccitt.specs.Ends.{Allowed}
 use Rattle.by_unit.specs.declared.stand.Half.{Half}
 use Rattle.by_unit.specs.declared.stand.Half.the-variants.{First, Second}
 use Rattle.by_unit.specs.declared.stand.Stand.{Stand}
@@ -113,10 +114,11 @@ pub record Stands (bytes : List ℕ) (width rows base : ℕ) (xs es ms : List �
   pub stand : StandIn bytes width xs k seen s
   pub settled : Settled s
 
--- a page that has ended: 0 to 5
+-- a page that has ended: 0 to 5, with what 01 allows
 pub record EndsSo (rows base : ℕ) (a : Page.Answer) (r : Answer) : Type 0 where
   pub answer : r ≡ answerOf (saidBehind rows base a)
   pub listed : a .number ≤ 5
+  pub allowed : Allowed (a .number) (a .place) (a .bytes) (length (a .loose))
 
 abbrev pub Told : List ℕ → ℕ → ℕ → ℕ → List ℕ → List ℕ → List ℕ → Rule.Out Going Page.Answer → Out → Type 0
 Told bytes width rows base xs es ms (more g) (More k s seen) = Stands bytes width rows base xs es ms g k s seen

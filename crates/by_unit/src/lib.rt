@@ -11,8 +11,10 @@ use error::Answer;
 use rows::DecodeSettings;
 use rows::EncodingMode;
 ghost use mathlib.Core.Path.{_≡_};
+ghost use Rattle.rules.specs.InSteps.{says};
 ghost use Rattle.rules.specs.ByUnit.{opened, savedStart};
-ghost use Rattle.by_unit.specs.Reading.{readingOf, asReadFor, endFrom, endNumber, answerFor, stillFor, endedFor, turnFor, TurnsOn, ReadsUnits};
+ghost use Rattle.by_unit.specs.Standing.{answerOf};
+ghost use Rattle.by_unit.specs.Reading.{readingOf, asReadFor, endFrom, answerFor, stillFor, endedFor, turnFor, TurnsOn, ReadsUnits};
 
 // What comes next: an EOL or a line; a mode code; a code of a horizontal code's first run, or of its second.
 pub enum Phase {
@@ -40,24 +42,22 @@ pub struct Saved {
     pub blank: bool,
 }
 
-// How a page ended: with a number of the list, so that no other can be repeated: 0 to 5, and 14.
+// How a page ended: with a number of the list, 0 to 5 or 14, and with what that number may have beside it, so that no other end can be repeated:
+// 0 its bytes; 1, 2 and 3 the bit at fault and the loose entries; 4 and 5 the loose entries; 14 nothing.
 pub enum End {
-    Done,
-    InvalidCode,
-    UnexpectedEof,
-    Overflow,
-    NoEntry,
-    NoRowEnd,
+    Done(u64),
+    InvalidCode(u64, u64),
+    UnexpectedEof(u64, u64),
+    Overflow(u64, u64),
+    NoEntry(u64),
+    NoRowEnd(u64),
     Short,
 }
 
-// The other counts of its answer.
+// The rows kept, and the entries in them.
 pub struct Counts {
     pub rows: u64,
     pub entries: u64,
-    pub loose: u64,
-    pub bytes: u64,
-    pub place: u64,
 }
 
 // What a call hands back and the next one takes.
@@ -111,31 +111,31 @@ fn as_read(settings: DecodeSettings) -> DecodeSettings
     }
 }
 
-fn end_of(number: u32) -> End
-    ensures { λ r. ⌜ r ≡ endFrom number ⌝ }
+fn end_of(number: u32, place: u64, bytes: u64, loose: u64) -> End
+    ensures { λ r. ⌜ r ≡ endFrom number place bytes loose ⌝ }
 {
     match number {
-        0 => End::Done,
-        1 => End::InvalidCode,
-        2 => End::UnexpectedEof,
-        3 => End::Overflow,
-        4 => End::NoEntry,
-        5 => End::NoRowEnd,
+        0 => End::Done(bytes),
+        1 => End::InvalidCode(place, loose),
+        2 => End::UnexpectedEof(place, loose),
+        3 => End::Overflow(place, loose),
+        4 => End::NoEntry(loose),
+        5 => End::NoRowEnd(loose),
         _ => End::Short,
     }
 }
 
-fn number_of(end: End) -> u32
-    ensures { λ r. ⌜ r ≡ endNumber end ⌝ }
+fn counted(number: u32, place: u64, bytes: u64, loose: u64, counts: Counts) -> Answer
+    ensures { λ r. ⌜ r ≡ answerOf (says number place bytes (counts .rows) (counts .entries) loose) ⌝ }
 {
-    match end {
-        End::Done => 0,
-        End::InvalidCode => 1,
-        End::UnexpectedEof => 2,
-        End::Overflow => 3,
-        End::NoEntry => 4,
-        End::NoRowEnd => 5,
-        End::Short => 14,
+    Answer {
+        number,
+        mark: 0,
+        rows: counts.rows,
+        entries: counts.entries,
+        loose,
+        bytes,
+        place,
     }
 }
 
@@ -143,14 +143,14 @@ fn number_of(end: End) -> u32
 fn answer_of(end: End, counts: Counts) -> Answer
     ensures { λ r. ⌜ r ≡ answerFor end counts ⌝ }
 {
-    Answer {
-        number: number_of(end),
-        mark: 0,
-        rows: counts.rows,
-        entries: counts.entries,
-        loose: counts.loose,
-        bytes: counts.bytes,
-        place: counts.place,
+    match end {
+        End::Done(bytes) => counted(0, 0, bytes, 0, counts),
+        End::InvalidCode(place, loose) => counted(1, place, 0, loose, counts),
+        End::UnexpectedEof(place, loose) => counted(2, place, 0, loose, counts),
+        End::Overflow(place, loose) => counted(3, place, 0, loose, counts),
+        End::NoEntry(loose) => counted(4, 0, 0, loose, counts),
+        End::NoRowEnd(loose) => counted(5, 0, 0, loose, counts),
+        End::Short => counted(14, 0, 0, 0, counts),
     }
 }
 
@@ -167,13 +167,10 @@ fn still(answer: Answer, reading: Reading) -> Turn
 fn ended(answer: Answer, units: usize) -> Turn
     ensures { λ r. ⌜ r ≡ endedFor answer units ⌝ }
 {
-    let end = end_of(answer.number);
+    let end = end_of(answer.number, answer.place, answer.bytes, answer.loose);
     let counts = Counts {
         rows: answer.rows,
         entries: answer.entries,
-        loose: answer.loose,
-        bytes: answer.bytes,
-        place: answer.place,
     };
     Turn {
         answer,

@@ -1,10 +1,9 @@
 -- `by_row::next_row` meets its contract, by the laws of ByRow: `u` is the place behind the row, `e`, `t`, `g` and `s` are those behind the settings, the columns, the state's tests and the start.
 use mathlib.Core.Path.{refl, sym, _∙_}
-use mathlib.Core.Logic.{inl, inr}
 use denote.Ref.{now}
 use borrow.Author.Tests.{not-true, not-false}
 use borrow.Author.Needs.{needs}
-use Rattle.by_row.proofs.ByRow.{next-refused, next-none, held-length, next-asks, grows, few, next-given, next-short, next-ended}
+use Rattle.by_row.proofs.ByRow.{next-refused, next-none, held-length, next-asks, grows, next-ends, short-ends, next-given, next-short, next-ended}
 use Rattle.by_row.proofs.next_row.Statement.{statement}
 use Rattle.by_row.proofs.next_row.Tie as tie
 
@@ -74,7 +73,14 @@ is-short-requires : tie.Need-is-short-requires
 is-short-requires c κs = search needs
 
 ends-requires : tie.Need-ends-requires
-ends-requires c κs = inr refl
+ends-requires c κs =
+    let u = c .before .before .before .before .before .before .before in
+    let e = u .before .before .before in
+    let t = e .before .before .before .before .before .before .before in
+    let g = t .before .before in
+    let s = g .before .before .before .before .before in
+    short-ends (now (s .args .src)) (s .args .settings) (s .args .state) (now (s .args .reference)) (now (s .args .changes)) (s .pre) (sym (not-false _ (g .if1 .left)) ∙ g .before .is-sound .ensures) (t .if2 .left) _ _ (rw (e .strict-if-exact .ensures) at (u .row-under .ensures)) _ _ _ _ (c .before .before .before .number .given .1)
+    (sym (c .if3 .taken) ∙ c .before .is-short .ensures)
 
 same-length : tie.Need-same-length
 same-length c = search needs
@@ -96,7 +102,7 @@ ends-requires-2 c κs =
     let t = e .before .before .before .before .before .before .before in
     let g = t .before .before in
     let s = g .before .before .before .before .before in
-    inl (few (now (s .args .src)) (s .args .settings) (s .args .state) (now (s .args .reference)) (now (s .args .changes)) (s .pre) (sym (not-false _ (g .if1 .left)) ∙ g .before .is-sound .ensures) (t .if2 .left) _ _ (rw (e .strict-if-exact .ensures) at (u .row-under .ensures)) _ _ _ _ (c .before .before .before .number .given .1))
+    next-ends (now (s .args .src)) (s .args .settings) (s .args .state) (now (s .args .reference)) (now (s .args .changes)) (s .pre) (sym (not-false _ (g .if1 .left)) ∙ g .before .is-sound .ensures) (t .if2 .left) _ _ (rw (e .strict-if-exact .ensures) at (u .row-under .ensures)) _ _ _ _ (c .before .before .before .number .given .1)
 
 same-length-2 : tie.Need-same-length-2
 same-length-2 c = search needs

@@ -44,8 +44,8 @@ enum-known-end-5 c = search needs
 said-requires-5 : tie.Need-said-requires-5
 said-requires-5 c κs = search needs
 
-enum-known-end-6 : tie.Need-enum-known-end-6
-enum-known-end-6 c = search needs
+enum-told-2 : tie.Need-enum-told-2
+enum-told-2 c = search needs
 
 said-requires-6 : tie.Need-said-requires-6
 said-requires-6 c κs = search needs
@@ -75,7 +75,7 @@ returns-6 : tie.Need-returns-6
 returns-6 c = let s = c .before .before .before .before .before .before .before in rw (c .said5 .ensures) (repeats (now (s .args .src)) (s .args .settings) (s .args .state) (now (s .args .first)) (now (s .args .second)) 4 _ _ _ (inl (omega arith)) (ap endOf (c .before .before .end5 .given .1)))
 
 returns-7 : tie.Need-returns-7
-returns-7 c = let s = c .before .before .before .before .before .before .before in rw (c .said6 .ensures) (repeats (now (s .args .src)) (s .args .settings) (s .args .state) (now (s .args .first)) (now (s .args .second)) 14 _ _ _ (inr refl) (ap endOf (c .before .before .end6 .given .1)))
+returns-7 c = let s = c .before .before .before .before .before .before in rw (c .said6 .ensures) (repeats (now (s .args .src)) (s .args .settings) (s .args .state) (now (s .args .first)) (now (s .args .second)) 14 _ _ _ (inr refl) (ap endOf (c .before .enum-told2 .given .1)))
 
 pub read-row-spec : {M : Type 1} → statement M
 read-row-spec =
@@ -93,7 +93,7 @@ read-row-spec =
     said-requires-4
     enum-known-end-5
     said-requires-5
-    enum-known-end-6
+    enum-told-2
     said-requires-6
     same-length
     same-length-2

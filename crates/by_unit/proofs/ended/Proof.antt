@@ -9,7 +9,7 @@ end-of-requires c κs = search needs
 returns : tie.Need-returns
 returns c =
     let a = c .before .args .answer in
-    λ i. record { answer = a; units = c .before .args .units; reading = Ended (c .end-of .ensures i) (record { rows = a .rows; entries = a .entries; loose = a .loose; bytes = a .bytes; place = a .place }) }
+    λ i. record { answer = a; units = c .before .args .units; reading = Ended (c .end-of .ensures i) (record { rows = a .rows; entries = a .entries }) }
 
 pub ended-spec : {M : Type 1} → statement M
 ended-spec =
