@@ -69,7 +69,9 @@ ccitt_answer ccitt_read_line(const uint8_t *src, size_t src_len, uint64_t at, ui
            more changes than the array it goes to holds. The entries of an unfinished row, if any, are the first `loose` of CCITT_LOOSE(state, first, second).
            n rows take n + 1 calls. A call after the end answers the same again and writes nothing, whatever else it is lent.
            6 and 7 as of a page; 8 a state that no call left (another length, or numbers that no state has; a bit past the data, a count past its array or past
-           8 x bytes + 1), a reference that does not ascend strictly below the columns, or another encoding. These do not end the page and change nothing. */
+           8 x bytes + 1), a reference that does not ascend strictly below the columns, or another encoding. These do not end the page and change nothing.
+   The last four numbers of state are the page's end: 0, 0, 0 and 0 while it goes on; behind it one more than its number, then the place (0 but for 1, 2 and 3),
+   the bytes (0 but for 0) and the loose entries (0 for 0 and 14). An end with any other numbers is no state, and 8. */
 #define CCITT_ROW_STATE 10
 #define CCITT_ROW(state, first, second) ((state)[0] == 1 ? (first) : (second))
 #define CCITT_ROW_LENGTH(state) ((state)[1])
@@ -88,7 +90,11 @@ ccitt_answer ccitt_read_row(const uint8_t *src, size_t src_len, uint32_t columns
            answers the same again and writes nothing, whatever else it is lent.
            10 n is 0, before all else; 6 and 7 as of a page; 8 a state that no call left (another length, or numbers that no state has; a bit past the data, a
            position past the columns, a count past its array or past 8 x bytes + 1), or a last row or an unfinished one that does not ascend strictly below
-           the columns or the position. These do not end the page and change nothing. */
+           the columns or the position. These do not end the page and change nothing. Of the row ends, 8 looks at the last two alone, between which the last
+           row lies: to go over all of them at each call would stall the caller. So earlier ends that fall or pass the array are not found.
+   The last four numbers of state are 0 while the page goes on; behind its end they are one more than its number, its entries, its bytes (0 but for 0) and its
+   place (0 but for 1, 2 and 3), state[3] and state[6] are its rows and loose entries (no loose entries for 0 and 14), and all others are 0. An end with any
+   other numbers is no state, and 8. */
 #define CCITT_UNIT_STATE 16
 
 typedef struct {

@@ -34,6 +34,20 @@ pub fn encoding_number(encoding: Encoding) -> u32 {
     }
 }
 
+/// Ends that no page has: one more than a number of the list, and a place, bytes or loose entries that it never has.
+const ENDS: [[u64; STATE - END]; 10] = [
+    [1, 1, 0, 0],
+    [1, 0, 0, 1],
+    [2, 0, 1, 0],
+    [3, 1, 1, 1],
+    [4, 0, 1, 0],
+    [5, 1, 0, 0],
+    [5, 0, 1, 1],
+    [15, 1, 0, 0],
+    [15, 0, 1, 0],
+    [15, 0, 0, 1],
+];
+
 /// The row form, however it is reached.
 pub trait RowForm {
     fn read_row(&mut self, page: &Page, state: &mut [u64], first: &mut [u32], second: &mut [u32]) -> Answer;
@@ -240,7 +254,7 @@ impl Reading<'_> {
             (PLACE + 2, 1),
         ];
         let (mut state, mut lines, mut page) = (self.state.to_vec(), self.lines.clone(), *self.page);
-        match which % (numbers.len() + 4) {
+        match which % (4 + numbers.len() + ENDS.len()) {
             0 => state.push(0),
             1 => state.truncate(STATE - 1),
             2 => page.encoding = 3 + self.fill % 7,
@@ -249,10 +263,10 @@ impl Reading<'_> {
                 lines.words[last] = page.settings.columns;
             }
             3 => state.clear(),
-            index => {
-                let (place, number) = numbers[index - 4];
-                state[place] = number;
-            }
+            index => match numbers.get(index - 4) {
+                Some(&(place, number)) => state[place] = number,
+                None => state[END..].copy_from_slice(&ENDS[index - 4 - numbers.len()]),
+            },
         }
         let (before, lent) = (state.clone(), lines.clone());
         let answer = lines.call(self.form, &page, &mut state);

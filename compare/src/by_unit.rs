@@ -257,6 +257,36 @@ impl Reading<'_> {
 
     /// One of the states that no call leaves; it is 8, behind 6 and 7.
     fn forge(&mut self) -> Result<(), Complaint> {
+        let (mut state, mut held) = if self.random.below(4) == 0 { self.forged_end() } else { self.forged_state() };
+        let (before, lent) = (state.clone(), held.clone());
+        let turn = self.form.read_units(self.page, held.store(), &mut state, 1);
+        let same = turn == Turn { answer: Answer::bare(refusal(self.page)), units: 0 } && state == before && held == lent;
+        if same { Ok(()) } else { Err(Complaint::ForgedTaken) }
+    }
+
+    /// An end that no page has: one more than a number of the list, and a place, bytes or loose entries that it never has.
+    fn forged_end(&mut self) -> (Vec<u64>, Held) {
+        let [end, place, bytes, loose] = self.random.pick(&[
+            [1, 1, 0, 0],
+            [1, 0, 0, 1],
+            [2, 0, 1, 0],
+            [3, 1, 1, 1],
+            [4, 0, 1, 0],
+            [5, 1, 0, 0],
+            [5, 0, 1, 1],
+            [6, 1, 0, 0],
+            [6, 0, 1, 1],
+            [15, 1, 0, 0],
+            [15, 0, 1, 0],
+            [15, 0, 0, 1],
+        ]);
+        let mut state = vec![0; STATE];
+        (state[END], state[PLACE], state[BYTES], state[LOOSE]) = (end, place, bytes, loose);
+        (state, Held::of(&self.store))
+    }
+
+    /// A page that goes on, from a state with one number, or over arrays with one entry, that none has.
+    fn forged_state(&mut self) -> (Vec<u64>, Held) {
         let bits = 8 * self.page.src.len() as u64;
         let places = self.store.ends.len().min(self.store.marks.len()) as u64;
         let room = self.store.changes.len() as u64;
@@ -302,10 +332,7 @@ impl Reading<'_> {
                 state[place] = number;
             }
         }
-        let (before, lent) = (state.clone(), held.clone());
-        let turn = self.form.read_units(self.page, held.store(), &mut state, 1);
-        let same = turn == Turn { answer: Answer::bare(refusal(self.page)), units: 0 } && state == before && held == lent;
-        if same { Ok(()) } else { Err(Complaint::ForgedTaken) }
+        (state, held)
     }
 
     /// A state that no call leaves and that passes the tests: it is read on, and nothing is written but what it speaks of.

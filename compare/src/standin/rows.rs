@@ -31,8 +31,12 @@ impl RowForm for Rows<'_> {
 
 /// Whether the numbers are those of a state.
 fn is_state(state: &[u64]) -> bool {
-    let ends = |end| end == 0 && state[PLACE..] == [0; STATE - PLACE] || (1..=5).contains(&end) || end == 15;
-    state.len() == STATE && state[SIDE] <= 1 && state[EOLS] <= 1 && ends(state[END])
+    state.len() == STATE && state[SIDE] <= 1 && state[EOLS] <= 1 && is_end(&state[END..])
+}
+
+/// Whether an end's place, bytes and loose entries are such as its number has.
+fn is_end(end: &[u64]) -> bool {
+    matches!(end, [0 | 15, 0, 0, 0] | [1, 0, _, 0] | [2..=4, _, 0, _] | [5, 0, 0, _])
 }
 
 impl Rows<'_> {

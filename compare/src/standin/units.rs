@@ -49,8 +49,13 @@ fn is_open(state: &[u64]) -> bool {
 fn is_ended(state: &[u64]) -> bool {
     let zero = |place: &usize| state[*place] == 0;
     state.len() == STATE
-        && ((1..=6).contains(&state[END]) || state[END] == 15)
+        && is_end([state[END], state[PLACE], state[BYTES], state[LOOSE]])
         && [PHASE, AT, EOLS, POSITION, BLACK, CUT, RUN, RUN_AT, MODE_AT, BLANK].iter().all(zero)
+}
+
+/// Whether an end's place, bytes and loose entries are such as its number has.
+fn is_end(end: [u64; 4]) -> bool {
+    matches!(end, [1, 0, _, 0] | [2..=4, _, 0, _] | [5 | 6, 0, 0, _] | [15, 0, 0, 0])
 }
 
 impl Units<'_> {

@@ -1,5 +1,5 @@
 -- Laws of the numbers that C lends for the row form's state: which numbers a state has, that no two states have the same, and how a call comes out. Assumes nothing.
-use mathlib.Core.Path.{_≡_, refl, sym, ap, _∙_}
+use mathlib.Core.Path.{_≡_, refl, sym, ap, _∙_, subst}
 use mathlib.Core.Logic.{_⊎_, inl, inr}
 use mathlib.Core.Bool.{Bool, true, false, cond}
 use mathlib.Core.List.{List, [], _∷_, _++_, append-nil}
@@ -8,6 +8,7 @@ use native.Mathlib.Omega.{arith}
 use lib.Dec.{eqb}
 use lib.ListN.{length, getD, drop, drop-of-length-le}
 use lib.Seq.{drop-cons, sets, sets-eq}
+use borrow.Author.Tests.{ne-eqb}
 use Rattle.rules.specs.InSteps.{saysOnly}
 use Rattle.error.specs.declared.Answer.{Answer}
 use Rattle.rows.specs.declared.DecodeSettings.{DecodeSettings}
@@ -19,7 +20,7 @@ use Rattle.by_row.specs.declared.RowState.{RowState}
 use Rattle.by_row.specs.declared.RowStep.{RowStep}
 use Rattle.by_row.specs.ByRow.{answerOf, ReadsRow}
 use Rattle.exports.specs.declared.row_state.EndNumbers.{EndNumbers}
-use Rattle.exports.specs.RowState.{sideNumber, flagNumber, endedNumbers, endNumbers, numbersOf, unfit, Fits, ReadsRowForC}
+use Rattle.exports.specs.RowState.{sideNumber, flagNumber, endedNumbers, endNumbers, endFrom, numbersOf, Same, unfit, Fits, ReadsRowForC}
 
 -- ---- Ten numbers
 
@@ -78,50 +79,28 @@ has-state xs h f side s end e =
 
 -- ---- The end's numbers
 
--- each end has a number of its own
-module _ (number place bytes loose : ℕ) where
-  pub no-number : (number ≡ 0 → ⊥) → (number ≡ 1 → ⊥) → (number ≡ 2 → ⊥) → (number ≡ 3 → ⊥) → (number ≡ 4 → ⊥) → (number ≡ 5 → ⊥) → (number ≡ 15 → ⊥)
-      → (e : End) → endNumbers e ≡ endedNumbers number place bytes loose → ⊥
-  no-number h0 h1 h2 h3 h4 h5 h15 e q = cases e (sym (ap (λ (n : EndNumbers). n .number) q))
-    where
-      cases : (e : End) → number ≡ endNumbers e .number → ⊥
-      cases Unended z = h0 z
-      cases (Done p b l) z = h1 z
-      cases (InvalidCode p b l) z = h2 z
-      cases (UnexpectedEof p b l) z = h3 z
-      cases (Overflow p b l) z = h4 z
-      cases (NoRoom p b l) z = h5 z
-      cases (Short p b l) z = h15 z
-
--- the page goes on with zeros alone
-pub unended-zero : (place bytes loose : ℕ) (e : End) → endNumbers e ≡ endedNumbers 0 place bytes loose → (place ≡ 0) × (bytes ≡ 0) × (loose ≡ 0)
-unended-zero place bytes loose Unended q = (sym (ap (λ (n : EndNumbers). n .place) q), sym (ap (λ (n : EndNumbers). n .bytes) q), sym (ap (λ (n : EndNumbers). n .loose) q))
-unended-zero place bytes loose (Done p b l) q = absurd (omega (arith, ap (λ (n : EndNumbers). n .number) q))
-unended-zero place bytes loose (InvalidCode p b l) q = absurd (omega (arith, ap (λ (n : EndNumbers). n .number) q))
-unended-zero place bytes loose (UnexpectedEof p b l) q = absurd (omega (arith, ap (λ (n : EndNumbers). n .number) q))
-unended-zero place bytes loose (Overflow p b l) q = absurd (omega (arith, ap (λ (n : EndNumbers). n .number) q))
-unended-zero place bytes loose (NoRoom p b l) q = absurd (omega (arith, ap (λ (n : EndNumbers). n .number) q))
-unended-zero place bytes loose (Short p b l) q = absurd (omega (arith, ap (λ (n : EndNumbers). n .number) q))
-
--- ---- No two states have the same numbers
-
-abbrev endFrom : EndNumbers → End
-endFrom n =
-    cond (eqb (n .number) 0) Unended
-    (cond (eqb (n .number) 1) (Done (n .place) (n .bytes) (n .loose))
-    (cond (eqb (n .number) 2) (InvalidCode (n .place) (n .bytes) (n .loose))
-    (cond (eqb (n .number) 3) (UnexpectedEof (n .place) (n .bytes) (n .loose))
-    (cond (eqb (n .number) 4) (Overflow (n .place) (n .bytes) (n .loose))
-    (cond (eqb (n .number) 5) (NoRoom (n .place) (n .bytes) (n .loose)) (Short (n .place) (n .bytes) (n .loose)))))))
-
 end-back : (e : End) → endFrom (endNumbers e) ≡ e
 end-back Unended = refl
-end-back (Done place bytes loose) = refl
-end-back (InvalidCode place bytes loose) = refl
-end-back (UnexpectedEof place bytes loose) = refl
-end-back (Overflow place bytes loose) = refl
-end-back (NoRoom place bytes loose) = refl
-end-back (Short place bytes loose) = refl
+end-back (Done bytes) = refl
+end-back (InvalidCode place loose) = refl
+end-back (UnexpectedEof place loose) = refl
+end-back (Overflow place loose) = refl
+end-back (NoRoom loose) = refl
+end-back Short = refl
+
+pub end-other : (n : EndNumbers) → 5 < n .number → Short ≡ endFrom n
+end-other n h =
+    rw (ne-eqb (n .number) 0 (λ e. omega (arith, e)), ne-eqb (n .number) 1 (λ e. omega (arith, e)), ne-eqb (n .number) 2 (λ e. omega (arith, e)), ne-eqb (n .number) 3 (λ e. omega (arith, e)), ne-eqb (n .number) 4 (λ e. omega (arith, e)), ne-eqb (n .number) 5 (λ e. omega (arith, e)))
+
+-- numbers are an end's exactly if the end that they would be has them
+module _ (n own : EndNumbers) (end : End) (from : end ≡ endFrom n) (has : own ≡ endNumbers end) (same : Bool) (told : Same own n same) where
+  pub end-is : same ≡ true → endNumbers end ≡ n
+  end-is q = sym has ∙ subst (Same own n) q told
+
+  pub end-none : same ≡ false → (e : End) → endNumbers e ≡ n → ⊥
+  end-none q e f = subst (Same own n) q told (has ∙ ap endNumbers (from ∙ ap endFrom (sym f) ∙ end-back e) ∙ f)
+
+-- ---- No two states have the same numbers
 
 abbrev sideFrom : ℕ → Side
 sideFrom n = cond (eqb n 0) Second First

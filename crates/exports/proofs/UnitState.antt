@@ -7,7 +7,7 @@ use Prim.Native.Nat.{ℕ, zero, _≤_, _<_}
 use native.Mathlib.Omega.{arith}
 use lib.Dec.{eqb, leb}
 use lib.ListN.{length, getD}
-use borrow.Author.Tests.{eq-eqb, eqb-true, le-leb, leb-true}
+use borrow.Author.Tests.{eq-eqb, ne-eqb, eqb-true, le-leb, leb-true}
 use Rattle.rules.specs.InSteps.{saysOnly}
 use Rattle.rules.proofs.Bits.{both-true}
 use Rattle.rows.specs.declared.DecodeSettings.{DecodeSettings}
@@ -23,8 +23,10 @@ use Rattle.by_unit.specs.declared.Turn.{Turn}
 use Rattle.by_unit.specs.Standing.{answerOf}
 use Rattle.by_unit.specs.Reading.{ReadsUnits}
 use Rattle.exports.specs.declared.UnitAnswer.{UnitAnswer}
-use Rattle.exports.specs.RowState.{flagNumber}
-use Rattle.exports.specs.UnitState.{phaseNumber, endAfter, openNumbers, endedNumbers, numbersOf, Wordy, unfitFor, ReadsUnitsForC}
+use Rattle.exports.specs.declared.row_state.EndNumbers.{EndNumbers}
+use Rattle.exports.specs.RowState as Row
+use Rattle.exports.specs.RowState.{flagNumber, Same}
+use Rattle.exports.specs.UnitState.{phaseNumber, endNumbers, endFrom, openNumbers, endedNumbers, numbersOf, Wordy, unfitFor, ReadsUnitsForC}
 use Rattle.exports.proofs.RowState.{from-place, flag-few, flag-is}
 
 -- ---- Which numbers a reading has
@@ -35,7 +37,7 @@ phase-few Phase.Mode = omega arith
 phase-few Phase.First = omega arith
 phase-few Phase.Second = omega arith
 
-end-some : (e : End) → endAfter e ≡ 0 → ⊥
+end-some : (e : End) → endNumbers e .number ≡ 0 → ⊥
 end-some e z = omega (arith, z)
 
 and-true : {a b : Bool} → a ≡ true → b ≡ true → (a && b) ≡ true
@@ -126,14 +128,14 @@ module _ (xs : List ℕ) where
         let (h1, h2, h3, h4) = h e n in
         true≢false (sym (and-true (eq-eqb _ _ (sym (ap (λ (l : List ℕ). getD l a 0) q) ∙ h1)) (and-true (eq-eqb _ _ (sym (ap (λ (l : List ℕ). getD l b 0) q) ∙ h2)) (and-true (eq-eqb _ _ (sym (ap (λ (l : List ℕ). getD l c 0) q) ∙ h3)) (eq-eqb _ _ (sym (ap (λ (l : List ℕ). getD l d 0) q) ∙ h4))))) ∙ f)
 
-    pub ended-no-end : ((e : End) → endAfter e ≡ getD xs 12 0 → ⊥) → (r : Reading) → Wordy r → numbersOf r ≡ xs → ⊥
-    ended-no-end h = only-ended λ e n q. h e (ap (λ (l : List ℕ). getD l 12 0) q)
+    pub ended-no-end : ((e : End) → endNumbers e ≡ Row.endedNumbers (getD xs 12 0) (getD xs 15 0) (getD xs 14 0) (getD xs 6 0) → ⊥) → (r : Reading) → Wordy r → numbersOf r ≡ xs → ⊥
+    ended-no-end h = only-ended λ e n q. h e (ap (λ (l : List ℕ). Row.endedNumbers (getD l 12 0) (getD l 15 0) (getD l 14 0) (getD l 6 0)) q)
 
     module _ (long : length xs ≡ 16) (p : (eqb (getD xs 0 0) 0 && (eqb (getD xs 1 0) 0 && (eqb (getD xs 2 0) 0 && eqb (getD xs 4 0) 0))) ≡ true)
         (q : (eqb (getD xs 5 0) 0 && (eqb (getD xs 7 0) 0 && (eqb (getD xs 8 0) 0 && eqb (getD xs 9 0) 0))) ≡ true) (r : (eqb (getD xs 10 0) 0 && (eqb (getD xs 11 0) 0 && (eqb 0 0 && eqb 0 0))) ≡ true)
-        (e : End) (h : endAfter e ≡ getD xs 12 0) where
+        (e : End) (h : endNumbers e ≡ Row.endedNumbers (getD xs 12 0) (getD xs 15 0) (getD xs 14 0) (getD xs 6 0)) where
       abbrev counted : Counts
-      counted = record { rows = getD xs 3 0; entries = getD xs 13 0; loose = getD xs 6 0; bytes = getD xs 14 0; place = getD xs 15 0 }
+      counted = record { rows = getD xs 3 0; entries = getD xs 13 0 }
 
       pub ended-is : Wordy (Ended e counted) × (numbersOf (Ended e counted) ≡ xs)
       ended-is =
@@ -146,30 +148,37 @@ module _ (xs : List ℕ) where
           let (r1, r2) = both-true (eqb (getD xs 10 0) 0) _ r in
           let (r3, r4) = both-true (eqb (getD xs 11 0) 0) _ r2 in (
             tt,
-            (λ i. sym (eqb-true (getD xs 0 0) 0 p1) i ∷ sym (eqb-true (getD xs 1 0) 0 p3) i ∷ sym (eqb-true (getD xs 2 0) 0 p5) i ∷ getD xs 3 0 ∷ sym (eqb-true (getD xs 4 0) 0 p6) i ∷ sym (eqb-true (getD xs 5 0) 0 q1) i ∷ getD xs 6 0 ∷ sym (eqb-true (getD xs 7 0) 0 q3) i ∷ sym (eqb-true (getD xs 8 0) 0 q5) i ∷ sym (eqb-true (getD xs 9 0) 0 q6) i
-                ∷ sym (eqb-true (getD xs 10 0) 0 r1) i ∷ sym (eqb-true (getD xs 11 0) 0 r3) i ∷ h i ∷ getD xs 13 0 ∷ getD xs 14 0 ∷ getD xs 15 0 ∷ [])
+            (λ i. sym (eqb-true (getD xs 0 0) 0 p1) i ∷ sym (eqb-true (getD xs 1 0) 0 p3) i ∷ sym (eqb-true (getD xs 2 0) 0 p5) i ∷ getD xs 3 0 ∷ sym (eqb-true (getD xs 4 0) 0 p6) i ∷ sym (eqb-true (getD xs 5 0) 0 q1) i ∷ h i .loose ∷ sym (eqb-true (getD xs 7 0) 0 q3) i ∷ sym (eqb-true (getD xs 8 0) 0 q5) i ∷ sym (eqb-true (getD xs 9 0) 0 q6) i
+                ∷ sym (eqb-true (getD xs 10 0) 0 r1) i ∷ sym (eqb-true (getD xs 11 0) 0 r3) i ∷ h i .number ∷ getD xs 13 0 ∷ h i .bytes ∷ h i .place ∷ [])
                 ∙ sym (from-place xs 0 16 long),
           )
 
--- the end's number
-pub no-end : (n : ℕ) → (n ≡ 1 → ⊥) → (n ≡ 2 → ⊥) → (n ≡ 3 → ⊥) → (n ≡ 4 → ⊥) → (n ≡ 5 → ⊥) → (n ≡ 6 → ⊥) → (n ≡ 15 → ⊥) → (e : End) → endAfter e ≡ n → ⊥
-no-end n h1 h2 h3 h4 h5 h6 h15 End.Done e = h1 (sym e)
-no-end n h1 h2 h3 h4 h5 h6 h15 End.InvalidCode e = h2 (sym e)
-no-end n h1 h2 h3 h4 h5 h6 h15 End.UnexpectedEof e = h3 (sym e)
-no-end n h1 h2 h3 h4 h5 h6 h15 End.Overflow e = h4 (sym e)
-no-end n h1 h2 h3 h4 h5 h6 h15 End.NoEntry e = h5 (sym e)
-no-end n h1 h2 h3 h4 h5 h6 h15 End.NoRowEnd e = h6 (sym e)
-no-end n h1 h2 h3 h4 h5 h6 h15 End.Short e = h15 (sym e)
+-- ---- The end's numbers
+
+end-back : (e : End) → endFrom (endNumbers e) ≡ e
+end-back (End.Done bytes) = refl
+end-back (End.InvalidCode place loose) = refl
+end-back (End.UnexpectedEof place loose) = refl
+end-back (End.Overflow place loose) = refl
+end-back (End.NoEntry loose) = refl
+end-back (End.NoRowEnd loose) = refl
+end-back End.Short = refl
+
+pub end-other : (n : EndNumbers) → (n .number ≡ 1 → ⊥) → (n .number ≡ 2 → ⊥) → (n .number ≡ 3 → ⊥) → (n .number ≡ 4 → ⊥) → (n .number ≡ 5 → ⊥) → (n .number ≡ 6 → ⊥) → End.Short ≡ endFrom n
+end-other n h1 h2 h3 h4 h5 h6 = rw (ne-eqb (n .number) 1 h1, ne-eqb (n .number) 2 h2, ne-eqb (n .number) 3 h3, ne-eqb (n .number) 4 h4, ne-eqb (n .number) 5 h5, ne-eqb (n .number) 6 h6)
+
+-- numbers are an end's exactly if the end that they would be has them
+module _ (n own : EndNumbers) (end : End) (from : end ≡ endFrom n) (has : own ≡ endNumbers end) (same : Bool) (told : Same own n same) where
+  pub end-is : same ≡ true → endNumbers end ≡ n
+  end-is q = sym has ∙ subst (Same own n) q told
+
+  pub end-none : same ≡ false → (e : End) → endNumbers e ≡ n → ⊥
+  end-none q e f = subst (Same own n) q told (has ∙ ap endNumbers (from ∙ ap endFrom (sym f) ∙ end-back e) ∙ f)
 
 -- ---- No two readings have the same numbers
 
 abbrev phaseFrom : ℕ → Phase
 phaseFrom n = cond (eqb n 0) Phase.Eols (cond (eqb n 1) Phase.Mode (cond (eqb n 2) Phase.First Phase.Second))
-
-abbrev endFrom : ℕ → End
-endFrom n =
-    cond (eqb n 1) End.Done
-    (cond (eqb n 2) End.InvalidCode (cond (eqb n 3) End.UnexpectedEof (cond (eqb n 4) End.Overflow (cond (eqb n 5) End.NoEntry (cond (eqb n 6) End.NoRowEnd End.Short)))))
 
 phase-back : (p : Phase) → phaseFrom (phaseNumber p) ≡ p
 phase-back Phase.Eols = refl
@@ -180,15 +189,6 @@ phase-back Phase.Second = refl
 flag-back : (b : Bool) → eqb (flagNumber b) 1 ≡ b
 flag-back true = refl
 flag-back false = refl
-
-end-back : (e : End) → endFrom (endAfter e) ≡ e
-end-back End.Done = refl
-end-back End.InvalidCode = refl
-end-back End.UnexpectedEof = refl
-end-back End.Overflow = refl
-end-back End.NoEntry = refl
-end-back End.NoRowEnd = refl
-end-back End.Short = refl
 
 pub same-numbers : (r s : Reading) → numbersOf r ≡ numbersOf s → r ≡ s
 same-numbers r s e = sym (back r) ∙ ap from e ∙ back s
@@ -210,7 +210,7 @@ same-numbers r s e = sym (back r) ∙ ap from e ∙ back s
           «mode_at» = getD l 10 0;
           blank = eqb (getD l 11 0) 1;
         }))
-        (Ended (endFrom (getD l 12 0)) (record { rows = getD l 3 0; entries = getD l 13 0; loose = getD l 6 0; bytes = getD l 14 0; place = getD l 15 0 }))
+        (Ended (endFrom (Row.endedNumbers (getD l 12 0) (getD l 15 0) (getD l 14 0) (getD l 6 0))) (record { rows = getD l 3 0; entries = getD l 13 0 }))
 
     back : (r : Reading) → from (numbersOf r) ≡ r
     back (Open s) = λ i. Open (record {
@@ -230,12 +230,12 @@ same-numbers r s e = sym (back r) ∙ ap from e ∙ back s
     back (Ended e c) = ends e
       where
         ends : (e : End) → from (endedNumbers e c) ≡ Ended e c
-        ends End.Done = refl
-        ends End.InvalidCode = refl
-        ends End.UnexpectedEof = refl
-        ends End.Overflow = refl
-        ends End.NoEntry = refl
-        ends End.NoRowEnd = refl
+        ends (End.Done bytes) = refl
+        ends (End.InvalidCode place loose) = refl
+        ends (End.UnexpectedEof place loose) = refl
+        ends (End.Overflow place loose) = refl
+        ends (End.NoEntry loose) = refl
+        ends (End.NoRowEnd loose) = refl
         ends End.Short = refl
 
 -- ---- A call

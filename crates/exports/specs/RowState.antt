@@ -40,22 +40,35 @@ flagNumber false = 0
 abbrev pub endedNumbers : ℕ → ℕ → ℕ → ℕ → EndNumbers
 endedNumbers number place bytes loose = record { number = number; place = place; bytes = bytes; loose = loose }
 
--- 0 while the page goes on, and else one more than the number that it ended with
+-- 0 while the page goes on, and else one more than the number that it ended with; its place, bytes and loose entries, which are 0 where 01 allows that number none
 abbrev pub endNumbers : End → EndNumbers
 endNumbers Unended = endedNumbers 0 0 0 0
-endNumbers (Done place bytes loose) = endedNumbers 1 place bytes loose
-endNumbers (InvalidCode place bytes loose) = endedNumbers 2 place bytes loose
-endNumbers (UnexpectedEof place bytes loose) = endedNumbers 3 place bytes loose
-endNumbers (Overflow place bytes loose) = endedNumbers 4 place bytes loose
-endNumbers (NoRoom place bytes loose) = endedNumbers 5 place bytes loose
-endNumbers (Short place bytes loose) = endedNumbers 15 place bytes loose
+endNumbers (Done bytes) = endedNumbers 1 0 bytes 0
+endNumbers (InvalidCode place loose) = endedNumbers 2 place 0 loose
+endNumbers (UnexpectedEof place loose) = endedNumbers 3 place 0 loose
+endNumbers (Overflow place loose) = endedNumbers 4 place 0 loose
+endNumbers (NoRoom loose) = endedNumbers 5 0 0 loose
+endNumbers Short = endedNumbers 15 0 0 0
+
+-- the end that numbers would be, if they are some end's
+abbrev pub endFrom : EndNumbers → End
+endFrom n =
+    cond (eqb (n .number) 0) Unended
+    (cond (eqb (n .number) 1) (Done (n .bytes))
+    (cond (eqb (n .number) 2) (InvalidCode (n .place) (n .loose))
+    (cond (eqb (n .number) 3) (UnexpectedEof (n .place) (n .loose)) (cond (eqb (n .number) 4) (Overflow (n .place) (n .loose)) (cond (eqb (n .number) 5) (NoRoom (n .loose)) Short)))))
 
 abbrev pub numbersOf : RowState → List ℕ
 numbersOf st =
     sideNumber (st .side) ∷ st .held ∷ st .at ∷ st .rows ∷ st .entries ∷ flagNumber (st .eols)
     ∷ endNumbers (st .end) .number ∷ endNumbers (st .end) .place ∷ endNumbers (st .end) .bytes ∷ endNumbers (st .end) .loose ∷ []
 
--- numbers are told to be those of a state, or those that none has
+abbrev pub Same : EndNumbers → EndNumbers → Bool → Type 0
+Same m n true = m ≡ n
+Same m n false = m ≡ n → ⊥
+
+-- Numbers are told to be those of a state, or those that none has. So an end that no page has is none: a number off the list, or one with a count that 01 never
+-- gives it, as 0 with a place or 1 with bytes.
 abbrev pub EndTold : ℕ → ℕ → ℕ → ℕ → EndIn → Type 0
 EndTold number place bytes loose (EndIn.End e) = endNumbers e ≡ endedNumbers number place bytes loose
 EndTold number place bytes loose EndIn.NoEnd = (e : End) → endNumbers e ≡ endedNumbers number place bytes loose → ⊥

@@ -5,7 +5,7 @@ use by_row::Side;
 ghost use mathlib.Core.Path.{_≡_};
 ghost use Prim.Native.Nat.{_≤_};
 ghost use lib.ListN.{length};
-ghost use Rattle.exports.specs.RowState.{sideNumber, flagNumber, endedNumbers, endNumbers, numbersOf, EndTold, StateTold};
+ghost use Rattle.exports.specs.RowState.{sideNumber, flagNumber, endedNumbers, endNumbers, endFrom, numbersOf, Same, EndTold, StateTold};
 
 enum EndIn {
     End(End),
@@ -18,38 +18,82 @@ pub(crate) enum StateIn {
     NoState,
 }
 
-fn unended(place: u64, bytes: u64, loose: u64) -> EndIn
-    ensures { λ r. ⌜ EndTold 0 place bytes loose r ⌝ }
-{
-    if place != 0 {
-        return EndIn::NoEnd;
-    }
-    if bytes != 0 {
-        return EndIn::NoEnd;
-    }
-    if loose != 0 {
-        return EndIn::NoEnd;
-    }
-    EndIn::End(End::Unended)
+// An end's numbers: 0 while the page goes on, and else one more than the number it ended with; its place, bytes and loose entries.
+pub(crate) struct EndNumbers {
+    pub number: u64,
+    pub place: u64,
+    pub bytes: u64,
+    pub loose: u64,
 }
 
-// 0 while the page goes on, and else one more than the number it ended with.
+pub(crate) fn ended(number: u64, place: u64, bytes: u64, loose: u64) -> EndNumbers
+    ensures { λ r. ⌜ r ≡ endedNumbers number place bytes loose ⌝ }
+{
+    EndNumbers {
+        number,
+        place,
+        bytes,
+        loose,
+    }
+}
+
+pub(crate) fn are_same(own: EndNumbers, number: u64, place: u64, bytes: u64, loose: u64) -> bool
+    ensures { λ r. ⌜ Same own (endedNumbers number place bytes loose) r ⌝ }
+{
+    if own.number != number {
+        return false;
+    }
+    if own.place != place {
+        return false;
+    }
+    if own.bytes != bytes {
+        return false;
+    }
+    if own.loose != loose {
+        return false;
+    }
+    true
+}
+
+fn end_numbers(end: End) -> EndNumbers
+    ensures { λ r. ⌜ r ≡ endNumbers end ⌝ }
+{
+    match end {
+        End::Unended => ended(0, 0, 0, 0),
+        End::Done(bytes) => ended(1, 0, bytes as u64, 0),
+        End::InvalidCode(place, loose) => ended(2, place as u64, 0, loose as u64),
+        End::UnexpectedEof(place, loose) => ended(3, place as u64, 0, loose as u64),
+        End::Overflow(place, loose) => ended(4, place as u64, 0, loose as u64),
+        End::NoRoom(loose) => ended(5, 0, 0, loose as u64),
+        End::Short => ended(15, 0, 0, 0),
+    }
+}
+
+// The end that numbers would be.
+fn end_from(number: u64, place: u64, bytes: u64, loose: u64) -> End
+    ensures { λ r. ⌜ r ≡ endFrom (endedNumbers number place bytes loose) ⌝ }
+{
+    match number {
+        0 => End::Unended,
+        1 => End::Done(bytes as usize),
+        2 => End::InvalidCode(place as usize, loose as usize),
+        3 => End::UnexpectedEof(place as usize, loose as usize),
+        4 => End::Overflow(place as usize, loose as usize),
+        5 => End::NoRoom(loose as usize),
+        _ => End::Short,
+    }
+}
+
+// They are an end's if that end has them: a number off the list, or one with a count that it never has, is none.
 fn end_in(number: u64, place: u64, bytes: u64, loose: u64) -> EndIn
     ensures { λ r. ⌜ EndTold number place bytes loose r ⌝ }
 {
-    let fault = place as usize;
-    let taken = bytes as usize;
-    let behind = loose as usize;
-    match number {
-        0 => unended(place, bytes, loose),
-        1 => EndIn::End(End::Done(fault, taken, behind)),
-        2 => EndIn::End(End::InvalidCode(fault, taken, behind)),
-        3 => EndIn::End(End::UnexpectedEof(fault, taken, behind)),
-        4 => EndIn::End(End::Overflow(fault, taken, behind)),
-        5 => EndIn::End(End::NoRoom(fault, taken, behind)),
-        15 => EndIn::End(End::Short(fault, taken, behind)),
-        _ => EndIn::NoEnd,
+    let end = end_from(number, place, bytes, loose);
+    let own = end_numbers(end);
+    if !are_same(own, number, place, bytes, loose) {
+        return EndIn::NoEnd;
     }
+    EndIn::End(end)
 }
 
 fn side_in(number: u64) -> Side
@@ -101,38 +145,6 @@ fn flag_number(flag: bool) -> u64
     ensures { λ r. ⌜ r ≡ flagNumber flag ⌝ }
 {
     if flag { 1 } else { 0 }
-}
-
-struct EndNumbers {
-    number: u64,
-    place: u64,
-    bytes: u64,
-    loose: u64,
-}
-
-fn ended(number: u64, place: usize, bytes: usize, loose: usize) -> EndNumbers
-    ensures { λ r. ⌜ r ≡ endedNumbers number place bytes loose ⌝ }
-{
-    EndNumbers {
-        number,
-        place: place as u64,
-        bytes: bytes as u64,
-        loose: loose as u64,
-    }
-}
-
-fn end_numbers(end: End) -> EndNumbers
-    ensures { λ r. ⌜ r ≡ endNumbers end ⌝ }
-{
-    match end {
-        End::Unended => ended(0, 0, 0, 0),
-        End::Done(place, bytes, loose) => ended(1, place, bytes, loose),
-        End::InvalidCode(place, bytes, loose) => ended(2, place, bytes, loose),
-        End::UnexpectedEof(place, bytes, loose) => ended(3, place, bytes, loose),
-        End::Overflow(place, bytes, loose) => ended(4, place, bytes, loose),
-        End::NoRoom(place, bytes, loose) => ended(5, place, bytes, loose),
-        End::Short(place, bytes, loose) => ended(15, place, bytes, loose),
-    }
 }
 
 pub(crate) fn put(state: &mut [u64], left: RowState)

@@ -1,4 +1,6 @@
 // The unit form's state in sixteen lent numbers, all of them zero at a page's start.
+use crate::row_state;
+use crate::row_state::EndNumbers;
 use by_unit::Counts;
 use by_unit::End;
 use by_unit::Phase;
@@ -9,8 +11,9 @@ ghost use mathlib.Core.Bool.{_&&_};
 ghost use Prim.Native.Nat.{_≤_};
 ghost use lib.Dec.{eqb, leb};
 ghost use lib.ListN.{length, getD};
+ghost use Rattle.exports.specs.RowState as Row;
 ghost use Rattle.exports.specs.RowState.{flagNumber};
-ghost use Rattle.exports.specs.UnitState.{phaseNumber, endAfter, openNumbers, endedNumbers, numbersOf, EndTold, ReadingTold};
+ghost use Rattle.exports.specs.UnitState.{phaseNumber, endNumbers, endFrom, openNumbers, endedNumbers, numbersOf, EndTold, ReadingTold};
 
 // The reading that numbers are, or that none has them.
 pub(crate) enum ReadingIn {
@@ -105,20 +108,45 @@ enum EndIn {
     NoEnd,
 }
 
-// One more than the number that the page ended with.
-fn end_in(number: u64) -> EndIn
-    ensures { λ r. ⌜ EndTold number r ⌝ }
+fn end_numbers(end: End) -> EndNumbers
+    ensures { λ r. ⌜ r ≡ endNumbers end ⌝ }
+{
+    match end {
+        End::Done(bytes) => row_state::ended(1, 0, bytes, 0),
+        End::InvalidCode(place, loose) => row_state::ended(2, place, 0, loose),
+        End::UnexpectedEof(place, loose) => row_state::ended(3, place, 0, loose),
+        End::Overflow(place, loose) => row_state::ended(4, place, 0, loose),
+        End::NoEntry(loose) => row_state::ended(5, 0, 0, loose),
+        End::NoRowEnd(loose) => row_state::ended(6, 0, 0, loose),
+        End::Short => row_state::ended(15, 0, 0, 0),
+    }
+}
+
+// The end that numbers would be.
+fn end_from(number: u64, place: u64, bytes: u64, loose: u64) -> End
+    ensures { λ r. ⌜ r ≡ endFrom (Row.endedNumbers number place bytes loose) ⌝ }
 {
     match number {
-        1 => EndIn::End(End::Done),
-        2 => EndIn::End(End::InvalidCode),
-        3 => EndIn::End(End::UnexpectedEof),
-        4 => EndIn::End(End::Overflow),
-        5 => EndIn::End(End::NoEntry),
-        6 => EndIn::End(End::NoRowEnd),
-        15 => EndIn::End(End::Short),
-        _ => EndIn::NoEnd,
+        1 => End::Done(bytes),
+        2 => End::InvalidCode(place, loose),
+        3 => End::UnexpectedEof(place, loose),
+        4 => End::Overflow(place, loose),
+        5 => End::NoEntry(loose),
+        6 => End::NoRowEnd(loose),
+        _ => End::Short,
     }
+}
+
+// They are an end's if that end has them: a number off the list, or one with a count that it never has, is none.
+fn end_in(number: u64, place: u64, bytes: u64, loose: u64) -> EndIn
+    ensures { λ r. ⌜ EndTold number place bytes loose r ⌝ }
+{
+    let end = end_from(number, place, bytes, loose);
+    let own = end_numbers(end);
+    if !row_state::are_same(own, number, place, bytes, loose) {
+        return EndIn::NoEnd;
+    }
+    EndIn::End(end)
 }
 
 // An ended page's: what is open about one is zero.
@@ -135,15 +163,12 @@ fn ended_in(state: &[u64]) -> ReadingIn
     if !zeros(state[10], state[11], 0, 0) {
         return ReadingIn::NoReading;
     }
-    match end_in(state[12]) {
+    match end_in(state[12], state[15], state[14], state[6]) {
         EndIn::NoEnd => ReadingIn::NoReading,
         EndIn::End(end) => {
             let counts = Counts {
                 rows: state[3],
                 entries: state[13],
-                loose: state[6],
-                bytes: state[14],
-                place: state[15],
             };
             ReadingIn::Held(Reading::Ended(end, counts))
         }
@@ -170,20 +195,6 @@ fn phase_number(phase: Phase) -> u64
         Phase::Mode => 1,
         Phase::First => 2,
         Phase::Second => 3,
-    }
-}
-
-fn end_number(end: End) -> u64
-    ensures { λ r. ⌜ r ≡ endAfter end ⌝ }
-{
-    match end {
-        End::Done => 1,
-        End::InvalidCode => 2,
-        End::UnexpectedEof => 3,
-        End::Overflow => 4,
-        End::NoEntry => 5,
-        End::NoRowEnd => 6,
-        End::Short => 15,
     }
 }
 
@@ -220,22 +231,23 @@ fn put_ended(state: &mut [u64], end: End, counts: Counts)
     requires { ⌜ length (now state) ≡ 16 ⌝ }
     ensures { λ r. ⌜ now (state .exit) ≡ endedNumbers end counts ⌝ }
 {
+    let last = end_numbers(end);
     state[0] = 0;
     state[1] = 0;
     state[2] = 0;
     state[3] = counts.rows;
     state[4] = 0;
     state[5] = 0;
-    state[6] = counts.loose;
+    state[6] = last.loose;
     state[7] = 0;
     state[8] = 0;
     state[9] = 0;
     state[10] = 0;
     state[11] = 0;
-    state[12] = end_number(end);
+    state[12] = last.number;
     state[13] = counts.entries;
-    state[14] = counts.bytes;
-    state[15] = counts.place;
+    state[14] = last.bytes;
+    state[15] = last.place;
 }
 
 pub(crate) fn put(state: &mut [u64], reading: Reading)

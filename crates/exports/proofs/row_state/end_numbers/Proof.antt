@@ -40,8 +40,8 @@ enum-known-end-5 c = search needs
 ended-requires-6 : tie.Need-ended-requires-6
 ended-requires-6 c κs = search needs
 
-enum-known-end-6 : tie.Need-enum-known-end-6
-enum-known-end-6 c = search needs
+enum-told-2 : tie.Need-enum-told-2
+enum-told-2 c = search needs
 
 ended-requires-7 : tie.Need-ended-requires-7
 ended-requires-7 c κs = search needs
@@ -65,7 +65,7 @@ returns-6 : tie.Need-returns-6
 returns-6 c = c .ended6 .ensures ∙ sym (ap endNumbers (c .before .before .end5 .given .1))
 
 returns-7 : tie.Need-returns-7
-returns-7 c = c .ended7 .ensures ∙ sym (ap endNumbers (c .before .before .end6 .given .1))
+returns-7 c = c .ended7 .ensures ∙ sym (ap endNumbers (c .before .enum-told2 .given .1))
 
 pub end-numbers-spec : {M : Type 1} → statement M
 end-numbers-spec =
@@ -83,7 +83,7 @@ end-numbers-spec =
     ended-requires-5
     enum-known-end-5
     ended-requires-6
-    enum-known-end-6
+    enum-told-2
     ended-requires-7
     returns
     returns-2

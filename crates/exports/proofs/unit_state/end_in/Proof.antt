@@ -1,34 +1,28 @@
--- `exports::unit_state::end_in` meets its contract: each end has a number of its own. Assumes nothing.
-use Rattle.exports.proofs.UnitState.{no-end}
+-- `exports::unit_state::end_in` meets its contract: numbers are an end's exactly if the end that they would be has them. Assumes nothing.
+use borrow.Author.Tests.{not-true, not-false}
 use borrow.Author.Needs.{needs}
+use Rattle.exports.proofs.UnitState.{end-is, end-none}
 use Rattle.exports.proofs.unit_state.end_in.Statement.{statement}
 use Rattle.exports.proofs.unit_state.end_in.Tie as tie
 
+end-from-requires : tie.Need-end-from-requires
+end-from-requires c κs = search needs
+
+end-numbers-requires : tie.Need-end-numbers-requires
+end-numbers-requires c κs = search needs
+
+are-same-requires : tie.Need-are-same-requires
+are-same-requires c κs = search needs
+
 returns : tie.Need-returns
-returns c = search needs
+returns c =
+    let s = c .before in
+    end-none _ (s .before .end-numbers .result) (s .before .before .end-from .result) (s .before .before .end-from .ensures) (s .before .end-numbers .ensures) (s .are-same .result) (s .are-same .ensures) (not-true _ (c .if1 .taken))
 
 returns-2 : tie.Need-returns-2
-returns-2 c = search needs
-
-returns-3 : tie.Need-returns-3
-returns-3 c = search needs
-
-returns-4 : tie.Need-returns-4
-returns-4 c = search needs
-
-returns-5 : tie.Need-returns-5
-returns-5 c = search needs
-
-returns-6 : tie.Need-returns-6
-returns-6 c = search needs
-
-returns-7 : tie.Need-returns-7
-returns-7 c = search needs
-
-returns-8 : tie.Need-returns-8
-returns-8 c = let r = c .match .rest in no-end _ (r .0 .0 .0 .0 .0 .0 .1) (r .0 .0 .0 .0 .0 .1) (r .0 .0 .0 .0 .1) (r .0 .0 .0 .1) (r .0 .0 .1) (r .0 .1) (r .1)
+returns-2 c =
+    let s = c .before in
+    end-is _ (s .before .end-numbers .result) (s .before .before .end-from .result) (s .before .before .end-from .ensures) (s .before .end-numbers .ensures) (s .are-same .result) (s .are-same .ensures) (not-false _ (c .if1 .left))
 
 pub end-in-spec : {M : Type 1} → statement M
-end-in-spec =
-    tie.close
-    (tie.spec returns returns-2 returns-3 returns-4 returns-5 returns-6 returns-7 returns-8)
+end-in-spec = tie.close (tie.spec end-from-requires end-numbers-requires are-same-requires returns returns-2)

@@ -64,6 +64,15 @@ returns-3 c =
 shared-slice-read-end-in : tie.Need-shared-slice-read-end-in
 shared-slice-read-end-in c = search needs
 
+shared-slice-read-end-in-2 : tie.Need-shared-slice-read-end-in-2
+shared-slice-read-end-in-2 c = search needs
+
+shared-slice-read-end-in-3 : tie.Need-shared-slice-read-end-in-3
+shared-slice-read-end-in-3 c = search needs
+
+shared-slice-read-end-in-4 : tie.Need-shared-slice-read-end-in-4
+shared-slice-read-end-in-4 c = search needs
+
 end-in-requires : tie.Need-end-in-requires
 end-in-requires c κs = search needs
 
@@ -73,33 +82,24 @@ enum-told c = search needs
 enum-known-end : tie.Need-enum-known-end
 enum-known-end c = search needs
 
-shared-slice-read-t24 : tie.Need-shared-slice-read-t24
-shared-slice-read-t24 c = search needs
+shared-slice-read-t27 : tie.Need-shared-slice-read-t27
+shared-slice-read-t27 c = search needs
 
-shared-slice-read-t26 : tie.Need-shared-slice-read-t26
-shared-slice-read-t26 c = search needs
-
-shared-slice-read-t28 : tie.Need-shared-slice-read-t28
-shared-slice-read-t28 c = search needs
-
-shared-slice-read-t30 : tie.Need-shared-slice-read-t30
-shared-slice-read-t30 c = search needs
-
-shared-slice-read-t32 : tie.Need-shared-slice-read-t32
-shared-slice-read-t32 c = search needs
+shared-slice-read-t29 : tie.Need-shared-slice-read-t29
+shared-slice-read-t29 c = search needs
 
 returns-4 : tie.Need-returns-4
 returns-4 c =
-    let s = c .before .before .before .before .before .before .before .before .before .before .before .before .before .before .before .before .before .before .before .before .before in
-    ended-no-end (now (s .args .state)) (s .pre .1) (subst (EndTold (getD (now (s .args .state)) 12 0)) (c .enum-told .given .1) (c .before .before .end-in .ensures))
+    let s = c .before .before .before .before .before .before .before .before .before .before .before .before .before .before .before .before .before .before .before .before .before .before .before .before in
+    ended-no-end (now (s .args .state)) (s .pre .1) (subst (EndTold (getD (now (s .args .state)) 12 0) (getD (now (s .args .state)) 15 0) (getD (now (s .args .state)) 14 0) (getD (now (s .args .state)) 6 0)) (c .enum-told .given .1) (c .before .before .end-in .ensures))
 
 returns-5 : tie.Need-returns-5
 returns-5 c =
     let s = c .before .before .before .before .before .before .before .before .before .before .before .before .before .before .before .before .before .before .before .before .before .before .before .before .before .before .before in
     ended-is (now (s .args .state)) (s .pre .1) (s .pre .0) (sym (c .before .before .before .before .before .before .before .before .before .before .before .before .before .before .before .before .before .before .before .before .before .zeros .ensures) ∙ not-false (c .before .before .before .before .before .before .before .before .before .before .before .before .before .before .before .before .before .before .before .before .before .zeros .result) (c .before .before .before .before .before .before .before .before .before .before .before .before .before .before .before .before .before .before .before .before .if1 .left))
     (sym (c .before .before .before .before .before .before .before .before .before .before .before .before .before .before .before .zeros2 .ensures) ∙ not-false (c .before .before .before .before .before .before .before .before .before .before .before .before .before .before .before .zeros2 .result) (c .before .before .before .before .before .before .before .before .before .before .before .before .before .before .if2 .left))
-    (sym (c .before .before .before .before .before .before .before .before .before .before .before .zeros3 .ensures) ∙ not-false (c .before .before .before .before .before .before .before .before .before .before .before .zeros3 .result) (c .before .before .before .before .before .before .before .before .before .before .if3 .left)) (c .before .before .before .before .before .before .end .given .0 .0)
-    (subst (EndTold (getD (now (s .args .state)) 12 0)) (c .before .before .before .before .before .before .end .given .1) (c .before .before .before .before .before .before .before .before .end-in .ensures))
+    (sym (c .before .before .before .before .before .before .before .before .before .before .before .zeros3 .ensures) ∙ not-false (c .before .before .before .before .before .before .before .before .before .before .before .zeros3 .result) (c .before .before .before .before .before .before .before .before .before .before .if3 .left)) (c .before .before .before .end .given .0 .0)
+    (subst (EndTold (getD (now (s .args .state)) 12 0) (getD (now (s .args .state)) 15 0) (getD (now (s .args .state)) 14 0) (getD (now (s .args .state)) 6 0)) (c .before .before .before .end .given .1) (c .before .before .before .before .before .end-in .ensures))
 
 pub ended-in-spec : {M : Type 1} → statement M
 ended-in-spec =
@@ -122,13 +122,13 @@ ended-in-spec =
     zeros-requires-3
     returns-3
     shared-slice-read-end-in
+    shared-slice-read-end-in-2
+    shared-slice-read-end-in-3
+    shared-slice-read-end-in-4
     end-in-requires
     enum-told
     enum-known-end
-    shared-slice-read-t24
-    shared-slice-read-t26
-    shared-slice-read-t28
-    shared-slice-read-t30
-    shared-slice-read-t32
+    shared-slice-read-t27
+    shared-slice-read-t29
     returns-4
     returns-5)

@@ -8,6 +8,9 @@ use borrow.Author.Needs.{needs}
 use Rattle.exports.proofs.unit_state.put_ended.Statement.{statement}
 use Rattle.exports.proofs.unit_state.put_ended.Tie as tie
 
+end-numbers-requires : tie.Need-end-numbers-requires
+end-numbers-requires c κs = search needs
+
 slice-write-state : tie.Need-slice-write-state
 slice-write-state c = search needs
 
@@ -44,9 +47,6 @@ slice-write-state-11 c = simp length-set (omega arith)
 slice-write-state-12 : tie.Need-slice-write-state-12
 slice-write-state-12 c = simp length-set (omega arith)
 
-end-number-requires : tie.Need-end-number-requires
-end-number-requires c κs = search needs
-
 slice-write-state-13 : tie.Need-slice-write-state-13
 slice-write-state-13 c = simp length-set (omega arith)
 
@@ -63,12 +63,13 @@ same-length : tie.Need-same-length
 same-length c = search needs
 
 returns : tie.Need-returns
-returns c = let s = c .before .before in rw (c .end-number .ensures) (stored (now (s .args .state)) (endedNumbers (s .args .end) (s .args .counts)) (s .pre))
+returns c = let s = c .before .before in rw (c .end-numbers .ensures) (stored (now (s .args .state)) (endedNumbers (s .args .end) (s .args .counts)) (s .pre))
 
 pub put-ended-spec : {M : Type 1} → statement M
 put-ended-spec =
     tie.close
     (tie.spec
+    end-numbers-requires
     slice-write-state
     slice-write-state-2
     slice-write-state-3
@@ -81,7 +82,6 @@ put-ended-spec =
     slice-write-state-10
     slice-write-state-11
     slice-write-state-12
-    end-number-requires
     slice-write-state-13
     slice-write-state-14
     slice-write-state-15
