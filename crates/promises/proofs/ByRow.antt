@@ -58,18 +58,18 @@ read-row-pinned bytes settings st first second r s xs ys us vs g h = (
 
 -- ---- One call
 
-abbrev both : List ℕ → List ℕ → Arrays
+abbrev pub both : List ℕ → List ℕ → Arrays
 both xs ys = record { first = xs; second = ys }
 
-array-at : (s : Side) (xs ys : List ℕ) → arrayOf s xs ys ≡ arrayAt (sideOf s) (both xs ys)
+pub array-at : (s : Side) (xs ys : List ℕ) → arrayOf s xs ys ≡ arrayAt (sideOf s) (both xs ys)
 array-at First xs ys = refl
 array-at Second xs ys = refl
 
-other-is : (s : Side) → sideOf (otherSide s) ≡ other (sideOf s)
+pub other-is : (s : Side) → sideOf (otherSide s) ≡ other (sideOf s)
 other-is First = refl
 other-is Second = refl
 
-room-is : (c : RowCall) → roomIn (rowStateOf (c .state)) (both (c .first) (c .second)) ≡ length (rowArrayOf c)
+pub room-is : (c : RowCall) → roomIn (rowStateOf (c .state)) (both (c .first) (c .second)) ≡ length (rowArrayOf c)
 room-is c = sym (ap length (array-at (otherSide (c .state .side)) (c .first) (c .second) ∙ ap (λ (s : Rule.Side). arrayAt s (both (c .first) (c .second))) (other-is (c .state .side))))
 
 -- an answer as what is said
@@ -81,17 +81,17 @@ module _ (bytes : List ℕ) (settings : DecodeSettings) where
   S = settingsOf settings
 
   -- what the rules say of it
-  abbrev told : RowCall → Rule.RowStep
+  abbrev pub told : RowCall → Rule.RowStep
   told c = readRow S bytes (rowStateOf (c .state)) (both (c .first) (c .second))
 
   module _ (c : RowCall) (g : RowReading bytes settings c) where
-    number-is : numberOf c ≡ told c .said .number
+    pub number-is : numberOf c ≡ told c .said .number
     number-is = ap (λ (a : Answer). a .number) (g .answer)
 
     said-is : saidOf (c .step .answer) ≡ told c .said
     said-is = ap saidOf (g .answer)
 
-    arrays-are : both (c .first′) (c .second′) ≡ told c .arrays
+    pub arrays-are : both (c .first′) (c .second′) ≡ told c .arrays
     arrays-are = λ i. record { first = g .first i; second = g .second i }
 
     -- the end that a state has is of the list
@@ -102,21 +102,21 @@ module _ (bytes : List ℕ) (settings : DecodeSettings) where
         EndOf unended = Unit {0}
         EndOf (ended n place b loose) = Ending n
 
-    sides : (told c .said .number ≡ moreToCome → told c .state .side ≡ other (sideOf (c .state .side))) × ((told c .said .number ≡ moreToCome → ⊥) → told c .state .side ≡ sideOf (c .state .side))
+    pub sides : (told c .said .number ≡ moreToCome → told c .state .side ≡ other (sideOf (c .state .side))) × ((told c .said .number ≡ moreToCome → ⊥) → told c .state .side ≡ sideOf (c .state .side))
     sides = call-sides S bytes (rowStateOf (c .state)) (both (c .first) (c .second)) (λ n place b loose e z. not-more n (listed n place b loose e) z)
 
     -- its changes
-    changes-at : changesOf c ≡ take (countOf (told c)) (arrayAt (other (sideOf (c .state .side))) (told c .arrays))
+    pub changes-at : changesOf c ≡ take (countOf (told c)) (arrayAt (other (sideOf (c .state .side))) (told c .arrays))
     changes-at = ap₂ (λ (n : ℕ) (l : List ℕ). take n l) (g .count) (array-at (c .step .array) (c .first′) (c .second′) ∙ ap₂ (λ (s : Rule.Side) (xs : Arrays). arrayAt s xs) (g .array) arrays-are)
 
-    changes-given : numberOf c ≡ 15 → changesOf c ≡ referenceIn (told c .state) (told c .arrays)
+    pub changes-given : numberOf c ≡ 15 → changesOf c ≡ referenceIn (told c .state) (told c .arrays)
     changes-given e =
         changes-at
         ∙ ap₂ (λ (n : ℕ) (s : Rule.Side). take n (arrayAt s (told c .arrays)))
         (ap (λ (b : Bool). cond b (told c .state .held) (told c .said .loose)) (eq-eqb (told c .said .number) 15 (sym number-is ∙ e)))
         (sym (sides .0 (sym number-is ∙ e)))
 
-    changes-loose : (numberOf c ≡ 15 → ⊥) → changesOf c ≡ take (told c .said .loose) (arrayAt (other (told c .state .side)) (told c .arrays))
+    pub changes-loose : (numberOf c ≡ 15 → ⊥) → changesOf c ≡ take (told c .said .loose) (arrayAt (other (told c .state .side)) (told c .arrays))
     changes-loose e =
         changes-at
         ∙ ap₂ (λ (n : ℕ) (s : Rule.Side). take n (arrayAt (other s) (told c .arrays)))
@@ -312,7 +312,7 @@ module _ (bytes : List ℕ) (settings : DecodeSettings) (c : RowCall) where
   lent = both (c .first) (c .second)
 
   -- the test of the state, in 01's words
-  sound-passes : Sound bytes settings c → sound (settingsOf settings) bytes (rowStateOf (c .state)) lent ≡ true
+  pub sound-passes : Sound bytes settings c → sound (settingsOf settings) bytes (rowStateOf (c .state)) lent ≡ true
   unfolding sound
   sound-passes s =
       rw (
@@ -325,7 +325,7 @@ module _ (bytes : List ℕ) (settings : DecodeSettings) (c : RowCall) where
       )
       (rises-ascends (s .rising))
 
-  passes-sound : sound (settingsOf settings) bytes (rowStateOf (c .state)) lent ≡ true → Sound bytes settings c
+  pub passes-sound : sound (settingsOf settings) bytes (rowStateOf (c .state)) lent ≡ true → Sound bytes settings c
   unfolding sound
   passes-sound e =
       let (a, e1) = both-true (leb (c .state .at) (8 * length bytes)) _ e in

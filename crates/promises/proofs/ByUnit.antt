@@ -77,7 +77,7 @@ encoding-unread bytes s t e c g = subst (λ (S : Settings). TurnIs (turn S bytes
 -- ---- Numbers
 
 -- each is 1 or more
-Each : List ℕ → Type 0
+unfoldable pub Each : List ℕ → Type 0
 Each [] = Unit {0}
 Each (n ∷ ns) = (0 < n) × Each ns
 
@@ -109,10 +109,10 @@ module _ (bytes : List ℕ) (settings : DecodeSettings) where
   S = asGroup4 (settingsOf settings)
 
   -- what the rules say of it
-  abbrev told : UnitCall → Rule.Turn
+  abbrev pub told : UnitCall → Rule.Turn
   told c = turn S bytes (c .changes) (c .ends) (c .marks) (c .n) (readingOf (c .reading))
 
-  number-is : (c : UnitCall) → UnitReading bytes settings c → numberOf c ≡ told c .answer .number
+  pub number-is : (c : UnitCall) → UnitReading bytes settings c → numberOf c ≡ told c .answer .number
   number-is c g = ap (λ (a : Answer). a .number) (g .answer)
 
   -- a turn of the rules that leaves what a caller holds
@@ -162,23 +162,23 @@ module _ (bytes : List ℕ) (settings : DecodeSettings) where
 
   -- the page's start
   module _ (xs es ms : List ℕ) (before : List UnitCall) (last : UnitCall) (p : Page bytes settings xs es ms before last) where
-    abbrev begin : Rule.Turn
+    abbrev pub begin : Rule.Turn
     begin = still S bytes xs es ms (saidBehind 0 0 (soFar (more unitsStart))) (opened savedStart)
 
     along : Followed begin before last
     along = followed before last (p .start) xs es ms begin (record { reading = sym (p .is-start); changes = refl; ends = refl; marks = refl }) (p .follows)
 
-    abbrev asked : List ℕ
+    abbrev pub asked : List ℕ
     asked = numbersOf before ++ last .n ∷ []
 
     -- all calls, the last one included
-    whole : TurnIs (turns S bytes asked begin) (last .turn) (last .changes′) (last .ends′) (last .marks′)
+    pub whole : TurnIs (turns S bytes asked begin) (last .turn) (last .changes′) (last .ends′) (last .marks′)
     whole = subst (λ (u : Rule.Turn). TurnIs u (last .turn) (last .changes′) (last .ends′) (last .marks′)) (sym (turns-snoc (numbersOf before) (last .n) begin)) (along .is)
 
-    asked-each : Each asked
+    pub asked-each : Each asked
     asked-each = each-snoc (numbersOf before) (last .n) (along .positive) (along .some′)
 
-    asked-total : total asked ≡ total (numbersOf before) + last .n
+    pub asked-total : total asked ≡ total (numbersOf before) + last .n
     asked-total = total-snoc (numbersOf before) (last .n)
 
     -- they are a first one and others
@@ -192,7 +192,7 @@ module _ (bytes : List ℕ) (settings : DecodeSettings) where
     -- ---- A page that is read
 
     module _ (w : 0 < settings .columns) (n : settings .columns < 4294967295) (few : length bytes ≤ mostBytes) where
-      abbrev units : ℕ
+      abbrev pub units : ℕ
       units = pageUnits (strictIfExact S) (bitsOf bytes) (length xs) (placesIn es ms)
 
       positive : (l : List ℕ) → Each l → Positive S w n bytes few xs es ms l
@@ -224,7 +224,7 @@ module _ (bytes : List ℕ) (settings : DecodeSettings) where
       reported : last .turn .units ≡ min (last .n) (units - total (numbersOf before))
       reported = along .is .units ∙ turns-report S w n bytes few xs es ms refl (numbersOf before) (last .n) (positive (numbersOf before) (along .positive)) (along .some′)
 
-      open-exactly : (numberOf last ≡ 15) ↔ (total (numbersOf before) + last .n < units)
+      pub open-exactly : (numberOf last ≡ 15) ↔ (total (numbersOf before) + last .n < units)
       open-exactly = (
         (λ e. cases (ltb (total asked) units) refl e),
         (λ l. open-page (omega (arith, asked-total))),
@@ -237,7 +237,7 @@ module _ (bytes : List ℕ) (settings : DecodeSettings) where
     -- ---- A page that is refused, or has no columns
 
     -- each call leaves the arrays as found, and says the same
-    stuck : (c : Said) (held : Rule.Reading) → ((n : ℕ) → 0 < n → turn S bytes xs es ms n (opened savedStart) ≡ still S bytes xs es ms c held) → ((n : ℕ) → 0 < n → turn S bytes xs es ms n held ≡ still S bytes xs es ms c held)
+    pub stuck : (c : Said) (held : Rule.Reading) → ((n : ℕ) → 0 < n → turn S bytes xs es ms n (opened savedStart) ≡ still S bytes xs es ms c held) → ((n : ℕ) → 0 < n → turn S bytes xs es ms n held ≡ still S bytes xs es ms c held)
         → TurnIs (still S bytes xs es ms c held) (last .turn) (last .changes′) (last .ends′) (last .marks′)
     unfolding Each turns
     stuck c held first later = subst (λ (u : Rule.Turn). TurnIs u (last .turn) (last .changes′) (last .ends′) (last .marks′)) (all-turns (numbersOf before) (along .positive)) whole
@@ -251,12 +251,12 @@ module _ (bytes : List ℕ) (settings : DecodeSettings) where
         all-turns (n ∷ l) h = others (l ++ last .n ∷ []) (next n begin) (each-snoc l (last .n) (h .1) (along .some′)) (first n (h .0))
 
   -- with columns that are too many, or data that is too long
-  refused-6 : (xs es ms : List ℕ) → settings .columns ≡ 4294967295 → (n : ℕ) → 0 < n → turn S bytes xs es ms n (opened savedStart) ≡ still S bytes xs es ms (saysOnly 6) (opened savedStart)
+  pub refused-6 : (xs es ms : List ℕ) → settings .columns ≡ 4294967295 → (n : ℕ) → 0 < n → turn S bytes xs es ms n (opened savedStart) ≡ still S bytes xs es ms (saysOnly 6) (opened savedStart)
   unfolding turn turnOn
   refused-6 xs es ms e zero p = absurd (omega arith)
   refused-6 xs es ms e (suc n) p = rw (eq-eqb (settings .columns) 4294967295 e, turnOn)
 
-  refused-7 : (xs es ms : List ℕ) → (settings .columns ≡ 4294967295 → ⊥) → mostBytes < length bytes → (n : ℕ) → 0 < n → turn S bytes xs es ms n (opened savedStart) ≡ still S bytes xs es ms (saysOnly 7) (opened savedStart)
+  pub refused-7 : (xs es ms : List ℕ) → (settings .columns ≡ 4294967295 → ⊥) → mostBytes < length bytes → (n : ℕ) → 0 < n → turn S bytes xs es ms n (opened savedStart) ≡ still S bytes xs es ms (saysOnly 7) (opened savedStart)
   unfolding turn turnOn
   refused-7 xs es ms e l zero p = absurd (omega arith)
   refused-7 xs es ms e l (suc n) p = rw (ne-eqb (settings .columns) 4294967295 e, lt-ltb mostBytes (length bytes) l, turnOn)
@@ -280,13 +280,13 @@ module _ (bytes : List ℕ) (settings : DecodeSettings) where
   })
 
   -- without columns the first call ends the page
-  no-columns : (xs es ms : List ℕ) → settings .columns ≡ 0 → length bytes ≤ mostBytes → (n : ℕ) → 0 < n → turn S bytes xs es ms n (opened savedStart) ≡ still S bytes xs es ms (saysOnly 0) (ended (saysOnly 0))
+  pub no-columns : (xs es ms : List ℕ) → settings .columns ≡ 0 → length bytes ≤ mostBytes → (n : ℕ) → 0 < n → turn S bytes xs es ms n (opened savedStart) ≡ still S bytes xs es ms (saysOnly 0) (ended (saysOnly 0))
   unfolding turn turnOn
   no-columns xs es ms e l zero p = absurd (omega arith)
   no-columns xs es ms e l (suc n) p =
       rw (ne-eqb (settings .columns) 4294967295 (λ q. omega arith), le-ltb mostBytes (length bytes) l, start-sound xs es ms, eq-eqb (settings .columns) 0 e, turnOn)
 
-  repeated : (xs es ms : List ℕ) (c : Said) (n : ℕ) → 0 < n → turn S bytes xs es ms n (ended c) ≡ still S bytes xs es ms c (ended c)
+  pub repeated : (xs es ms : List ℕ) (c : Said) (n : ℕ) → 0 < n → turn S bytes xs es ms n (ended c) ≡ still S bytes xs es ms c (ended c)
   unfolding turn
   repeated xs es ms c zero p = absurd (omega arith)
   repeated xs es ms c (suc n) p = refl
@@ -294,7 +294,7 @@ module _ (bytes : List ℕ) (settings : DecodeSettings) where
 -- ---- Page and unit form agree
 
 -- what is said of an answer of the rules is that answer's
-same-answer : (a : Page′.Answer) → answerOf (saidBehind 0 0 a) ≡ Error.answerOf a
+pub same-answer : (a : Page′.Answer) → answerOf (saidBehind 0 0 a) ≡ Error.answerOf a
 same-answer a = λ i. record {
   number = a .number;
   mark = 0;
@@ -306,7 +306,7 @@ same-answer a = λ i. record {
 }
 
 module _ (bytes : List ℕ) (settings : DecodeSettings) (enc : settings .encoding ≡ Group4) (xs es ms : List ℕ) (before : List UnitCall) (last : UnitCall) (p : Page bytes settings xs es ms before last) where
-  same-settings : asGroup4 (settingsOf settings) ≡ settingsOf settings
+  pub same-settings : asGroup4 (settingsOf settings) ≡ settingsOf settings
   same-settings = λ i. record {
     columns = settings .columns;
     rows = settings .rows;
@@ -412,8 +412,8 @@ abbrev ListedNumber : ℕ → Type 0
 ListedNumber n = Ending n ⊎ ((n ≡ 6) ⊎ ((n ≡ 7) ⊎ ((n ≡ 8) ⊎ (n ≡ 15))))
 
 -- the end that a reading has is of the list
-ended-listed : (r : Unit.Reading) (d : Said) → readingOf r ≡ ended d → Ending (d .number)
-ended-listed (Ended e c) d q = subst (λ (x : Said). Ending (x .number)) (let z : saidOf e c ≡ d = cc in z) (end-listed e)
+pub ended-listed : (r : Unit.Reading) (d : Said) → readingOf r ≡ ended d → Ending (d .number)
+ended-listed (Ended e c) d q = subst (λ (x : Said). Ending (x .number)) (let z : saidOf e c ≡ d = cc in z) (end-listed e c)
 ended-listed (Open s) d q = absurd (let z : _≡_ {A = ℕ} 0 1 = cc in omega arith)
 
 module _ (bytes : List ℕ) (settings : DecodeSettings) (c : UnitCall) (s : Saved) where
@@ -427,7 +427,7 @@ module _ (bytes : List ℕ) (settings : DecodeSettings) (c : UnitCall) (s : Save
   soundHere = sound (c .changes) (c .ends) (savedOf s) (settings .columns) (length (bitsOf bytes)) places₁
 
   -- the test of the state, in 01's words
-  sound-passes : Sound bytes settings c s → soundHere ≡ true
+  pub sound-passes : Sound bytes settings c s → soundHere ≡ true
   sound-passes h =
       let b = length-bitsOf bytes in
       passes (c .changes) (c .ends) (savedOf s) (settings .columns) (length (bitsOf bytes)) places₁ (record {
@@ -446,7 +446,7 @@ module _ (bytes : List ℕ) (settings : DecodeSettings) (c : UnitCall) (s : Save
         unfinished = h .unfinished;
       })
 
-  passes-sound : soundHere ≡ true → Sound bytes settings c s
+  pub passes-sound : soundHere ≡ true → Sound bytes settings c s
   unfolding sound
   passes-sound e =
       let b = length-bitsOf bytes in
@@ -571,7 +571,7 @@ any-listed bytes settings c g some′ = subst ListedNumber (sym (number-is bytes
         → ListedNumber (turn (asGroup4 (settingsOf settings)) bytes (c .changes) (c .ends) (c .marks) n (readingOf r) .answer .number)
     cases zero p r e = absurd (omega arith)
     cases (suc n) p (Open s) e = says bytes settings c s n (c .turn .reading) e .listed
-    cases (suc n) p (Ended e d) q = inl (subst (λ (t : Rule.Turn). Ending (t .answer .number)) (sym (turn-repeats (asGroup4 (settingsOf settings)) bytes (c .changes) (c .ends) (c .marks) n (saidOf e d))) (end-listed e))
+    cases (suc n) p (Ended e d) q = inl (subst (λ (t : Rule.Turn). Ending (t .answer .number)) (sym (turn-repeats (asGroup4 (settingsOf settings)) bytes (c .changes) (c .ends) (c .marks) n (saidOf e d))) (end-listed e d))
 
 not-ten : {n : ℕ} → ListedNumber n → n ≡ 10 → ⊥
 not-ten (inl (inl h)) e = omega arith

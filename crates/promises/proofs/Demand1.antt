@@ -192,13 +192,13 @@ module _ (a : Page.Answer) (changes ends marks : List ℕ) (r : Answer) (changes
     pub marks-front : take (r .rows) marks′ ≡ a .marks
     marks-front = ap (take (r .rows)) marks-are ∙ take-at (a .marks) _ (r .rows) marks-length
 
-    later-marks : drop (r .rows) marks′ ≡ drop (r .rows) marks
+    pub later-marks : drop (r .rows) marks′ ≡ drop (r .rows) marks
     later-marks = ap (drop (r .rows)) marks-are ∙ drop-at (a .marks) _ (r .rows) marks-length ∙ ap (λ (n : ℕ). drop n marks) marks-length
 
-  later-changes : drop (r .entries + r .loose) changes′ ≡ drop (r .entries + r .loose) changes
+  pub later-changes : drop (r .entries + r .loose) changes′ ≡ drop (r .entries + r .loose) changes
   later-changes = ap (drop (r .entries + r .loose)) changes-are ∙ drop-at (joined (a .rows) ++ a .loose) _ (r .entries + r .loose) front-length ∙ ap (λ (n : ℕ). drop n changes) front-length
 
-  later-ends : drop (r .rows) ends′ ≡ drop (r .rows) ends
+  pub later-ends : drop (r .rows) ends′ ≡ drop (r .rows) ends
   later-ends = ap (drop (r .rows)) ends-are ∙ drop-at (endsFrom 0 (a .rows)) _ (r .rows) ends-length ∙ ap (λ (n : ℕ). drop n ends) ends-length
 
   -- the rows that lie in the store are the answer's

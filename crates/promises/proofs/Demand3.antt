@@ -3,9 +3,9 @@ use mathlib.Core.Path.{_≡_, refl, sym, ap, _∙_, subst}
 use mathlib.Core.Logic.{_⊎_}
 use mathlib.Core.Bool.{Bool}
 use mathlib.Core.List.{List, [], _∷_, _++_, append-assoc, append-nil}
-use Prim.Native.Nat.{ℕ, _+_, _-_, _≤_}
+use Prim.Native.Nat.{ℕ, zero, suc, _+_, _-_, _≤_}
 use native.Mathlib.Omega.{arith}
-use lib.ListN.{length, take, drop, length-append, take-append-drop}
+use lib.ListN.{length, take, drop, length-append, length-take, take-append-drop}
 use lib.Seq.{take-at, take-append-le, length-take-le}
 use Rattle.rules.specs.Bits.{bitsOf}
 use Rattle.rules.specs.Rows.{bytesTo}
@@ -26,8 +26,9 @@ use Rattle.rows.specs.declared.DecodeSettings.{DecodeSettings}
 use Rattle.rows.specs.Settings.{encodingOf, settingsOf}
 use Rattle.one_line.specs.OneLine.{ReadOne}
 use Rattle.writer.specs.Outcome.{Answers}
-use Rattle.promises.specs.Demand3.{Back, LineReadsBack, WrittenLineReadsBack, LinesApart, Plainly, WrittenPageReadsBack, CutPageGivesFirstRows}
+use Rattle.promises.specs.Demand3.{Back, LineReadsBack, WrittenLineReadsBack, LinesApart, Plainly, WrittenPageReadsBack, Due, CutPageGivesFirstRows}
 use Rattle.promises.proofs.Demand1.{in-store}
+use Rattle.promises.proofs.CutRows.{GivesDue, cut-gives-due}
 
 -- ---- Lines
 
@@ -154,6 +155,12 @@ module _ (columns : ℕ) (changes ends out : List ℕ) (w : Answer) (out′ : Li
       page-cut mostMakeup (omega arith) (omega arith) (settingsOf settings) (plain settings s) (omega (arith, p .narrow, s .same-columns)) (rowsIn 0 changes ends)
       (rises settings s) out′ small (p .rest) (for-settings settings s out′ (p .rest) out-bits) cut store places
 
+  due-cut : length out′ ≤ mostBytes → (cut : ℕ) (settings : DecodeSettings) → Plainly columns settings → (store places : ℕ)
+      → GivesDue (settingsOf settings) (rowsIn 0 changes ends) (bitsOf (take cut out′)) (decode (settingsOf settings) (take cut out′) store places)
+  due-cut small cut settings s store places =
+      cut-gives-due (settingsOf settings) (plain settings s) (omega (arith, p .narrow, s .same-columns)) (rowsIn 0 changes ends) (rises settings s) (take cut out′)
+      (omega (arith, length-take cut out′)) (bitsOf (drop cut out′)) (p .rest) (bits-split cut out′ ∙ for-settings settings s out′ (p .rest) out-bits) store places
+
 pub written-page-reads-back : WrittenPageReadsBack
 written-page-reads-back columns changes ends out w out′ narrow written z bytes small e settings s counted store places marks r store′ places′ marks′ roomy placed marked called = (
   ap (λ (x : Answer). x .number) a,
@@ -167,9 +174,40 @@ written-page-reads-back columns changes ends out w out′ narrow written z bytes
     a : r ≡ answerOf (whole (length (P columns changes ends out w out′ narrow written z)) (rowsIn 0 changes ends) (allClean (rowsIn 0 changes ends)))
     a = called .answer ∙ ap answerOf is
 
+-- the first of some rows are as many as there are of them
+taken : (n : ℕ) (rows : List (List ℕ)) → (length (take n rows) ≤ length rows) × (take n rows ≡ take (length (take n rows)) rows)
+taken zero rows = (omega arith, refl)
+taken (suc n) [] = (omega arith, refl)
+taken (suc n) (r ∷ rows) = let t = taken n rows in (omega (arith, t .0), ap (λ (l : List (List ℕ)). r ∷ l) (t .1))
+
 pub cut-page-gives-first-rows : CutPageGivesFirstRows
-cut-page-gives-first-rows columns changes ends out w out′ narrow written z cut settings s store places marks r store′ places′ marks′ called =
-    let c =
-    read-cut columns changes ends out w out′ narrow written z
-    (omega (arith, written .size, p columns changes ends out w out′ narrow written z .short)) cut settings s (length store) (placesIn places marks) in
-    (c .0, in-store _ store places marks r store′ places′ marks′ called ∙ c .1)
+cut-page-gives-first-rows columns changes ends out w out′ narrow written z cut settings s store places marks r store′ places′ marks′ called = (
+  length (take (c .0) rows),
+  in-store _ store places marks r store′ places′ marks′ called ∙ c .1 ∙ taken (c .0) rows .1,
+  of-columns _ (g .only _ (taken (c .0) rows .0) (omega (arith, ap length (c .1)))),
+  λ no-four no-five m d. omega (arith, ap length (c .1), g .every (λ q. no-four (number-is ∙ q)) (λ q. no-five (number-is ∙ q)) m (for-columns m d)),
+)
+  where
+    rows : List (List ℕ)
+    rows = rowsIn 0 changes ends
+
+    a : Page.Answer
+    a = decode (settingsOf settings) (take cut out′) (length store) (placesIn places marks)
+
+    small : length out′ ≤ mostBytes
+    small = omega (arith, written .size, p columns changes ends out w out′ narrow written z .short)
+
+    c : (n : ℕ) × (a .rows ≡ take n rows)
+    c = read-cut columns changes ends out w out′ narrow written z small cut settings s (length store) (placesIn places marks)
+
+    g : GivesDue (settingsOf settings) rows (bitsOf (take cut out′)) a
+    g = due-cut columns changes ends out w out′ narrow written z small cut settings s (length store) (placesIn places marks)
+
+    number-is : r .number ≡ a .number
+    number-is = ap (λ (x : Answer). x .number) (called .answer)
+
+    of-columns : (n : ℕ) → Due (settings .columns) (settings .rows) rows (bitsOf (take cut out′)) n → Due columns (settings .rows) rows (bitsOf (take cut out′)) n
+    of-columns n = subst (λ (i : ℕ). Due i (settings .rows) rows (bitsOf (take cut out′)) n) (s .same-columns)
+
+    for-columns : (n : ℕ) → Due columns (settings .rows) rows (bitsOf (take cut out′)) n → Due (settings .columns) (settings .rows) rows (bitsOf (take cut out′)) n
+    for-columns n = subst (λ (i : ℕ). Due i (settings .rows) rows (bitsOf (take cut out′)) n) (sym (s .same-columns))

@@ -3,62 +3,35 @@ use mathlib.Core.Path.{_≡_, refl, sym, ap, _∙_}
 use mathlib.Core.Bool.{Bool, false}
 use mathlib.Core.List.{List}
 use mathlib.Core.Option.{Option, none, some}
-use Prim.Native.Nat.{ℕ, _+_, _-_, _*_, _/_, _%_, _≤_}
+use Prim.Native.Nat.{ℕ, _+_, _≤_}
 use native.Mathlib.Omega.{arith}
 use lib.ListN.{length, drop, length-drop}
-use borrow.Author.Tests.{le-leb, lt-leb, ne-eqb}
-use Rattle.rules.specs.Bits.{bitsFor, bitsOf, window}
+use borrow.Author.Tests.{le-leb, lt-leb}
+use Rattle.rules.specs.Bits.{bitsOf}
 use Rattle.rules.specs.Codes.{Colour, Code, codesOf}
-use Rattle.rules.specs.Lookup.{codeIn, longestShared, Entry, valid, invalid, entryFor, lookup, entryNumber}
+use Rattle.rules.specs.Lookup.{codeIn, longestShared, Entry, valid, invalid, entryFor, lookup}
 use Rattle.rules.specs.Plain.{lost, byEntry, byLookup}
-use Rattle.rules.proofs.Bits.{length-bitsOf, bits-peek}
 use Rattle.rules.proofs.Codes.{shape}
 use Rattle.rules.proofs.Lookup.{lookup-valid}
 use Rattle.rules.proofs.Plain.{plain-is-lookup}
 use Rattle.error.specs.Error.{numberOf}
 use Rattle.codes.specs.Plain.{foundOf}
 use Rattle.codes.specs.declared.plain.Found.{Found}
-use Rattle.promises.specs.EnginesAgree.{byNumber, BothAt, CodesAgree, RunsAgree, FailingCodesAgree, byEngine, PagesAgree}
+use Rattle.promises.specs.EnginesAgree.{BothAt, CodesAgree, RunsAgree, FailingCodesAgree, byEngine, PagesAgree}
 use Rattle.promises.specs.Places.{CodeFails, no-code, cut-code, cut-short, passes}
 use Rattle.promises.proofs.Pinned.{decode-pinned}
-use Rattle.promises.proofs.PinnedInside.{read-run-pinned}
+use Rattle.promises.proofs.PinnedInside.{read-run-pinned, look-up-pinned}
 use Rattle.promises.proofs.Places.{run-faults}
 
 -- ---- One code
 
--- an entry by its number; 4,095 is the run of none
-by-number : (colour : Colour) (ws : List Bool) (left : ℕ) (o : Entry) → lookup colour ws ≡ o → byNumber left (entryNumber o) ≡ byEntry left o
-by-number colour ws left (invalid size) q =
-    let d : (4095 + 4096 * size) / 4096 ≡ size = omega arith in
-    let m : (4095 + 4096 * size) % 4096 ≡ 4095 = omega arith in
-    rw (d, m)
-by-number colour ws left (valid run size) q =
-    let v = lookup-valid colour ws run size q in
-    let k : run ≤ 2560 = omega (arith, shape colour (v .code) (v .member) .small-run, v .run-is) in
-    let d : (run + 4096 * size) / 4096 ≡ size = omega arith in
-    let m : (run + 4096 * size) % 4096 ≡ run = omega arith in
-    rw (d, m, ne-eqb run 4095 (λ z. omega arith))
-
-module _ (colour : Colour) (bytes : List ℕ) (at : ℕ) (r : Found) (bits entry : ℕ) (t : BothAt colour bytes at r bits entry) where
-  abbrev ds : List Bool
-  ds = drop at (bitsOf bytes)
-
-  left : length ds ≡ 8 * length bytes - at
-  left = omega (arith, length-drop at (bitsOf bytes), length-bitsOf bytes)
-
-  -- by the rule of the lookup
-  plainly : foundOf r ≡ byLookup colour ds
-  plainly = t .compared ∙ plain-is-lookup colour ds
-
-  tabled : byLookup colour ds ≡ byNumber (8 * length bytes - at) entry
-  tabled =
-      sym (by-number colour (window 13 ds) (length ds) (lookup colour (window 13 ds)) refl)
-      ∙ (λ i. byNumber (left i) (entryNumber (lookup colour (sym (bits-peek 13 ds) i))))
-      ∙ ap (λ (n : ℕ). byNumber (8 * length bytes - at) (entryNumber (lookup colour (bitsFor 13 n)))) (sym (t .seen .value))
-      ∙ ap (byNumber (8 * length bytes - at)) (sym (t .looked-up))
+-- what either engine says is what the rule of the lookup says
+module _ {colour : Colour} {bytes : List ℕ} {at : ℕ} {r s : Found} (t : BothAt colour bytes at r s) where
+  plainly : foundOf r ≡ byLookup colour (drop at (bitsOf bytes))
+  plainly = t .compared ∙ plain-is-lookup colour (drop at (bitsOf bytes))
 
 pub codes-agree : CodesAgree
-codes-agree colour bytes at r bits entry t = plainly colour bytes at r bits entry t ∙ tabled colour bytes at r bits entry t
+codes-agree colour bytes at r s t = look-up-pinned colour bytes at r s (plainly t) (t .looked-up)
 
 -- ---- A run
 
@@ -92,9 +65,9 @@ fails-by colour bs sum place n (cut-short {size} e h) k = (
 fails-by colour bs sum place n (passes e h j) k = absurd (k refl)
 
 pub failing-codes-agree : FailingCodesAgree
-failing-codes-agree colour bytes at e place g k r bits entry t =
+failing-codes-agree colour bytes at e place g k r s t =
     let (taken, q) = fails-by colour (bitsOf bytes) _ place (numberOf e) (run-faults colour bytes at _ g (numberOf e) place refl .fails) k in
-    (taken, plainly colour bytes place r bits entry t ∙ q, sym (tabled colour bytes place r bits entry t) ∙ q)
+    (taken, plainly t ∙ q, t .looked-up ∙ q)
 
 -- ---- A page
 

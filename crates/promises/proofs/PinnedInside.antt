@@ -1,11 +1,14 @@
 -- The contracts of the inner functions settle their answers, but for what a buffer holds far ahead and from where the next search starts. Assumes nothing.
 use mathlib.Core.Path.{_≡_, refl, sym, _∙_, ap}
+use mathlib.Core.Bool.{Bool, true, false}
 use mathlib.Core.List.{List}
 use mathlib.Core.Option.{Option, none, some}
 use Prim.Native.Nat.{ℕ, zero, suc, _+_, _*_, _<_}
 use native.Mathlib.Omega.{arith}
+use lib.Dec.{ltb}
 use lib.IntN.{pos, negsuc}
 use lib.ListN.{length, drop}
+use borrow.Author.Tests.{ltb-true, ltb-false}
 use Rattle.rules.specs.Bits.{bitsOf, peek}
 use Rattle.rules.specs.Machine.{Out, more, done}
 use Rattle.rules.specs.Runs.{Res, ok, fault, Sum, sum, readRun}
@@ -33,6 +36,7 @@ use Rattle.codes.specs.declared.run.Code as RunCode
 use Rattle.codes.specs.declared.run.Code.the-variants as OfRun
 use Rattle.codes.specs.declared.run.Run.{Run}
 use Rattle.codes.specs.declared.run.Run.the-variants.{Length, Bad}
+use Rattle.context.specs.Places.{B1At}
 use Rattle.one_line.specs.declared.once.OneCode.the-variants.{Runs, Did}
 use Rattle.promises.specs.PinnedInside as Pinned
 use Rattle.promises.specs.PinnedInside.{Alike, AlikeRuns}
@@ -47,6 +51,9 @@ code-pinned c = settled (λ r g i. record { size = g .same-size i; word = g .sam
 
 pub peek13-pinned : Pinned.Peek13Pinned
 peek13-pinned bs = settled (λ r g. g .value)
+
+pub ahead-pinned : Pinned.AheadPinned
+ahead-pinned bytes at live = settled (λ r g. g .holds)
 
 pub top13-pinned : Pinned.Top13Pinned
 top13-pinned bytes b l = settled (λ r g. g .value bytes l)
@@ -96,6 +103,9 @@ read-run-pinned colour bytes b c r s e g h = runs-alike bytes r s (g .loaded) (h
 pub read-run-plain-pinned : Pinned.ReadRunPlainPinned
 read-run-plain-pinned colour bytes at r s g h = runs-alike bytes r s (g .loaded) (h .loaded) (g .same ∙ sym (h .same))
 
+pub front-run-pinned : Pinned.FrontRunPinned
+front-run-pinned table first bits = settled (λ r g. g .is)
+
 abbrev foundFrom : Plain.Found → Found
 foundFrom (Plain.found run taken) = Found.Code run taken
 foundFrom (Plain.lost n taken) = Found.Lost (errorFrom n) taken
@@ -106,6 +116,9 @@ found-back (Found.Lost e taken) = ap (λ (e : DecodeError). Found.Lost e taken) 
 
 pub read-code-pinned : Pinned.ReadCodePinned
 read-code-pinned colour bytes at = settled-by foundOf foundFrom found-back _
+
+pub look-up-pinned : Pinned.LookUpPinned
+look-up-pinned colour bytes at = settled-by foundOf foundFrom found-back _
 
 abbrev codeFrom : Out Sum (Res Sum) → RunCode.Code
 codeFrom (more s) = OfRun.More (s .total) (s .at)
@@ -164,6 +177,20 @@ push-pixels-pinned xs l count strict = settled-with (λ r ys g. (g 0 0 .answer, 
 
 pub find-pinned : Pinned.FindPinned
 find-pinned reference width position colour r s g h = (g .b1-is ∙ sym (h .b1-is), g .b2-is ∙ sym (h .b2-is))
+
+-- Of two places of one parity the change at the left one would lie left of a0, and right of it.
+apart : (reference : List ℕ) (position colour r s : ℕ) → B1At reference position colour r → B1At reference position colour s → r < s → ⊥
+apart reference position colour r s g h k =
+    let there : r < length reference = omega (arith, g .parity, h .parity, h .near) in
+    omega (arith, g .seen .right there, h .seen .left r (omega (arith, g .parity, h .parity)) there)
+
+pub b1-from-pinned : Pinned.B1FromPinned
+b1-from-pinned reference position colour r s g h = cases (ltb r s) refl (ltb s r) refl
+  where
+    cases : (a : Bool) → ltb r s ≡ a → (b : Bool) → ltb s r ≡ b → r ≡ s
+    cases true p b q = absurd (apart reference position colour r s g h (ltb-true r s p))
+    cases false p true q = absurd (apart reference position colour s r h g (ltb-true s r q))
+    cases false p false q = omega (arith, ltb-false r s p, ltb-false s r q)
 
 pub steps-pinned : Pinned.StepsPinned
 steps-pinned width xs w = settled-with (λ r ys g. (g .answer, g .store))

@@ -26,7 +26,7 @@ use Rattle.promises.proofs.Demand1.{changes-front, ends-front, marks-fr
 -- ---- What a call handed over
 
 -- a call that gives an answer of the rules
-abbrev Answered : Page.Answer → Call → Type 0
+abbrev pub Answered : Page.Answer → Call → Type 0
 Answered a c = Gives a (c .changes) (c .ends) (c .marks) (c .answer) (c .changes′) (c .ends′) (c .marks′)
 
 module _ (a : Page.Answer) (c : Call) (given : Answered a c) where
@@ -93,7 +93,7 @@ module _ (a b : Page.Answer) (small large : Call) (given : Answered a small) (la
   fewer-rows : small .answer .rows ≤ large .answer .rows
   fewer-rows = omega (arith, rows-count a small given, rows-count b large later, f .fewer)
 
-  is-front : Front small large
+  pub is-front : Front small large
   is-front = record {
     fewer-rows = fewer-rows;
     fewer-entries = fewer;

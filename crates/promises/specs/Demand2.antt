@@ -1,15 +1,16 @@
--- Demand 2: the codes, the modes and the changing elements that are read are those of the standard.
+-- Demand 2: the codes, the modes and the changing elements that are read and written are those of the standard.
 use mathlib.Core.Path.{_≡_}
 use mathlib.Core.Bool.{Bool}
 use mathlib.Core.List.{List, _++_}
 use Prim.Native.Nat.{ℕ, _+_, _≤_}
 use lib.ListN.{length, drop}
 use Rattle.rules.specs.Bits.{bitsOf}
-use Rattle.rules.specs.Codes.{Colour, Code}
+use Rattle.rules.specs.Codes.{Colour, black, Code}
 use Rattle.rules.specs.Runs.{ok, sum, Made}
 use Rattle.rules.specs.Write.{codesBits}
 use Rattle.rules.specs.Modes.{modeTake, modeByZeros, readMode}
-use Rattle.rules.specs.Pixels.{pixelsOf, b1On, b2On, a0At}
+use Rattle.rules.specs.Lines.{headOr, tail, b1, b2}
+use Rattle.rules.specs.Pixels.{A0, on, pixelsOf, rightOf, a1On, a2On, b1On, b2On, a0At}
 use Rattle.rules.specs.Rising.{Rising}
 use Rattle.codes.specs.Runs.{runOf, RunRead}
 use Rattle.codes.specs.declared.run.Run.{Run}
@@ -38,3 +39,21 @@ abbrev pub ChangingElementsAreTheStandards : Type 0
 ChangingElementsAreTheStandards =
     (reference : List ℕ) (width position : ℕ) (colour : Colour) (r : Found) → Rising width 0 reference → Finds reference width position colour r
     → (r .b1 ≡ b1On width (pixelsOf reference) (a0At position) colour) × (r .b2 ≡ b2On width (pixelsOf reference) (a0At position) colour)
+
+-- What the definition of a line takes for b1 and b2 (Lines.antt), of which the contracts of the line readers, their swift loops and the writers speak, is
+-- that too; also behind a change on the first element, where the position is 0 still.
+abbrev pub DefinedElementsAreTheStandards : Type 0
+DefinedElementsAreTheStandards =
+    (reference : List ℕ) (width : ℕ) → Rising width 0 reference
+    → ((position : ℕ) (colour : Colour)
+    → (b1 width reference position colour ≡ b1On width (pixelsOf reference) (a0At position) colour)
+    × (b2 width reference position colour ≡ b2On width (pixelsOf reference) (a0At position) colour))
+    × (b1 width reference 0 black ≡ b1On width (pixelsOf reference) (on 0) black)
+    × (b2 width reference 0 black ≡ b2On width (pixelsOf reference) (on 0) black)
+
+-- What the definition of a written line takes for a1 and a2 (Write.antt), the first two changes that are left of a row, is what the standard says of the
+-- row's pixels: `left` are those right of a0, and `past` those before them.
+abbrev pub WrittenElementsAreTheStandards : Type 0
+WrittenElementsAreTheStandards =
+    (width : ℕ) (past left : List ℕ) (a0 : A0) → rightOf a0 ≤ width → Rising (rightOf a0) 0 past → Rising width (rightOf a0) left
+    → (headOr width left ≡ a1On width (pixelsOf (past ++ left)) a0) × (headOr width (tail left) ≡ a2On width (pixelsOf (past ++ left)) a0)

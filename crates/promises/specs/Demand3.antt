@@ -1,16 +1,16 @@
 -- Demand 3: what is written reads back. For a width from 1 to 4,294,967,294, a reference and a row that ascend strictly below it, strict reading (and lenient) of the
 -- written line, given room and whatever bits follow, gives back the row and takes exactly its bits; so does a written page, whatever bytes follow, and cut after any
--- byte it gives only its own first rows. The pages are read so strict, lenient and exact (A12); a cut page may answer 14 where it answered 0.
+-- byte it gives its own first rows, those whose lines arrived whole. The pages are read so strict, lenient and exact (A12); a cut page may answer 14 where it answered 0.
 use mathlib.Core.Path.{_≡_}
 use mathlib.Core.Logic.{_⊎_}
 use mathlib.Core.Bool.{Bool, true, false}
-use mathlib.Core.List.{List, _++_}
+use mathlib.Core.List.{List, [], _++_}
 use Prim.Native.Nat.{ℕ, _+_, _≤_, _<_}
 use lib.ListN.{length, take, drop}
 use Rattle.rules.specs.Bits.{bitsOf}
 use Rattle.rules.specs.Lines.{two}
 use Rattle.rules.specs.Pages.{mostBytes, entries}
-use Rattle.rules.specs.Write.{mostMakeup, lineBits, rowsIn, writeLine, writePage}
+use Rattle.rules.specs.Write.{mostMakeup, lineBits, rowsBits, rowsIn, writeLine, writePage}
 use Rattle.rules.specs.Rising.{Rising}
 use Rattle.error.specs.declared.Answer.{Answer}
 use Rattle.rows.specs.declared.DecodeSettings.{DecodeSettings}
@@ -74,7 +74,15 @@ WrittenPageReadsBack =
     → Decodes bytes settings store places marks r store′ places′ marks′
     → (r .number ≡ 0) × (r .bytes ≡ w .bytes) × (rowsIn 0 store′ (take (r .rows) places′) ≡ rowsIn 0 changes ends)
 
--- cut after any byte, it gives only its own first rows, each whole
+-- Of a page of these rows only the bits arrived. Its first n rows are due: their lines lie whole in the bits, and the settings want so many (`rows` is 0,
+-- or n or more). A line has no bits but its codes', so it does not matter where the next line or EOFB was cut.
+pub record Due (columns wanted : ℕ) (rows : List (List ℕ)) (bits : List Bool) (n : ℕ) : Type 0 where
+  pub of-page : n ≤ length rows
+  pub whole : length (rowsBits mostMakeup columns [] (take n rows)) ≤ length bits
+  pub asked : (wanted ≡ 0) ⊎ (n ≤ wanted)
+
+-- Cut after any byte, it gives only its own first rows, each whole, with any `rows` and any room: no row that is not due, and all that are due, unless 4 or
+-- 5 is answered.
 abbrev pub CutPageGivesFirstRows : Type 0
 CutPageGivesFirstRows =
     (columns : ℕ) (changes ends out : List ℕ) (w : Answer) (out′ : List ℕ) → columns ≤ 4294967295
@@ -83,3 +91,5 @@ CutPageGivesFirstRows =
     → (store places marks : List ℕ) (r : Answer) (store′ places′ marks′ : List ℕ)
     → Decodes (take cut out′) settings store places marks r store′ places′ marks′
     → (n : ℕ) × (rowsIn 0 store′ (take (r .rows) places′) ≡ take n (rowsIn 0 changes ends))
+    × Due columns (settings .rows) (rowsIn 0 changes ends) (bitsOf (take cut out′)) n
+    × ((r .number ≡ 4 → ⊥) → (r .number ≡ 5 → ⊥) → (m : ℕ) → Due columns (settings .rows) (rowsIn 0 changes ends) (bitsOf (take cut out′)) m → m ≤ n)

@@ -10,7 +10,7 @@ use Rattle.rules.specs.Codes as Rule
 use Rattle.rules.specs.Codes.{Colour}
 use Rattle.rules.specs.Eols.{readEols, skipToEol}
 use Rattle.rules.specs.Modes.{readMode}
-use Rattle.rules.specs.Plain.{plain}
+use Rattle.rules.specs.Plain.{plain, byLookup}
 use Rattle.rules.specs.Lines as Line
 use Rattle.rules.specs.Lines.{Went}
 use Rattle.rules.specs.Runs.{sum, runStep}
@@ -18,11 +18,12 @@ use Rattle.rules.specs.Rows.{RowOut}
 use Rattle.tables.specs.Tables.{SameBits, colourOf}
 use Rattle.tables.specs.declared.Code.{Code}
 use Rattle.bit_reader.specs.Cursor.{Thirteen}
-use Rattle.bit_reader.specs.Loaded.{Loaded, LoadedAt, fedAt, Top}
+use Rattle.bit_reader.specs.Loaded.{Ahead, Loaded, LoadedAt, fedAt, Top}
 use Rattle.bit_reader.specs.declared.buffer.Buffer.{Buffer}
 use Rattle.bit_reader.specs.declared.buffer.Fed.{Fed}
 use Rattle.bit_reader.specs.declared.buffer.Fed.the-variants.{On, End}
 use Rattle.codes.specs.Eols.{eolsOf, skipOf}
+use Rattle.codes.specs.Fronts.{Fronted}
 use Rattle.codes.specs.Modes.{modeOf}
 use Rattle.codes.specs.Plain.{foundOf}
 use Rattle.codes.specs.Runs.{RunRead, codeOf}
@@ -35,6 +36,7 @@ use Rattle.codes.specs.declared.run.Run.{Run}
 use Rattle.codes.specs.declared.run.Run.the-variants.{Length, Bad}
 use Rattle.context.specs.State.{Pushes}
 use Rattle.context.specs.Outcome.{Steps}
+use Rattle.context.specs.Places.{B1At}
 use Rattle.context.specs.Reference.{Finds}
 use Rattle.context.specs.Coding.{StepsAt}
 use Rattle.one_line.specs.OneCode.{OneCoded}
@@ -54,6 +56,10 @@ CodePinned = (c : Rule.Code) → OneAnswer (λ (r : Code). SameBits r c)
 
 abbrev pub Peek13Pinned : Type 0
 Peek13Pinned = (bs : List Bool) → OneAnswer (Thirteen bs)
+
+-- ahead: the bits up to the end of a byte, 57 of them at least, above zeros
+abbrev pub AheadPinned : Type 0
+AheadPinned = (bytes : List ℕ) (at live : ℕ) → OneAnswer (Ahead bytes at live)
 
 -- top13, of a buffer that holds data
 abbrev pub Top13Pinned : Type 0
@@ -99,9 +105,17 @@ ReadRunPinned =
     → RunRead colour bytes (c .at) s
     → AlikeRuns r s
 
+-- front_run: with no pixels and no bits too, where there is no such run
+abbrev pub FrontRunPinned : Type 0
+FrontRunPinned = (table : List ℕ) (first bits : ℕ) → OneAnswer (Fronted table first bits)
+
 -- plain::read_code: the run, or the error, and how many bits were taken
 abbrev pub ReadCodePinned : Type 0
 ReadCodePinned = (colour : Colour) (bytes : List ℕ) (at : ℕ) → OneAnswer (λ (r : Plain.Found). foundOf r ≡ plain colour (drop at (bitsOf bytes)))
+
+-- run::look_up: the same
+abbrev pub LookUpPinned : Type 0
+LookUpPinned = (colour : Colour) (bytes : List ℕ) (at : ℕ) → OneAnswer (λ (r : Plain.Found). foundOf r ≡ byLookup colour (drop at (bitsOf bytes)))
 
 -- plain::read_run, from a bit
 abbrev pub ReadRunPlainPinned : Type 0
@@ -138,6 +152,10 @@ FindPinned =
     → Finds reference width position colour r
     → Finds reference width position colour s
     → (r .b1 ≡ s .b1) × (r .b2 ≡ s .b2)
+
+-- b1_from: the place of b1
+abbrev pub B1FromPinned : Type 0
+B1FromPinned = (reference : List ℕ) (position colour : ℕ) → OneAnswer (B1At reference position colour)
 
 -- runs, decode_1d_line and once::end_run, each with its own outcome of the rules
 abbrev pub StepsPinned : Type 0

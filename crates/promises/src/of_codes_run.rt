@@ -1,11 +1,15 @@
 // Calls of the public functions of codes::run, each with the contract that its promises are about.
 use bit_reader::buffer::Buffer;
+use codes::plain::Found;
 use codes::run::Code;
 use codes::run::Run;
 ghost use mathlib.Core.Path.{_≡_};
+ghost use lib.ListN.{drop};
 ghost use Rattle.rules.specs.Bits.{bitsOf};
+ghost use Rattle.rules.specs.Plain.{byLookup};
 ghost use Rattle.rules.specs.Runs.{sum, runStep};
 ghost use Rattle.tables.specs.Tables.{colourOf};
+ghost use Rattle.codes.specs.Plain.{foundOf};
 ghost use Rattle.codes.specs.Runs.{Reading, RunRead, CodeFrom, codeOf};
 
 pub fn read_run<'a>(
@@ -33,4 +37,17 @@ pub fn read_code<'a>(
     ensures { λ r. ⌜ codeOf r ≡ runStep (colourOf colour) (bitsOf (now (src .entry))) (sum at total) ⌝ }
 {
     codes::run::read_code(white, black, colour, src, at, total)
+}
+
+pub fn look_up<'a>(
+    white: &'a [u16; 8192],
+    black: &'a [u16; 8192],
+    colour: usize,
+    src: &[u8],
+    at: usize,
+) -> Found
+    requires { ⌜ CodeFrom (now white) (now black) (now src) at ⌝ }
+    ensures { λ r. ⌜ foundOf r ≡ byLookup (colourOf colour) (drop at (bitsOf (now (src .entry)))) ⌝ }
+{
+    codes::run::look_up(white, black, colour, src, at)
 }

@@ -4,7 +4,7 @@ use exports::UnitAnswer;
 use heads::HeadsAnswer;
 ghost use Rattle.rows.specs.declared.EncodingMode.the-variants.{Group4, «Group3_1D», «Group3_2D»};
 ghost use Rattle.ccitt.specs.Decode.{Decodes};
-ghost use Rattle.context.specs.OneLine.{ReadOne};
+ghost use Rattle.one_line.specs.OneLine.{ReadOne};
 ghost use Rattle.rules.specs.Write.{mostMakeup, writeLine, writePage};
 ghost use Rattle.rules.specs.WriteGroup3.{write1D, write2D};
 ghost use Rattle.writer.specs.Outcome.{Answers};

@@ -11,13 +11,13 @@ ghost use Rattle.tables.specs.Tables.{colourOf, rows, SameBits, Lookups, Termin
 pub fn white_lookup() -> [u16; 8192]
     ensures { λ r. ⌜ r ≡ lookupTable white ⌝ }
 {
-    tables::white_lookup()
+    lookups::white_lookup()
 }
 
 pub fn black_lookup() -> [u16; 8192]
     ensures { λ r. ⌜ r ≡ lookupTable black ⌝ }
 {
-    tables::black_lookup()
+    lookups::black_lookup()
 }
 
 pub fn pair_lookup() -> [u16; 2048]

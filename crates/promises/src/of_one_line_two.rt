@@ -1,7 +1,7 @@
-// Calls of the public functions of context::two, each with the contract that its promises are about.
+// Calls of the public functions of one_line::two, each with the contract that its promises are about.
+use context::reference::Reference;
 use context::step::Rules;
 use context::step::Step;
-use context::two::Reference;
 ghost use Rattle.context.specs.Coding.{Lines, Lined};
 
 pub fn decode_2d_line<'a>(
@@ -19,7 +19,7 @@ pub fn decode_2d_line<'a>(
     requires { ⌜ Lines (now white) (now black) (now src) (now reference) (now changes) base place width start ⌝ }
     ensures { λ r. ⌜ Lined (now (src .entry)) (now (reference .entry)) (now (changes .entry)) base place width start rules r (now (changes .exit)) ⌝ }
 {
-    context::two::decode_2d_line(
+    one_line::two::decode_2d_line(
         white,
         black,
         src,

@@ -1,6 +1,6 @@
-// Calls of the public functions of context::read, each with the contract that its promises are about.
+// Calls of the public functions of one_line::read, each with the contract that its promises are about.
 use error::Answer;
-ghost use Rattle.context.specs.OneLine.{ReadOne};
+ghost use Rattle.one_line.specs.OneLine.{ReadOne};
 
 pub fn read_line(
     src: &[u8],
@@ -12,5 +12,5 @@ pub fn read_line(
 ) -> Answer
     ensures { λ r. ⌜ ReadOne (now (src .entry)) at columns strict (now (reference .entry)) (now (changes .entry)) r (now (changes .exit)) ⌝ }
 {
-    context::read::read_line(src, at, columns, strict, reference, changes)
+    one_line::read::read_line(src, at, columns, strict, reference, changes)
 }

@@ -1,4 +1,4 @@
-// Calls of the public functions of context::runs, each with the contract that its promises are about.
+// Calls of the public functions of one_line::runs, each with the contract that its promises are about.
 use context::line::Line;
 use context::step::Rules;
 use context::step::Step;
@@ -22,7 +22,7 @@ pub fn runs<'a>(
     requires { ⌜ Reads (now white) (now black) (now src) (now changes) start at ⌝ }
     ensures { λ r. ⌜ Runs (now (src .entry)) (now (changes .entry)) two start at rules r (now (changes .exit)) ⌝ }
 {
-    context::runs::runs(white, black, src, changes, two, start, at, rules)
+    one_line::runs::runs(white, black, src, changes, two, start, at, rules)
 }
 
 pub fn decode_1d_line<'a>(
@@ -38,5 +38,5 @@ pub fn decode_1d_line<'a>(
     requires { ⌜ Starts (now white) (now black) (now src) width at × (now both ≡ pairTable) ⌝ }
     ensures { λ r. ⌜ Steps width (now (changes .entry)) (readLine (rulesFor width rules (now (changes .entry))) one (bitsOf (now (src .entry))) at) r (now (changes .exit)) ⌝ }
 {
-    context::runs::decode_1d_line(white, black, both, src, changes, width, at, rules)
+    one_line::runs::decode_1d_line(white, black, both, src, changes, width, at, rules)
 }

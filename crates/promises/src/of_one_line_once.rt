@@ -1,9 +1,9 @@
-// Calls of the public functions of context::once, each with the contract that its promises are about.
+// Calls of the public functions of one_line::once, each with the contract that its promises are about.
 use codes::run::Code;
 use context::line::Line;
-use context::once::OneCode;
 use context::step::Rules;
 use context::step::Step;
+use one_line::once::OneCode;
 ghost use mathlib.Core.Path.{_≡_};
 ghost use mathlib.Core.Bool.{_&&_};
 ghost use Rattle.rules.specs.Bits.{bitsOf};
@@ -12,7 +12,7 @@ ghost use Rattle.tables.specs.Tables.{colourOf};
 ghost use Rattle.codes.specs.Runs.{CodeFrom, codeOf};
 ghost use Rattle.context.specs.State.{Holds};
 ghost use Rattle.context.specs.Coding.{unlessIdleFor};
-ghost use Rattle.context.specs.OneCode.{OneCoding, OneCoded, RunEnded};
+ghost use Rattle.one_line.specs.OneCode.{OneCoding, OneCoded, RunEnded};
 
 pub fn mode_code(
     src: &[u8],
@@ -26,7 +26,7 @@ pub fn mode_code(
     requires { ⌜ OneCoding (now src) (now changes) line at b2 ⌝ }
     ensures { λ r. ⌜ OneCoded (now (src .entry)) (now (changes .entry)) line at b1 b2 rules r (now (changes .exit)) ⌝ }
 {
-    context::once::mode_code(src, changes, line, at, b1, b2, rules)
+    one_line::once::mode_code(src, changes, line, at, b1, b2, rules)
 }
 
 pub fn run_code<'a>(
@@ -41,7 +41,7 @@ pub fn run_code<'a>(
     requires { ⌜ CodeFrom (now white) (now black) (now src) at ⌝ }
     ensures { λ r. ⌜ codeOf r ≡ runStep (colourOf colour) (bitsOf (now (src .entry))) (sum at total) ⌝ }
 {
-    context::once::run_code(white, black, colour, src, at, total, plain)
+    one_line::once::run_code(white, black, colour, src, at, total, plain)
 }
 
 pub fn end_run(
@@ -55,11 +55,11 @@ pub fn end_run(
     requires { ⌜ Holds (now changes) line ⌝ }
     ensures { λ r. ⌜ RunEnded (now (changes .entry)) line pixels from next rules r (now (changes .exit)) ⌝ }
 {
-    context::once::end_run(changes, line, pixels, from, next, rules)
+    one_line::once::end_run(changes, line, pixels, from, next, rules)
 }
 
 pub fn unless_unmoved(step: Step, line: Line, at: usize, blank: bool, exact: bool) -> Step
     ensures { λ r. ⌜ r ≡ unlessIdleFor step line at (blank && exact) ⌝ }
 {
-    context::once::unless_unmoved(step, line, at, blank, exact)
+    one_line::once::unless_unmoved(step, line, at, blank, exact)
 }

@@ -1,0 +1,48 @@
+// Calls of the public functions of swift_loops, each with the contract that its promises are about.
+use context::line::Line;
+use swift_loops::pairs::Halt;
+use swift_loops::swift::Stand;
+ghost use mathlib.Core.Path.{_≡_};
+ghost use Prim.Native.Nat.{_-_};
+ghost use lib.ListN.{length};
+ghost use Rattle.rules.specs.Bits.{bitsOf};
+ghost use Rattle.swift_loops.specs.Pairs.{haltLine, startAt, Ran, Pairing};
+ghost use Rattle.swift_loops.specs.Swift.{keptIn, Walks, Walked};
+
+pub fn line_of(width: u32, s: Halt) -> Line
+    ensures { λ r. ⌜ r ≡ haltLine width s ⌝ }
+{
+    swift_loops::pairs::line_of(width, s)
+}
+
+pub fn pairs<'a>(
+    white: &'a [u16; 8192],
+    black: &'a [u16; 8192],
+    both: &'a [u16; 2048],
+    src: &[u8],
+    row: &mut [u32],
+    width: u32,
+    at: usize,
+    plain: bool,
+) -> Halt
+    requires { ⌜ Pairing (now white) (now black) (now both) (now src) width at ⌝ }
+    ensures { λ r. ⌜ Ran (bitsOf (now (src .entry))) (length (now (row .entry))) width (now (row .entry)) (startAt at) (now (row .exit)) r ⌝ }
+{
+    swift_loops::pairs::pairs(white, black, both, src, row, width, at, plain)
+}
+
+pub fn swift_codes<'a>(
+    white: &'a [u16; 8192],
+    black: &'a [u16; 8192],
+    src: &[u8],
+    changes: &mut [u32],
+    start: usize,
+    base: usize,
+    width: u32,
+    from: Stand,
+) -> Stand
+    requires { ⌜ Walks (now white) (now black) (now src) (now changes) start base width from ⌝ }
+    ensures { λ r. ⌜ Walked (keptIn start base (now (changes .entry))) (bitsOf (now (src .entry))) base (length (now (changes .entry)) - base) width (now (changes .entry)) from (now (changes .exit)) r ⌝ }
+{
+    swift_loops::swift::swift_codes(white, black, src, changes, start, base, width, from)
+}
