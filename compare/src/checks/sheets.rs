@@ -119,7 +119,7 @@ const fn wide(columns: u32) -> Settings {
 
 /// In the order of docs/DIFFERENCES.md.
 #[rustfmt::skip]
-const PARTINGS: [Sheet; 27] = [
+const PARTINGS: [Sheet; 32] = [
     white(wide(128), &[0xDE, 0xCD, 0x40], answer(0, 1, 0, 0, 3), &[0]),
     white(wide(2624), &[0xD8, 0x0F, 0x9A, 0x80], answer(0, 1, 0, 0, 4), &[0]),
     white(one_d(1, true), &[0x00, 0xF0], fault(1, 0, 0), &[]),
@@ -143,16 +143,45 @@ const PARTINGS: [Sheet; 27] = [
     white(aligned(group4(8, 2, true)), &[0x80, 0x80], answer(0, 2, 0, 0, 2), &[0; 2]),
     white(with_end(group4(8, 0, true)), &[0x80, 0x08, 0x00, 0x80, 0xFF], answer(0, 1, 0, 0, 4), &[0]),
     white(group4(8, 1, true), &[0xFF], answer(0, 1, 0, 0, 1), &[0]),
+    white(with_end(group4(8, 0, true)), &[0x80, 0x01, 0x00, 0x10], answer(0, 1, 0, 0, 4), &[0]),
+    white(with_end(group4(8, 0, true)), &[0x80, 0x08, 0x00, 0x10], answer(0, 1, 0, 0, 4), &[0]),
     white(one_d(1, true), &[0x98], answer(0, 1, 0, 0, 1), &[0]),
+    white(one_d(3, true), &[0x98, 0x00, 0xCE, 0x60], answer(0, 3, 0, 0, 4), &[0; 3]),
     white(with_end(one_d(2, true)), &[0x00, 0x19, 0x80, 0x08, 0x00, 0xCC], answer(0, 2, 0, 0, 6), &[0; 2]),
     white(with_end(one_d(0, true)), &[0x00, 0x19, 0x80, 0x01], answer(0, 1, 0, 0, 4), &[0]),
     white(with_end(one_d(0, true)), &[0x00, 0x19, 0x80, 0x08, 0x00, 0x80, 0x08, 0x00, 0x80, 0x08, 0x00, 0x80, 0x08], answer(0, 1, 0, 0, 13), &[0]),
     white(with_end(one_d(0, true)), &[0x00, 0x19, 0x80, 0x08, 0x00, 0x80, 0x08, 0x00, 0x80, 0x08, 0x00, 0x80, 0xFF], answer(0, 1, 0, 0, 12), &[0]),
     white(with_end(one_d(0, true)), &[0x00, 0x10, 0x01, 0x00, 0x10, 0x01, 0x00, 0x10, 0x01], fault(2, 0, 72), &[]),
+    white(one_d(2, true), &[0x00, 0x19, 0x80, 0x08, 0x00, 0x80, 0x08, 0x00, 0x80, 0x08, 0x00, 0xCC], answer(0, 2, 0, 0, 12), &[0; 2]),
     white(aligned(one_d(2, true)), &[0x98, 0x98], answer(0, 2, 0, 0, 2), &[0; 2]),
     white(one_d(1, true), &[0x00, 0x00, 0x00, 0x00, 0x01, 0x98], answer(0, 1, 0, 0, 6), &[0]),
     white(two_d(0), &[0x55], answer(0, 4, 0, 0, 1), &[0; 4]),
     white(with_end(two_d(0)), &[0x00, 0x1C, 0xC0, 0x04, 0x00, 0x40, 0x04, 0x00, 0x40, 0x04, 0x00, 0x40], answer(0, 1, 0, 0, 12), &[0]),
+    white(with_end(two_d(0)), TAGGED_RTC, fault(1, 0, 13), &[]),
+];
+
+/// Six times EOL and a one.
+const TAGGED_RTC: &[u8] = &[0x00, 0x18, 0x00, 0xC0, 0x06, 0x00, 0x30, 0x01, 0x80, 0x0C];
+
+const fn lenient(settings: Settings) -> Settings {
+    Settings { strict: false, ..settings }
+}
+
+/// What lenient reading does that the standard has not: too many pixels; a line that fails; bits before an EOL; a line that is read again
+/// under another row; and an RTC alone.
+#[rustfmt::skip]
+const LENIENT: [Sheet; 5] = [
+    white(one_d(1, false), &[0xA0], answer(0, 1, 0, 0, 1), &[1]),
+    Sheet {
+        settings: one_d(2, false), exact: false, src: &[0x00, 0x18, 0xC0, 0x06, 0x60], room: PLENTY,
+        answer: answer(0, 2, 2, 0, 5), changes: &[3, 5], ends: &[2, 2], marks: &[2, 0],
+    },
+    white(one_d(2, false), &[0x00, 0x19, 0xA8, 0x00, 0xCC], answer(0, 2, 0, 0, 5), &[0; 2]),
+    Sheet {
+        settings: lenient(two_d(3)), exact: false, src: &[0x00, 0x1C, 0x70, 0x00, 0x28], room: PLENTY,
+        answer: answer(0, 3, 2, 0, 5), changes: &[3, 5], ends: &[2, 2, 2], marks: &[0, 2, 0],
+    },
+    white(lenient(with_end(two_d(0))), TAGGED_RTC, fault(2, 2, 78), &[2, 2]),
 ];
 
 /// One for each clause of A7, but for the sum that passes the limit (long_runs.rs) and a start past the data (limits.rs).
@@ -221,7 +250,7 @@ const EXACT: [Sheet; 16] = [
 
 /// Every page that is listed above.
 fn pages() -> impl Iterator<Item = &'static Sheet> {
-    SHEETS.iter().chain(&PARTINGS).chain(&PLACES).chain(&EXACT)
+    SHEETS.iter().chain(&PARTINGS).chain(&LENIENT).chain(&PLACES).chain(&EXACT)
 }
 
 pub struct Sheets;

@@ -1,10 +1,12 @@
 // The sheets on the wall that are run (the others are proved), the inputs where the crate, and so this work, parts from the standard
-// (docs/DIFFERENCES.md), and one input for each clause of A7 (places.rt) and of A12 (exact.rt), pages by both engines (engines.rt), and pages with a bad line or cut (bad_lines.rt): what reading each of them answers. A line has the sheet's name;
+// (docs/DIFFERENCES.md; lenient.rt has those of lenient reading), and one input for each clause of A7 (places.rt) and of A12 (exact.rt), pages by both
+// engines (engines.rt), and pages with a bad line or cut (bad_lines.rt): what reading each of them answers. A line has the sheet's name;
 // number, rows, entries, loose entries, bytes and place; the mark of the first row, or 3 where none was stored; and the changes, those of
 // kept rows first. Behind them the booking forms of examples/ (parties.rt).
 mod bad_lines;
 mod engines;
 mod exact;
+mod lenient;
 mod parties;
 mod places;
 
@@ -276,11 +278,20 @@ fn group4_partings() {
     group4_parting(b"aligned Group 4", b"\x80\x80", 2, false, true);
     group4_parting(b"bits behind EOFB", b"\x80\x08\x00\x80\xFF", 0, true, false);
     group4_parting(b"bits behind the rows", b"\xFF", 1, false, false);
+    group4_parting(b"fill before EOFB", b"\x80\x01\x00\x10", 0, true, false);
+    group4_parting(b"fill in EOFB", b"\x80\x08\x00\x10", 0, true, false);
 }
 
-// The same of a Group 3 page.
+// What stands between the lines of a Group 3 page.
 fn group3_partings() {
     group3_parting(b"no EOL", b"\x98", 1, false, false);
+    group3_parting(
+        b"EOLs behind some lines",
+        b"\x98\x00\xCE\x60",
+        3,
+        false,
+        false,
+    );
     group3_parting(
         b"two EOLs in a row",
         b"\x00\x19\x80\x08\x00\xCC",
@@ -288,6 +299,19 @@ fn group3_partings() {
         true,
         false,
     );
+    group3_parting(b"aligned Group 3", b"\x98\x98", 2, false, true);
+    group3_parting(
+        b"fill before the page",
+        b"\x00\x00\x00\x00\x01\x98",
+        1,
+        false,
+        false,
+    );
+    group3_2d_parting(b"2D lines alone", b"\x55", 0, false);
+}
+
+// What stands at its end.
+fn group3_ends() {
     group3_parting(b"no RTC", b"\x00\x19\x80\x01", 0, true, false);
     group3_parting(
         b"seven EOLs as RTC",
@@ -310,18 +334,26 @@ fn group3_partings() {
         true,
         false,
     );
-    group3_parting(b"aligned Group 3", b"\x98\x98", 2, false, true);
     group3_parting(
-        b"fill before the page",
-        b"\x00\x00\x00\x00\x01\x98",
-        1,
+        b"RTC without end_of_block",
+        b"\x00\x19\x80\x08\x00\x80\x08\x00\x80\x08\x00\xCC",
+        2,
         false,
         false,
     );
-    group3_2d_parting(b"2D lines alone", b"\x55", 0, false);
+}
+
+// The same with tag bits.
+fn ends_with_tags() {
     group3_2d_parting(
         b"RTC without tags",
         b"\x00\x1C\xC0\x04\x00\x40\x04\x00\x40\x04\x00\x40",
+        0,
+        true,
+    );
+    group3_2d_parting(
+        b"RTC alone in 2D",
+        b"\x00\x18\x00\xC0\x06\x00\x30\x01\x80\x0C",
         0,
         true,
     );
@@ -333,6 +365,10 @@ fn main() {
     code_partings();
     group4_partings();
     group3_partings();
+    group3_ends();
+    ends_with_tags();
+    lenient::pages();
+    lenient::with_tags();
     places::in_group4();
     places::in_group3();
     places::of_a_line();
