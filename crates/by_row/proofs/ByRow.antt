@@ -22,12 +22,12 @@ use Rattle.rules.proofs.Budget.{whole-bytes}
 use Rattle.rules.proofs.ByRow.{Bounded, row-bounded}
 use Rattle.tables.specs.Tables.{Lookups}
 use Rattle.context.specs.declared.reference.Reference.the-variants.{Lent}
-use Rattle.rows.specs.declared.DecodeSettings.{DecodeSettings}
-use Rattle.rows.specs.declared.State.{State}
-use Rattle.rows.specs.declared.Row.{Row}
-use Rattle.rows.specs.declared.Row.the-variants.{Kept, Stop}
-use Rattle.rows.specs.Settings.{settingsOf}
-use Rattle.rows.specs.Between.{stateOf, rowFor, changesIn, RowFrom}
+use Rattle.settings.specs.declared.DecodeSettings.{DecodeSettings}
+use Rattle.settings.specs.declared.State.{State}
+use Rattle.settings.specs.declared.Row.{Row}
+use Rattle.settings.specs.declared.Row.the-variants.{Kept, Stop}
+use Rattle.settings.specs.Settings.{settingsOf}
+use Rattle.settings.specs.Between.{stateOf, rowFor, changesIn, RowFrom}
 use Rattle.ccitt.specs.Decode.{Rowed, strictFor}
 use Rattle.ccitt.specs.Ends.{Allowed}
 use Rattle.ccitt.proofs.Ends.{short-allowed}

@@ -10,9 +10,9 @@ use Rattle.rules.specs.Pages.{mostBytes, ascends}
 use Rattle.rules.specs.InSteps.{Said, says, saysOnly, moreToCome}
 use Rattle.rules.specs.ByRow as Rule
 use Rattle.rules.specs.ByRow.{Arrays, unended, ended, gives, tested}
-use Rattle.error.specs.declared.Answer.{Answer}
-use Rattle.rows.specs.declared.DecodeSettings.{DecodeSettings}
-use Rattle.rows.specs.Settings.{settingsOf}
+use Rattle.answer.specs.declared.Answer.{Answer}
+use Rattle.settings.specs.declared.DecodeSettings.{DecodeSettings}
+use Rattle.settings.specs.Settings.{settingsOf}
 use Rattle.by_row.specs.declared.Side.{Side}
 use Rattle.by_row.specs.declared.Side.the-variants.{First, Second}
 use Rattle.by_row.specs.declared.End.{End}

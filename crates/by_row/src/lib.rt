@@ -1,17 +1,17 @@
 // The row form (02, A1): one row a call, into one of two lent line arrays, under the row that the call before it left in the other. The same
 // two arrays are lent in the same order at each call, and the state is handed back as left.
+use answer::Answer;
 use context::reference;
 use context::reference::Reference;
-use error::Answer;
-use rows::DecodeSettings;
-use rows::Row;
-use rows::State;
+use settings::DecodeSettings;
+use settings::Row;
+use settings::State;
 ghost use mathlib.Core.Path.{_≡_};
 ghost use Prim.Native.Nat.{_≤_};
 ghost use Rattle.rules.specs.Pages.{mostBytes};
 ghost use Rattle.rules.specs.ByRow.{ended, rowStart};
 ghost use Rattle.tables.specs.Pairs.{pairTable};
-ghost use Rattle.rows.specs.Between.{RowFrom};
+ghost use Rattle.settings.specs.Between.{RowFrom};
 ghost use Rattle.ccitt.specs.Decode.{Rowed};
 ghost use Rattle.ccitt.specs.Ends.{Allowed};
 ghost use Rattle.by_row.specs.ByRow.{otherSide, endOf, Ending, rowStateOf, toldFor, saidFor, refusedFor, noneFor, soundFor, Grows, givenFor, Ends, NextFrom, Next, Tested, ReadsRow};
@@ -112,7 +112,7 @@ fn said(number: u32, place: usize, bytes: usize, loose: usize, state: RowState) 
 fn refused(number: u32, state: RowState) -> RowStep
     ensures { λ r. ⌜ r ≡ refusedFor number state ⌝ }
 {
-    told(error::refusal(number), 0, state)
+    told(answer::refusal(number), 0, state)
 }
 
 // No columns, no rows: also where rows were given under another width.

@@ -31,14 +31,14 @@ use Rattle.rules.proofs.Ascending.{rises-wider}
 use Rattle.rules.specs.Rising as Rising
 use Rattle.rules.proofs.Bits.{length-bitsOf}
 use Rattle.rules.proofs.Budget.{whole-bytes, aligned-ahead}
-use Rattle.error.specs.declared.Answer.{Answer}
+use Rattle.answer.specs.declared.Answer.{Answer}
 use Rattle.codes.specs.declared.eol.Eols.{Eols}
 use Rattle.codes.specs.Eols.{eolsOf}
 use Rattle.context.specs.declared.line.Line.{Line}
 use Rattle.context.specs.State.{lineAt, newFor, flagOf}
 use Rattle.context.proofs.Search.{passed-none}
-use Rattle.rows.specs.declared.DecodeSettings.{DecodeSettings}
-use Rattle.rows.specs.Settings.{settingsOf}
+use Rattle.settings.specs.declared.DecodeSettings.{DecodeSettings}
+use Rattle.settings.specs.Settings.{settingsOf}
 use Rattle.by_unit.specs.declared.stand.Stand.{Stand}
 use Rattle.by_unit.specs.declared.stand.Stand.the-variants.{Between, InLine, InRun}
 use Rattle.by_unit.specs.declared.stand.Kept.{Kept}

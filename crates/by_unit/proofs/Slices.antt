@@ -19,8 +19,8 @@ use Rattle.rules.proofs.Bits.{length-bitsOf}
 use Rattle.rules.proofs.Grows.{Grows, GrowsTo, code2D-grows, afterRun-grows}
 use Rattle.rules.proofs.Lines.{moves}
 use Rattle.tables.specs.Tables.{colourOf}
-use Rattle.error.specs.Error.{numberOf}
-use Rattle.error.specs.declared.DecodeError.{DecodeError}
+use Rattle.answer.specs.Answer.{numberOf}
+use Rattle.answer.specs.declared.DecodeError.{DecodeError}
 use Rattle.codes.specs.declared.eol.Eols.{Eols}
 use Rattle.codes.specs.declared.run.Code.{Code}
 use Rattle.codes.specs.declared.run.Code.the-variants as Code
@@ -29,8 +29,8 @@ use Rattle.context.specs.declared.line.Line.{Line}
 use Rattle.context.specs.declared.reference.Found.{Found}
 use Rattle.context.specs.declared.step.Step.{Step}
 use Rattle.context.specs.declared.step.Step.the-variants as Step
-use Rattle.one_line.specs.declared.once.OneCode.{OneCode}
-use Rattle.one_line.specs.declared.once.OneCode.the-variants.{Runs, Did}
+use Rattle.one_line.specs.declared.one_code.OneCode.{OneCode}
+use Rattle.one_line.specs.declared.one_code.OneCode.the-variants.{Runs, Did}
 use Rattle.context.specs.State.{lineAt, rulesFor, flagNumber, Holds}
 use Rattle.context.specs.Outcome.{stepFor, Steps}
 use Rattle.context.specs.Reference.{Searches, Finds}
@@ -38,7 +38,7 @@ use Rattle.context.specs.Coding.{unlessIdleFor}
 use Rattle.one_line.specs.OneCode.{OneCoding, OneCoded, RunEnded}
 use Rattle.context.proofs.Carried.{step-on}
 use Rattle.context.proofs.RowPart.{row-lent, row-back}
-use Rattle.rows.specs.declared.DecodeSettings.{DecodeSettings}
+use Rattle.settings.specs.declared.DecodeSettings.{DecodeSettings}
 use Rattle.by_unit.specs.declared.stand.Half.{Half}
 use Rattle.by_unit.specs.declared.stand.Half.the-variants.{First, Second}
 use Rattle.by_unit.specs.declared.stand.Stand.{Stand}

@@ -29,7 +29,7 @@ use Rattle.context.specs.declared.line.Line.{Line}
 use Rattle.context.specs.State.{flagOf, flagNumber, lineAt, Holds}
 use Rattle.context.proofs.State.{flag-number}
 use Rattle.context.proofs.Search.{passed-none}
-use Rattle.rows.specs.declared.DecodeSettings.{DecodeSettings}
+use Rattle.settings.specs.declared.DecodeSettings.{DecodeSettings}
 use Rattle.ccitt.specs.Ends.{Allowed}
 use Rattle.by_unit.specs.declared.Phase.{Phase}
 use Rattle.by_unit.specs.declared.Phase.the-variants as Phase

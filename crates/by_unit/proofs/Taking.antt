@@ -18,9 +18,9 @@ use Rattle.rules.proofs.Store.{entries-append}
 use Rattle.rules.proofs.Paced.{Steps, here, there, steps-add, steps-run, steps-over}
 use Rattle.rules.proofs.Frame.{unit-frame}
 use Rattle.rules.proofs.Turns.{InvOut, inv-settle, inv-unit, size-unit}
-use Rattle.error.specs.declared.Answer.{Answer}
-use Rattle.rows.specs.declared.DecodeSettings.{DecodeSettings}
-use Rattle.rows.specs.Settings.{settingsOf}
+use Rattle.answer.specs.declared.Answer.{Answer}
+use Rattle.settings.specs.declared.DecodeSettings.{DecodeSettings}
+use Rattle.settings.specs.Settings.{settingsOf}
 use Rattle.by_unit.specs.declared.stand.Stand.{Stand}
 use Rattle.by_unit.specs.declared.stand.Stand.the-variants.{Between, InLine, InRun}
 use Rattle.by_unit.specs.declared.stand.Kept.{Kept}

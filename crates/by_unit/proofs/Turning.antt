@@ -18,10 +18,10 @@ use Rattle.rules.specs.Units as Units
 use Rattle.rules.specs.Units.{Going, call, taken}
 use Rattle.rules.specs.ByUnit as ByUnit
 use Rattle.rules.specs.ByUnit.{endOf, goingOf, savedAt, saidBehind, unlessFewer, opened, ended, turnOf, asGroup4, still, readOn, turnOn, turn}
-use Rattle.error.specs.declared.Answer.{Answer}
-use Rattle.error.specs.Error as Error
-use Rattle.rows.specs.declared.DecodeSettings.{DecodeSettings}
-use Rattle.rows.specs.Settings.{settingsOf}
+use Rattle.answer.specs.declared.Answer.{Answer}
+use Rattle.answer.specs.Answer as Error
+use Rattle.settings.specs.declared.DecodeSettings.{DecodeSettings}
+use Rattle.settings.specs.Settings.{settingsOf}
 use Rattle.ccitt.specs.Ends.{Allowed}
 use Rattle.ccitt.proofs.Ends.{short-allowed}
 use Rattle.by_unit.specs.declared.Saved.{Saved}

@@ -50,8 +50,8 @@ use Rattle.context.proofs.State.{line-for}
 use Rattle.context.proofs.Carried.{Carries, carries-new, carries-holds, carries-line}
 use Rattle.context.proofs.RowPart.{reference-same}
 use Rattle.context.proofs.Search.{right-grows, passed-on}
-use Rattle.rows.specs.declared.DecodeSettings.{DecodeSettings}
-use Rattle.rows.specs.Settings.{settingsOf}
+use Rattle.settings.specs.declared.DecodeSettings.{DecodeSettings}
+use Rattle.settings.specs.Settings.{settingsOf}
 use Rattle.by_unit.specs.declared.stand.Half.{Half}
 use Rattle.by_unit.specs.declared.stand.Half.the-variants.{First, Second}
 use Rattle.by_unit.specs.declared.stand.Stand.the-variants.{InLine, InRun}

@@ -14,8 +14,8 @@ use Rattle.context.specs.declared.step.Rules.{Rules}
 use Rattle.context.specs.declared.step.Step.{Step}
 use Rattle.context.specs.declared.step.Step.the-variants as Step
 use Rattle.context.specs.Coding.{unlessIdleFor}
-use Rattle.rows.specs.declared.DecodeSettings.{DecodeSettings}
-use Rattle.rows.specs.Settings.{settingsOf}
+use Rattle.settings.specs.declared.DecodeSettings.{DecodeSettings}
+use Rattle.settings.specs.Settings.{settingsOf}
 use Rattle.by_unit.specs.declared.stand.Half.{Half}
 use Rattle.by_unit.specs.declared.stand.Half.the-variants.{First, Second}
 use Rattle.by_unit.specs.declared.stand.Stand.{Stand}

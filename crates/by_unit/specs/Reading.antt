@@ -11,13 +11,13 @@ use Rattle.rules.specs.Pages.{mostBytes, tooFew, ascends, placesIn}
 use Rattle.rules.specs.InSteps.{Said, says, moreToCome}
 use Rattle.rules.specs.ByUnit as Rule
 use Rattle.rules.specs.ByUnit.{atEols, atMode, atFirst, atSecond, endOf, part, opened, ended, asGroup4, turnOn, turn}
-use Rattle.error.specs.declared.Answer.{Answer}
+use Rattle.answer.specs.declared.Answer.{Answer}
 use Rattle.codes.specs.declared.eol.Eols.{Eols}
 use Rattle.context.specs.declared.line.Line.{Line}
 use Rattle.context.specs.State.{flagOf, flagNumber}
-use Rattle.rows.specs.declared.DecodeSettings.{DecodeSettings}
-use Rattle.rows.specs.declared.EncodingMode.the-variants.{Group4}
-use Rattle.rows.specs.Settings.{settingsOf}
+use Rattle.settings.specs.declared.DecodeSettings.{DecodeSettings}
+use Rattle.settings.specs.declared.EncodingMode.the-variants.{Group4}
+use Rattle.settings.specs.Settings.{settingsOf}
 use Rattle.by_unit.specs.declared.Phase.{Phase}
 use Rattle.by_unit.specs.declared.Phase.the-variants as Phase
 use Rattle.by_unit.specs.declared.Saved.{Saved}

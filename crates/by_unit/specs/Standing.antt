@@ -20,14 +20,14 @@ use Rattle.rules.specs.Units as Units
 use Rattle.rules.specs.Units.{first, second, between, inLine, inRun, Keeping, Going, going, soFar, nextEol, anew}
 use Rattle.rules.specs.ByUnit.{part, saidBehind, overlaidFrom}
 use Rattle.rules.specs.Rising.{Rising}
-use Rattle.error.specs.declared.Answer.{Answer}
+use Rattle.answer.specs.declared.Answer.{Answer}
 use Rattle.codes.specs.declared.eol.Eols.{Eols}
 use Rattle.codes.specs.Eols.{eolsOf}
 use Rattle.context.specs.declared.line.Line.{Line}
 use Rattle.context.specs.State.{lineAt, newFor, Holds}
 use Rattle.context.specs.Reference.{Passed}
-use Rattle.rows.specs.declared.DecodeSettings.{DecodeSettings}
-use Rattle.rows.specs.Settings.{settingsOf}
+use Rattle.settings.specs.declared.DecodeSettings.{DecodeSettings}
+use Rattle.settings.specs.Settings.{settingsOf}
 use Rattle.ccitt.specs.Ends.{Allowed}
 use Rattle.by_unit.specs.declared.stand.Half.{Half}
 use Rattle.by_unit.specs.declared.stand.Half.the-variants.{First, Second}

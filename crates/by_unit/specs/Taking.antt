@@ -7,8 +7,8 @@ use Rattle.rules.specs.Machine.{more}
 use Rattle.rules.specs.Bits.{bitsOf}
 use Rattle.rules.specs.Pages.{placesIn}
 use Rattle.rules.specs.Units.{call, taken}
-use Rattle.rows.specs.declared.DecodeSettings.{DecodeSettings}
-use Rattle.rows.specs.Settings.{settingsOf}
+use Rattle.settings.specs.declared.DecodeSettings.{DecodeSettings}
+use Rattle.settings.specs.Settings.{settingsOf}
 use Rattle.by_unit.specs.declared.stand.Stand.{Stand}
 use Rattle.by_unit.specs.declared.stand.Kept.{Kept}
 use Rattle.by_unit.specs.declared.take.Taken.{Taken}

@@ -7,9 +7,9 @@ mod unit;
 
 use crate::stand::Out;
 use crate::take::Taken;
-use error::Answer;
-use rows::DecodeSettings;
-use rows::EncodingMode;
+use answer::Answer;
+use settings::DecodeSettings;
+use settings::EncodingMode;
 ghost use mathlib.Core.Path.{_≡_};
 ghost use Rattle.rules.specs.InSteps.{says};
 ghost use Rattle.rules.specs.ByUnit.{opened, savedStart};
@@ -223,16 +223,16 @@ fn turn_on(
     ensures { λ r. ⌜ TurnsOn (now (src .entry)) settings (now (changes .entry)) (now (ends .entry)) (now (marks .entry)) saved n r (now (changes .exit)) (now (ends .exit)) (now (marks .exit)) ⌝ }
 {
     if settings.columns == 4294967295 {
-        return still(error::refusal(6), Reading::Open(saved));
+        return still(answer::refusal(6), Reading::Open(saved));
     }
     if 4294967296 < src.len() {
-        return still(error::refusal(7), Reading::Open(saved));
+        return still(answer::refusal(7), Reading::Open(saved));
     }
     if !state::is_sound(src.len(), settings.columns, changes, ends, marks, saved) {
-        return still(error::refusal(8), Reading::Open(saved));
+        return still(answer::refusal(8), Reading::Open(saved));
     }
     if settings.columns == 0 {
-        return ended(error::refusal(0), 0);
+        return ended(answer::refusal(0), 0);
     }
     let white = lookups::white_lookup();
     let black = lookups::black_lookup();
@@ -256,7 +256,7 @@ pub fn read_units(
     ensures { λ r. ⌜ ReadsUnits (now (src .entry)) settings (now (changes .entry)) (now (ends .entry)) (now (marks .entry)) reading n r (now (changes .exit)) (now (ends .exit)) (now (marks .exit)) ⌝ }
 {
     if n == 0 {
-        return still(error::refusal(10), reading);
+        return still(answer::refusal(10), reading);
     }
     match reading {
         Reading::Ended(end, counts) => still(answer_of(end, counts), Reading::Ended(end, counts)),

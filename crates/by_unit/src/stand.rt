@@ -1,12 +1,12 @@
 // Where a reading stands inside a call, and how a row or the page is closed: it costs no unit.
+use answer::Answer;
 use codes::eol;
 use codes::eol::Eols;
 use context::line;
 use context::line::Line;
 use context::reference::Reference;
-use error::Answer;
-use rows::DecodeSettings;
-use rows::State;
+use settings::DecodeSettings;
+use settings::State;
 ghost use mathlib.Core.Path.{_≡_};
 ghost use Prim.Native.Nat.{_≤_};
 ghost use Rattle.rules.specs.Pages.{mostBytes};
@@ -152,7 +152,7 @@ fn close_row(
     };
     let eols = Eols {
         count: 0,
-        at: rows::align_if(settings.rows_are_byte_aligned, at),
+        at: settings::align_if(settings.rows_are_byte_aligned, at),
     };
     between(src, settings, next, eols)
 }

@@ -4,7 +4,7 @@ use crate::stand::Kept;
 use crate::stand::Out;
 use crate::stand::Stand;
 use crate::unit;
-use rows::DecodeSettings;
+use settings::DecodeSettings;
 ghost use Rattle.tables.specs.Tables.{Lookups};
 ghost use Rattle.by_unit.specs.Taking.{TakeFrom, Takes};
 

@@ -11,9 +11,9 @@ use context::line::Line;
 use context::reference;
 use context::step::Rules;
 use context::step::Step;
-use one_line::once;
-use one_line::once::OneCode;
-use rows::DecodeSettings;
+use one_line::one_code;
+use one_line::one_code::OneCode;
+use settings::DecodeSettings;
 ghost use mathlib.Core.Path.{_≡_};
 ghost use Rattle.tables.specs.Tables.{Lookups};
 ghost use Rattle.bit_reader.specs.Loaded.{Loading};
@@ -99,7 +99,7 @@ fn mode_unit(
         line.colour,
     );
     let rules = rules_of(settings);
-    match once::mode_code(
+    match one_code::mode_code(
         src,
         &mut changes[base..],
         line,
@@ -149,7 +149,7 @@ fn after_run(
             }
         },
         Half::Second(mode, blank) => {
-            let tested = once::unless_unmoved(step, line, mode, blank, settings.exact);
+            let tested = one_code::unless_unmoved(step, line, mode, blank, settings.exact);
             after_code(src, settings, ends, marks, kept, tested, seen)
         }
     }
@@ -175,9 +175,9 @@ fn run_unit<'a>(
     ensures { λ r. ⌜ UnitGives (now (src .entry)) settings (now (changes .entry)) (now (ends .entry)) (now (marks .entry)) kept (Stand.InRun half line from total at) r (now (changes .exit)) (now (ends .exit)) (now (marks .exit)) ⌝ }
 {
     let colour = line.colour as usize;
-    match once::run_code(white, black, colour, src, at, total, settings.plain) {
+    match one_code::run_code(white, black, colour, src, at, total, settings.plain) {
         Code::Bad(e, place) => {
-            Out::Done(stand::said(error::number(e), place, 0, kept, line.changes))
+            Out::Done(stand::said(answer::number(e), place, 0, kept, line.changes))
         }
         Code::More(sum, next) => {
             Out::More(kept, Stand::InRun(half, line, from, sum, next), seen)
@@ -185,7 +185,7 @@ fn run_unit<'a>(
         Code::Last(sum, next) => {
             let base = kept.base;
             let rules = rules_of(settings);
-            let step = once::end_run(&mut changes[base..], line, sum, from, next, rules);
+            let step = one_code::end_run(&mut changes[base..], line, sum, from, next, rules);
             after_run(src, settings, ends, marks, kept, half, line, step, seen)
         }
     }

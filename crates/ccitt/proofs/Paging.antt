@@ -28,17 +28,17 @@ use Rattle.tables.specs.Tables.{Lookups}
 use Rattle.context.specs.declared.reference.Reference.{Reference}
 use Rattle.context.specs.declared.reference.Reference.the-variants as Reference
 use Rattle.context.specs.Coding.{Placed}
-use Rattle.error.specs.Error.{answerOf}
-use Rattle.error.specs.declared.Answer.{Answer}
-use Rattle.rows.specs.declared.DecodeSettings.{DecodeSettings}
-use Rattle.rows.specs.declared.State.{State}
-use Rattle.rows.specs.declared.Row.{Row}
-use Rattle.rows.specs.declared.Row.the-variants.{Kept, Stop}
-use Rattle.rows.specs.declared.EncodingMode.{EncodingMode}
-use Rattle.rows.specs.declared.EncodingMode.the-variants.{Group4, «Group3_1D», «Group3_2D»}
-use Rattle.rows.specs.Settings.{encodingOf, settingsOf}
+use Rattle.answer.specs.Answer.{answerOf}
+use Rattle.answer.specs.declared.Answer.{Answer}
+use Rattle.settings.specs.declared.DecodeSettings.{DecodeSettings}
+use Rattle.settings.specs.declared.State.{State}
+use Rattle.settings.specs.declared.Row.{Row}
+use Rattle.settings.specs.declared.Row.the-variants.{Kept, Stop}
+use Rattle.settings.specs.declared.EncodingMode.{EncodingMode}
+use Rattle.settings.specs.declared.EncodingMode.the-variants.{Group4, «Group3_1D», «Group3_2D»}
+use Rattle.settings.specs.Settings.{encodingOf, settingsOf}
 use Rattle.group3.specs.Tags.{taggingOf}
-use Rattle.rows.specs.Between.{stateOf, rowFor, changesIn, RowFrom, RowGives}
+use Rattle.settings.specs.Between.{stateOf, rowFor, changesIn, RowFrom, RowGives}
 use Rattle.ccitt.specs.Decode.{isGroup4, Rowed, counted, behindRow, Behind, PageFrom, Gives, Reads, strictFor, shortFor}
 
 -- ---- What an answer of the code says of the outcome

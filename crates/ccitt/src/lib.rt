@@ -1,17 +1,17 @@
 // The page form (`decode` of lib.rs): all three encodings, one loop, rows kept in lent arrays.
+use answer::Answer;
 use context::reference::Reference;
-use error::Answer;
-use rows::DecodeSettings;
-use rows::EncodingMode;
-use rows::Row;
-use rows::State;
+use settings::DecodeSettings;
+use settings::EncodingMode;
+use settings::Row;
+use settings::State;
 ghost use mathlib.Core.Path.{_≡_};
 ghost use mathlib.Core.List.{[]};
 ghost use Prim.Native.Nat.{min};
 ghost use Rattle.rules.specs.Pages.{tooFew};
 ghost use Rattle.tables.specs.Pairs.{pairTable};
-ghost use Rattle.rows.specs.Settings.{settingsOf};
-ghost use Rattle.rows.specs.Between.{RowFrom};
+ghost use Rattle.settings.specs.Settings.{settingsOf};
+ghost use Rattle.settings.specs.Between.{RowFrom};
 ghost use Rattle.ccitt.specs.Decode.{isGroup4, Rowed, counted, behindRow, Behind, PageFrom, Reads, strictFor, shortFor, Decodes};
 
 pub fn is_group4(settings: DecodeSettings) -> bool
@@ -197,13 +197,13 @@ pub fn decode(
     ensures { λ r. ⌜ Decodes (now (src .entry)) settings (now (changes .entry)) (now (ends .entry)) (now (marks .entry)) r (now (changes .exit)) (now (ends .exit)) (now (marks .exit)) ⌝ }
 {
     if settings.columns == 4294967295 {
-        return error::refusal(6);
+        return answer::refusal(6);
     }
     if 4294967296 < src.len() {
-        return error::refusal(7);
+        return answer::refusal(7);
     }
     if settings.columns == 0 {
-        return error::refusal(0);
+        return answer::refusal(0);
     }
     let white = lookups::white_lookup();
     let black = lookups::black_lookup();

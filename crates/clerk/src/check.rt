@@ -3,9 +3,9 @@ use crate::lines;
 use crate::room;
 use crate::say;
 use crate::walk;
+use answer::Answer;
 use by_row::RowState;
-use error::Answer;
-use rows::DecodeSettings;
+use settings::DecodeSettings;
 
 // Two readings after one call each: whether they said the same and go on, or said the same and ended, or parted.
 struct Both {

@@ -2,8 +2,8 @@
 use crate::lines;
 use crate::say;
 use crate::walk;
-use error::Answer;
-use rows::DecodeSettings;
+use answer::Answer;
+use settings::DecodeSettings;
 
 fn wide(n: u32) -> u64 {
     n as u64

@@ -14,9 +14,9 @@ mod text;
 mod walk;
 mod write;
 
-use desk::settings::Parsed;
-use rows::DecodeSettings;
-use rows::EncodingMode;
+use listing_text::settings_line::Parsed;
+use settings::DecodeSettings;
+use settings::EncodingMode;
 
 fn narrow(n: u64) -> u32 {
     if n < 4294967296 { n as u32 } else { 4294967295 }
@@ -140,7 +140,8 @@ fn request(input: &[u8], at: usize, changes: &mut [u32], out: &mut [u8]) -> usiz
     let c = text::field(input, b.next);
     let d = text::field(input, c.next);
     let line = text::after(input, d.next, 1);
-    let Parsed::Settings(settings, n) = desk::settings::parse(lines::rest(input, line)) else {
+    let Parsed::Settings(settings, n) = listing_text::settings_line::parse(lines::rest(input, line))
+    else {
         say::complain(b"the settings are no line of settings");
         return input.len();
     };

@@ -1,10 +1,10 @@
 // The heads on one page (02, A11), and, where it is refused, why: which box or which column it is, is found by asking `heads` again, about one box alone.
 use crate::lines;
 use crate::say;
-use error::Answer;
+use answer::Answer;
 use heads::HeadsAnswer;
 use heads::numbers::heads_from;
-use rows::DecodeSettings;
+use settings::DecodeSettings;
 
 // A line has answer, heads, quota left, and words; a page that is refused has no heads and takes nothing off.
 fn refused(number: u32, quota: i32) {

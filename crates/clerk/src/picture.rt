@@ -2,8 +2,8 @@
 use crate::pbm;
 use crate::say;
 use crate::walk;
-use error::Answer;
-use rows::DecodeSettings;
+use answer::Answer;
+use settings::DecodeSettings;
 
 // Whether the colour turns at a pixel.
 fn turns(row: &[u32], count: usize, k: usize, x: u32) -> bool {

@@ -1,6 +1,6 @@
 // What the program says: its answers on the standard output, and why it has none on standard error.
 use crate::lines;
-use error::Answer;
+use answer::Answer;
 use libc::STDERR_FILENO;
 use libc::STDOUT_FILENO;
 

@@ -2,11 +2,11 @@
 use crate::lines;
 use crate::list;
 use crate::picture;
+use answer::Answer;
 use by_row::RowState;
 use by_row::RowStep;
 use by_row::Side;
-use error::Answer;
-use rows::DecodeSettings;
+use settings::DecodeSettings;
 
 // How a row is shown: not at all, as a line of the listing, or as pixels behind so many bytes of margin.
 pub(crate) enum Show {
@@ -87,7 +87,7 @@ fn counted(counts: Counts, answer: Answer) -> Counts {
 
 fn none() -> Counts {
     Counts {
-        end: error::refusal(7),
+        end: answer::refusal(7),
         clean: 0,
         cut: 0,
         recovered: 0,

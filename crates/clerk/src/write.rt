@@ -3,11 +3,11 @@ use crate::lines;
 use crate::pbm;
 use crate::say;
 use crate::walk;
+use answer::Answer;
 use by_row::RowState;
 use by_row::Side;
-use error::Answer;
-use rows::DecodeSettings;
-use rows::EncodingMode;
+use settings::DecodeSettings;
+use settings::EncodingMode;
 
 fn written(
     encoding: EncodingMode,

@@ -4,7 +4,7 @@ use lib.IntN.{ℤ, pos, negsuc}
 use Rattle.rules.specs.Runs.{Res, ok, fault}
 use Rattle.rules.specs.Modes as Rule
 use Rattle.rules.specs.Modes.{pass, horizontal, VR, VL, Moded, moded}
-use Rattle.error.specs.Error.{numberOf}
+use Rattle.answer.specs.Answer.{numberOf}
 use Rattle.codes.specs.declared.mode.Kind.{Kind}
 use Rattle.codes.specs.declared.mode.Kind.the-variants as Kind
 use Rattle.codes.specs.declared.mode.Mode.{Mode}

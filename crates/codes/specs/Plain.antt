@@ -9,7 +9,7 @@ use Rattle.rules.specs.Codes.{Colour, commonMakeup, terminatingOf, makeupOf, co
 use Rattle.rules.specs.Plain as Rule
 use Rattle.rules.specs.Plain.{Candidate, agreeing, found, lost, no-code, is-code, more-bits}
 use Rattle.tables.specs.Tables.{rows, codeOf}
-use Rattle.error.specs.Error.{numberOf}
+use Rattle.answer.specs.Answer.{numberOf}
 use Rattle.codes.specs.declared.plain.Found.{Found}
 use Rattle.codes.specs.declared.plain.Found.the-variants.{Code, Lost}
 use Rattle.codes.specs.declared.plain.Verdict.{Verdict}

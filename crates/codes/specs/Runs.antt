@@ -15,7 +15,7 @@ use Rattle.rules.specs.Plain.{found, lost}
 use Rattle.tables.specs.Tables.{Lookups}
 use Rattle.bit_reader.specs.Loaded.{Loaded, Loading}
 use Rattle.bit_reader.specs.declared.buffer.Buffer.{Buffer}
-use Rattle.error.specs.Error.{numberOf}
+use Rattle.answer.specs.Answer.{numberOf}
 use Rattle.codes.specs.declared.plain.Found.{Found}
 use Rattle.codes.specs.declared.plain.Found.the-variants as Found
 use Rattle.codes.specs.declared.run.Run.{Run}

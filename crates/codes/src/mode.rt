@@ -1,6 +1,6 @@
 // The mode codes of a 2D line, by their leading zeros.
+use answer::DecodeError;
 use bit_reader::Moved;
-use error::DecodeError;
 ghost use mathlib.Core.Path.{_≡_};
 ghost use mathlib.Core.Bool.{cond};
 ghost use Prim.Native.Nat.{_-_, _*_, _≤_};

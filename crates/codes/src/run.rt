@@ -1,9 +1,9 @@
 // Runs of one colour, by its lookup table.
 use crate::plain::Found;
+use answer::DecodeError;
 use bit_reader::buffer;
 use bit_reader::buffer::Buffer;
 use bit_reader::buffer::Fed;
-use error::DecodeError;
 ghost use mathlib.Core.Path.{_≡_};
 ghost use Prim.Native.Nat.{_/_, _%_, _≤_};
 ghost use lib.ListN.{drop};

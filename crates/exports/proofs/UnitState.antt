@@ -10,7 +10,7 @@ use lib.ListN.{length, getD}
 use borrow.Author.Tests.{eq-eqb, ne-eqb, eqb-true, le-leb, leb-true}
 use Rattle.rules.specs.InSteps.{saysOnly}
 use Rattle.rules.proofs.Bits.{both-true}
-use Rattle.rows.specs.declared.DecodeSettings.{DecodeSettings}
+use Rattle.settings.specs.declared.DecodeSettings.{DecodeSettings}
 use Rattle.by_unit.specs.declared.Phase.{Phase}
 use Rattle.by_unit.specs.declared.Phase.the-variants as Phase
 use Rattle.by_unit.specs.declared.Saved.{Saved}

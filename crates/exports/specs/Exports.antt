@@ -1,8 +1,8 @@
 -- The settings that the parameters of a C function stand for.
 use mathlib.Core.Bool.{Bool}
 use Prim.Native.Nat.{ℕ}
-use Rattle.rows.specs.declared.DecodeSettings.{DecodeSettings}
-use Rattle.rows.specs.declared.EncodingMode.{EncodingMode}
+use Rattle.settings.specs.declared.DecodeSettings.{DecodeSettings}
+use Rattle.settings.specs.declared.EncodingMode.{EncodingMode}
 
 abbrev pub settingsFor : ℕ → ℕ → Bool → Bool → Bool → EncodingMode → Bool → Bool → Bool → DecodeSettings
 settingsFor columns rows eob eol aligned encoding strict exact plain = record {

@@ -20,10 +20,10 @@ use Rattle.bit_reader.specs.Loaded.{Loading}
 use Rattle.codes.specs.declared.eol.Eols.{Eols}
 use Rattle.codes.specs.Eols.{eolsOf}
 use Rattle.codes.proofs.Eols.{closing, many, search-from, nowhere}
-use Rattle.rows.specs.declared.DecodeSettings.{DecodeSettings}
-use Rattle.rows.specs.declared.State.{State}
-use Rattle.rows.specs.Settings.{settingsOf}
-use Rattle.rows.specs.Between.{stateOf}
+use Rattle.settings.specs.declared.DecodeSettings.{DecodeSettings}
+use Rattle.settings.specs.declared.State.{State}
+use Rattle.settings.specs.Settings.{settingsOf}
+use Rattle.settings.specs.Between.{stateOf}
 use Rattle.group3.specs.Tags.{taggingOf}
 use Rattle.group3.specs.Ahead.{alignedFrom, NoEolAt, BeforeIn, judgedIn, missingIn, beforeIn}
 

@@ -19,12 +19,12 @@ use Rattle.context.specs.declared.line.Push.the-variants as Push
 use Rattle.context.specs.State.{rulesFor, changesOf, Holds, Comes, Pushes}
 use Rattle.context.proofs.Carried.{Carries, carries-push, push-place, push-on, push-stop}
 use Rattle.context.proofs.RowPart.{row-lent, row-back, back-front, back-row}
-use Rattle.rows.specs.declared.DecodeSettings.{DecodeSettings}
-use Rattle.rows.specs.declared.State.{State}
-use Rattle.rows.specs.declared.Row.{Row}
-use Rattle.rows.specs.declared.Row.the-variants.{Kept, Stop}
-use Rattle.rows.specs.Settings.{settingsOf}
-use Rattle.rows.specs.Between.{stateOf, rowFor, changesIn, RowGives}
+use Rattle.settings.specs.declared.DecodeSettings.{DecodeSettings}
+use Rattle.settings.specs.declared.State.{State}
+use Rattle.settings.specs.declared.Row.{Row}
+use Rattle.settings.specs.declared.Row.the-variants.{Kept, Stop}
+use Rattle.settings.specs.Settings.{settingsOf}
+use Rattle.settings.specs.Between.{stateOf, rowFor, changesIn, RowGives}
 use Rattle.group3.specs.Tags.{taggingOf}
 use Rattle.group3.specs.Lined.{linesBy}
 use Rattle.group3.specs.Recovery.{whiteFor, afterLineIn, Damages, Lies, Recovers}

@@ -23,11 +23,11 @@ use Rattle.context.specs.Outcome as Line
 use Rattle.context.specs.Outcome.{Steps}
 use Rattle.context.specs.Coding.{Lines, StepsAt, Lined}
 use Rattle.context.proofs.RowPart.{row-lent, row-back}
-use Rattle.rows.specs.declared.DecodeSettings.{DecodeSettings}
-use Rattle.rows.specs.declared.State.{State}
-use Rattle.rows.specs.Settings.{settingsOf}
-use Rattle.rows.specs.Between.{stateOf}
-use Rattle.rows.proofs.Ended.{unchanged}
+use Rattle.settings.specs.declared.DecodeSettings.{DecodeSettings}
+use Rattle.settings.specs.declared.State.{State}
+use Rattle.settings.specs.Settings.{settingsOf}
+use Rattle.settings.specs.Between.{stateOf}
+use Rattle.settings.proofs.Ended.{unchanged}
 use Rattle.group3.specs.declared.line.Kind.{Kind}
 use Rattle.group3.specs.declared.line.Kind.the-variants.{One, Two, NoTag}
 use Rattle.group3.specs.Tags.{taggingOf, isTagged}

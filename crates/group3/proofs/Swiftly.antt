@@ -18,11 +18,11 @@ use Rattle.bit_reader.proofs.Clear.{zeros-few, some-one}
 use Rattle.codes.specs.declared.eol.Eols.{Eols}
 use Rattle.codes.specs.Eols.{eolsOf}
 use Rattle.codes.proofs.Eols.{Closed, closing, plain-eol, none-yet, eol, no-eol}
-use Rattle.rows.specs.declared.DecodeSettings.{DecodeSettings}
-use Rattle.rows.specs.declared.State.{State}
-use Rattle.rows.specs.declared.Row.{Row}
-use Rattle.rows.specs.Settings.{settingsOf}
-use Rattle.rows.specs.Between.{stateOf, RowFrom, RowGives}
+use Rattle.settings.specs.declared.DecodeSettings.{DecodeSettings}
+use Rattle.settings.specs.declared.State.{State}
+use Rattle.settings.specs.declared.Row.{Row}
+use Rattle.settings.specs.Settings.{settingsOf}
+use Rattle.settings.specs.Between.{stateOf, RowFrom, RowGives}
 use Rattle.group3.specs.declared.eob.Before.the-variants.{Line}
 use Rattle.group3.specs.Tags.{taggingOf, isTagged}
 use Rattle.group3.specs.Ahead.{alignedFrom, singleAt, usual, beforeOf, beforeIn}

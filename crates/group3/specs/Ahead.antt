@@ -14,10 +14,10 @@ use Rattle.rules.specs.Group3.{Tagging, line-at, end-at, no-eol-at, judged, mis
 use Rattle.bit_reader.specs.Loaded.{Loading}
 use Rattle.codes.specs.declared.eol.Eols.{Eols}
 use Rattle.codes.specs.Eols.{eolsOf}
-use Rattle.rows.specs.declared.DecodeSettings.{DecodeSettings}
-use Rattle.rows.specs.declared.State.{State}
-use Rattle.rows.specs.Settings.{settingsOf}
-use Rattle.rows.specs.Between.{stateOf}
+use Rattle.settings.specs.declared.DecodeSettings.{DecodeSettings}
+use Rattle.settings.specs.declared.State.{State}
+use Rattle.settings.specs.Settings.{settingsOf}
+use Rattle.settings.specs.Between.{stateOf}
 use Rattle.group3.specs.declared.eob.Before.{Before}
 use Rattle.group3.specs.declared.eob.Before.the-variants.{Line, End, NoEol}
 use Rattle.group3.specs.Tags.{taggingOf, isTagged}

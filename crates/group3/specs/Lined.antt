@@ -10,10 +10,10 @@ use Rattle.rules.specs.Rows.{Settings, rulesOf}
 use Rattle.rules.specs.Group3.{Tagging, line3}
 use Rattle.bit_reader.specs.Loaded.{Loading}
 use Rattle.context.specs.declared.step.Rules as Line
-use Rattle.rows.specs.declared.DecodeSettings.{DecodeSettings}
-use Rattle.rows.specs.declared.State.{State}
-use Rattle.rows.specs.Settings.{settingsOf}
-use Rattle.rows.specs.Between.{stateOf, RowFrom}
+use Rattle.settings.specs.declared.DecodeSettings.{DecodeSettings}
+use Rattle.settings.specs.declared.State.{State}
+use Rattle.settings.specs.Settings.{settingsOf}
+use Rattle.settings.specs.Between.{stateOf, RowFrom}
 use Rattle.group3.specs.declared.line.Kind.{Kind}
 use Rattle.group3.specs.declared.line.Kind.the-variants.{One, Two, NoTag}
 use Rattle.group3.specs.Tags.{taggingOf}

@@ -6,8 +6,8 @@ use Rattle.rules.specs.Group3 as Rule
 use Rattle.rules.specs.Group3.{untagged, tagged}
 use Rattle.bit_reader.specs.Loaded.{Loading}
 use Rattle.codes.specs.declared.eol.Eols.{Eols}
-use Rattle.rows.specs.declared.EncodingMode.{EncodingMode}
-use Rattle.rows.specs.declared.EncodingMode.the-variants.{Group4, «Group3_1D», «Group3_2D»}
+use Rattle.settings.specs.declared.EncodingMode.{EncodingMode}
+use Rattle.settings.specs.declared.EncodingMode.the-variants.{Group4, «Group3_1D», «Group3_2D»}
 
 -- only 2D lines have tag bits; this crate reads no Group 4 page
 abbrev pub taggingOf : EncodingMode → Rule.Tagging

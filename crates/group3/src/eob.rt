@@ -3,8 +3,8 @@ use crate::eols;
 use codes::eol;
 use codes::eol::Eols;
 use codes::eol::Skip;
-use rows::DecodeSettings;
-use rows::State;
+use settings::DecodeSettings;
+use settings::State;
 ghost use mathlib.Core.Path.{_≡_};
 ghost use mathlib.Core.Bool.{false, _&&_};
 ghost use Prim.Native.Nat.{_≤_};
@@ -31,7 +31,7 @@ fn align(settings: DecodeSettings, state: State) -> usize
     if state.eols {
         return state.at;
     }
-    rows::align_if(settings.rows_are_byte_aligned, state.at)
+    settings::align_if(settings.rows_are_byte_aligned, state.at)
 }
 
 // An RTC has six EOLs. Some pages have seven, so more are taken too.

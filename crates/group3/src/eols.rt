@@ -1,8 +1,8 @@
 // EOLs, and the tag bits that stand behind them in 2D data.
 use codes::eol;
 use codes::eol::Eols;
-use rows::DecodeSettings;
-use rows::EncodingMode;
+use settings::DecodeSettings;
+use settings::EncodingMode;
 ghost use mathlib.Core.Path.{_≡_};
 ghost use lib.ListN.{length, drop};
 ghost use Rattle.rules.specs.Bits.{bitsOf, firstBit};

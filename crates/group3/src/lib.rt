@@ -6,17 +6,17 @@ mod recover;
 
 use crate::eob::Before;
 use context::step::Step;
-use rows::DecodeSettings;
-use rows::Row;
-use rows::State;
+use settings::DecodeSettings;
+use settings::Row;
+use settings::State;
 ghost use mathlib.Core.Path.{_≡_};
 ghost use Prim.Native.Nat.{_-_};
 ghost use lib.ListN.{length};
 ghost use Rattle.rules.specs.Bits.{bitsOf};
 ghost use Rattle.rules.specs.Group3.{row3};
 ghost use Rattle.tables.specs.Pairs.{pairTable};
-ghost use Rattle.rows.specs.Settings.{settingsOf};
-ghost use Rattle.rows.specs.Between.{stateOf, RowFrom, RowGives};
+ghost use Rattle.settings.specs.Settings.{settingsOf};
+ghost use Rattle.settings.specs.Between.{stateOf, RowFrom, RowGives};
 ghost use Rattle.group3.specs.Tags.{taggingOf};
 ghost use Rattle.group3.specs.Lined.{LineFrom, lineIn};
 ghost use Rattle.group3.specs.Recovery.{afterLineIn};
@@ -59,7 +59,7 @@ pub fn row<'a>(
     ensures { λ r. ⌜ RowGives (state .base) (now (changes .entry)) (row3 (settingsOf settings) (taggingOf (settings .encoding)) (bitsOf (now (src .entry))) (length (now (changes .entry)) - state .base) (stateOf (now (lent .entry)) (now (changes .entry)) state)) r (now (changes .exit)) ⌝ }
 {
     match eob::between(src, settings, state) {
-        Before::End(at) => rows::end_at(at),
+        Before::End(at) => settings::end_at(at),
         Before::NoEol(at) => Row::Stop(1, at, 0, 0),
         Before::Line(at, expected) => {
             row_at(

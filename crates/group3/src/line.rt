@@ -3,10 +3,10 @@ use crate::eols;
 use context::line;
 use context::step::Rules;
 use context::step::Step;
-use one_line::runs;
-use one_line::two;
-use rows::DecodeSettings;
-use rows::State;
+use one_line::line_1d;
+use one_line::line_2d;
+use settings::DecodeSettings;
+use settings::State;
 ghost use mathlib.Core.Path.{_≡_};
 ghost use Rattle.tables.specs.Pairs.{pairTable};
 ghost use Rattle.bit_reader.specs.Loaded.{Loading};
@@ -64,7 +64,7 @@ pub(crate) fn decode<'a>(
             Step::Stop(2, line::new_line(columns), end)
         }
         Kind::One(start) => {
-            runs::decode_1d_line(
+            line_1d::decode_1d_line(
                 white,
                 black,
                 both,
@@ -77,7 +77,7 @@ pub(crate) fn decode<'a>(
         }
         Kind::Two(start) => {
             let place = state.reference;
-            two::decode_2d_line(
+            line_2d::decode_2d_line(
                 white,
                 black,
                 src,

@@ -2,9 +2,9 @@
 use context::line;
 use context::line::Line;
 use context::line::Push;
-use rows::DecodeSettings;
-use rows::Row;
-use rows::State;
+use settings::DecodeSettings;
+use settings::Row;
+use settings::State;
 ghost use mathlib.Core.Path.{_≡_};
 ghost use mathlib.Core.Bool.{not, _&&_};
 ghost use lib.Dec.{leb};

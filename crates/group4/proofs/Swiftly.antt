@@ -27,13 +27,13 @@ use Rattle.context.specs.declared.reference.Reference.{Reference}
 use Rattle.context.specs.declared.reference.Reference.the-variants as Place
 use Rattle.context.specs.Coding.{referenceIn}
 use Rattle.context.proofs.Goes.{moves-right, vertical-goes}
-use Rattle.rows.specs.declared.DecodeSettings.{DecodeSettings}
-use Rattle.rows.specs.declared.State.{State}
-use Rattle.rows.specs.declared.Row.{Row}
-use Rattle.rows.specs.declared.Row.the-variants.{Kept}
-use Rattle.rows.specs.Settings.{settingsOf}
-use Rattle.rows.specs.Between.{stateOf, RowFrom, RowGives}
-use Rattle.rows.proofs.Ended.{unchanged}
+use Rattle.settings.specs.declared.DecodeSettings.{DecodeSettings}
+use Rattle.settings.specs.declared.State.{State}
+use Rattle.settings.specs.declared.Row.{Row}
+use Rattle.settings.specs.declared.Row.the-variants.{Kept}
+use Rattle.settings.specs.Settings.{settingsOf}
+use Rattle.settings.specs.Between.{stateOf, RowFrom, RowGives}
+use Rattle.settings.proofs.Ended.{unchanged}
 use Rattle.group4.specs.Lined.{LineFrom, rowAt, fullAt, begun, underWhite, whiteAt}
 use Rattle.group4.proofs.Outcomes.{over-data, row-lined}
 

@@ -11,10 +11,10 @@ use Rattle.rules.specs.Group4.{afterLine4}
 use Rattle.bit_reader.specs.Loaded.{Loading}
 use Rattle.context.specs.declared.reference.Reference.{Reference}
 use Rattle.context.specs.declared.reference.Reference.the-variants.{Lent, Kept}
-use Rattle.rows.specs.declared.DecodeSettings.{DecodeSettings}
-use Rattle.rows.specs.declared.State.{State}
-use Rattle.rows.specs.Settings.{settingsOf}
-use Rattle.rows.specs.Between.{stateOf, RowFrom}
+use Rattle.settings.specs.declared.DecodeSettings.{DecodeSettings}
+use Rattle.settings.specs.declared.State.{State}
+use Rattle.settings.specs.Settings.{settingsOf}
+use Rattle.settings.specs.Between.{stateOf, RowFrom}
 
 -- what a line asks: a row that may begin, and a bit inside the data
 pub record LineFrom (w b bytes lent xs : List ℕ) (s : DecodeSettings) (st : State) (at : ℕ) : Type 0 where

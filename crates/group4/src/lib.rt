@@ -4,10 +4,10 @@ use codes::eol::Eols;
 use context::reference::Reference;
 use context::step::Rules;
 use context::step::Step;
-use one_line::two;
-use rows::DecodeSettings;
-use rows::Row;
-use rows::State;
+use one_line::line_2d;
+use settings::DecodeSettings;
+use settings::Row;
+use settings::State;
 ghost use mathlib.Core.Path.{_≡_};
 ghost use mathlib.Core.Bool.{_&&_};
 ghost use mathlib.Core.List.{[]};
@@ -18,8 +18,8 @@ ghost use Rattle.rules.specs.Bits.{bitsOf};
 ghost use Rattle.rules.specs.Group4.{eolsBefore, over, row4};
 ghost use Rattle.bit_reader.specs.Loaded.{Loading};
 ghost use Rattle.codes.specs.Eols.{eolsOf};
-ghost use Rattle.rows.specs.Settings.{settingsOf};
-ghost use Rattle.rows.specs.Between.{stateOf, RowFrom, RowGives};
+ghost use Rattle.settings.specs.Settings.{settingsOf};
+ghost use Rattle.settings.specs.Between.{stateOf, RowFrom, RowGives};
 ghost use Rattle.group4.specs.Lined.{LineFrom, rowAt, fullAt, begun, underWhite, whiteAt};
 
 // EOLs are no part of Group 4, but PDF wants them accepted. Data behind an EOFB may begin like an EOL, so no more than its two are read.
@@ -80,7 +80,7 @@ fn row_at<'a>(
     ensures { λ r. ⌜ RowGives (state .base) (now (changes .entry)) (rowAt settings (now (src .entry)) (now (lent .entry)) (now (changes .entry)) state start) r (now (changes .exit)) ⌝ }
 {
     let place = state.reference;
-    match two::decode_2d_line(
+    match line_2d::decode_2d_line(
         white,
         black,
         src,
@@ -97,7 +97,7 @@ fn row_at<'a>(
         },
     ) {
         Step::On(line, at) => {
-            let next = rows::align_if(settings.rows_are_byte_aligned, at);
+            let next = settings::align_if(settings.rows_are_byte_aligned, at);
             Row::Kept(line.changes, line.cut, next, state.eols)
         }
         Step::Stop(number, line, place) => Row::Stop(number, place, 0, line.changes),
@@ -118,7 +118,7 @@ pub fn row<'a>(
 {
     let eols = eols_before(src, settings, state);
     if is_over(src, settings, state, eols) {
-        return rows::end_at(eols.at);
+        return settings::end_at(eols.at);
     }
     row_at(white, black, src, settings, lent, changes, state, eols.at)
 }
@@ -188,7 +188,7 @@ pub fn swift_row<'a>(
         return any_row(white, black, src, settings, lent, changes, state);
     }
     if is_white(src, lent, state) {
-        let next = rows::align_if(settings.rows_are_byte_aligned, state.at + 1);
+        let next = settings::align_if(settings.rows_are_byte_aligned, state.at + 1);
         return Row::Kept(0, 0, next, state.eols);
     }
     row_at(white, black, src, settings, lent, changes, state, state.at)

@@ -8,16 +8,16 @@ use lib.Seq.{take-at, take-all, length-take-le}
 use Rattle.rules.specs.Rows.{Settings}
 use Rattle.rules.specs.Pages as Page
 use Rattle.rules.specs.Pages.{decode, placesIn, overlaid}
-use Rattle.rows.specs.declared.DecodeSettings.{DecodeSettings}
-use Rattle.rows.specs.Settings.{settingsOf}
-use Rattle.error.specs.declared.Answer.{Answer}
+use Rattle.settings.specs.declared.DecodeSettings.{DecodeSettings}
+use Rattle.settings.specs.Settings.{settingsOf}
+use Rattle.answer.specs.declared.Answer.{Answer}
 use Rattle.ccitt.specs.Decode.{Gives}
-use Rattle.desk.specs.Line.{Says}
-use Rattle.desk.specs.Sheet.{badInput, listingText}
-use Rattle.desk.specs.Listed.{Listing, listingOf, Prints}
-use Rattle.desk.specs.declared.settings.Parsed.the-variants.{Settings as found, Bad}
-use Rattle.desk.proofs.Standing.{begins-once, begins-short}
-use Rattle.desk.proofs.Stored.{Holds, decode-held, rows-stored, marks-kept, can-list}
+use Rattle.listing_text.specs.Line.{Says}
+use Rattle.listing_text.specs.Sheet.{badInput, listingText}
+use Rattle.listing_text.specs.Listed.{Listing, listingOf, Prints}
+use Rattle.listing_text.specs.declared.settings_line.Parsed.the-variants.{Settings as found, Bad}
+use Rattle.listing_text.proofs.Standing.{begins-once, begins-short}
+use Rattle.listing_text.proofs.Stored.{Holds, decode-held, rows-stored, marks-kept, can-list}
 use Rattle.io.specs.Counts.{Counts}
 use Rattle.listing.specs.Program.{mostData, mostInput, listed, pageText, room, Asks, Answers, AnswersRead}
 

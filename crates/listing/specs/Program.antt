@@ -7,8 +7,8 @@ use lib.ListN.{length, take}
 use Rattle.rules.specs.Rows.{Settings}
 use Rattle.rules.specs.Pages as Page
 use Rattle.rules.specs.Pages.{decode}
-use Rattle.desk.specs.Line.{Begins}
-use Rattle.desk.specs.Sheet.{listingText, badInput}
+use Rattle.listing_text.specs.Line.{Begins}
+use Rattle.listing_text.specs.Sheet.{listingText, badInput}
 
 -- "then up to 16,384 data bytes; its store has 8,192 changes and 2,048 rows"
 abbrev pub mostData : ℕ

@@ -1,11 +1,11 @@
 // Lists a page of standard input: a line of settings, and then the data.
-use desk::settings::Parsed;
-use rows::DecodeSettings;
+use listing_text::settings_line::Parsed;
+use settings::DecodeSettings;
 ghost use Prim.Native.Nat.{_≤_};
 ghost use lib.ListN.{length, take};
 ghost use Rattle.io.specs.Counts.{Counts};
-ghost use Rattle.rows.specs.Settings.{settingsOf};
-ghost use Rattle.desk.specs.Listed.{Prints};
+ghost use Rattle.settings.specs.Settings.{settingsOf};
+ghost use Rattle.listing_text.specs.Listed.{Prints};
 ghost use Rattle.listing.specs.Program.{room, mostInput, pageText, Answers, AnswersRead};
 
 fn page(src: &[u8], settings: DecodeSettings, out: &mut [u8]) -> usize
@@ -16,7 +16,7 @@ fn page(src: &[u8], settings: DecodeSettings, out: &mut [u8]) -> usize
     let mut ends = [0u64; 2048];
     let mut marks = [0u8; 2048];
     let answer = ccitt::decode(src, settings, &mut changes, &mut ends, &mut marks);
-    desk::list(out, settings.columns, answer, &changes, &ends, &marks)
+    listing_text::list(out, settings.columns, answer, &changes, &ends, &marks)
 }
 
 // What the program prints for its input.
@@ -25,12 +25,12 @@ fn text(input: &[u8], out: &mut [u8]) -> usize
     ensures { λ r. ⌜ Counts r (now (out .exit)) ⌝ }
     ensures { λ r. ⌜ Answers (now (input .entry)) (take r (now (out .exit))) ⌝ }
 {
-    let Parsed::Settings(settings, at) = desk::settings::parse(input) else {
-        return desk::bad_input(out);
+    let Parsed::Settings(settings, at) = listing_text::settings_line::parse(input) else {
+        return listing_text::bad_input(out);
     };
     let src = &input[at..];
     if src.len() > 16384 {
-        return desk::bad_input(out);
+        return listing_text::bad_input(out);
     }
     page(src, settings, out)
 }

@@ -19,7 +19,7 @@ use Rattle.context.specs.declared.step.Rules as Code
 use Rattle.context.specs.declared.step.Step.{Step}
 use Rattle.context.specs.declared.step.Step.the-variants.{On, Stop}
 use Rattle.context.specs.declared.reference.Reference.the-variants.{Kept}
-use Rattle.swift_loops.specs.declared.swift.Stand.{Stand}
+use Rattle.swift_loops.specs.declared.fast_2d.Stand.{Stand}
 use Rattle.context.specs.State.{flagOf}
 use Rattle.context.specs.Reference.{Passed, Finds}
 use Rattle.context.specs.Coding.{Coding, Coded, StepsAt}

@@ -17,8 +17,8 @@ use Rattle.rules.specs.Pages.{overlaid}
 use Rattle.rules.proofs.Bits.{length-bitsOf}
 use Rattle.rules.proofs.Modes.{ModeAt, mode-at, Coded, c-right, c-left}
 use Rattle.tables.specs.Tables.{colourOf}
-use Rattle.error.specs.Error.{numberOf}
-use Rattle.error.specs.declared.DecodeError.{DecodeError}
+use Rattle.answer.specs.Answer.{numberOf}
+use Rattle.answer.specs.declared.DecodeError.{DecodeError}
 use Rattle.codes.specs.Modes.{offsetMode, modeOf}
 use Rattle.codes.specs.declared.mode.Mode.{Mode}
 use Rattle.codes.specs.declared.mode.Mode.the-variants.{Pass, Horizontal, Vertical, Bad}

@@ -8,7 +8,7 @@ use lib.IntN.{ℤ, pos, negsuc}
 use Rattle.rules.specs.Bits.{bitsOf}
 use Rattle.rules.specs.Modes.{pass, horizontal, Moded, moded, readMode}
 use Rattle.rules.specs.Lines.{Went}
-use Rattle.error.specs.declared.DecodeError.{DecodeError}
+use Rattle.answer.specs.declared.DecodeError.{DecodeError}
 use Rattle.codes.specs.Modes.{offsetMode, modeOf}
 use Rattle.codes.specs.declared.mode.Mode.{Mode}
 use Rattle.codes.specs.declared.mode.Mode.the-variants.{Pass, Horizontal, Vertical, Bad}

@@ -19,8 +19,8 @@ use Rattle.rules.proofs.Runs.{Within, read-within}
 use Rattle.tables.specs.Tables.{colourOf}
 use Rattle.bit_reader.specs.Loaded.{Loaded, LoadedAt}
 use Rattle.bit_reader.specs.declared.buffer.Buffer.{Buffer}
-use Rattle.error.specs.Error.{numberOf}
-use Rattle.error.specs.declared.DecodeError.{DecodeError}
+use Rattle.answer.specs.Answer.{numberOf}
+use Rattle.answer.specs.declared.DecodeError.{DecodeError}
 use Rattle.codes.specs.Runs.{RunRead}
 use Rattle.codes.specs.declared.run.Run.the-variants.{Length, Bad}
 use Rattle.context.specs.declared.line.Line.{Line}

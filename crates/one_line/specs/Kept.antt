@@ -4,7 +4,7 @@ use mathlib.Core.List.{List}
 use Prim.Native.Nat.{ℕ, _-_, min}
 use lib.ListN.{length}
 use Rattle.context.specs.declared.line.Line.{Line}
-use Rattle.swift_loops.specs.declared.swift.Stand.{Stand}
+use Rattle.swift_loops.specs.declared.fast_2d.Stand.{Stand}
 use Rattle.context.specs.Reference.{Searches}
 use Rattle.context.specs.Places.{B1At}
 

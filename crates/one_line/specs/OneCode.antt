@@ -10,8 +10,8 @@ use Rattle.bit_reader.specs.Loaded.{Loading}
 use Rattle.context.specs.declared.line.Line.{Line}
 use Rattle.context.specs.declared.step.Rules.{Rules}
 use Rattle.context.specs.declared.step.Step.{Step}
-use Rattle.one_line.specs.declared.once.OneCode.{OneCode}
-use Rattle.one_line.specs.declared.once.OneCode.the-variants.{Runs, Did}
+use Rattle.one_line.specs.declared.one_code.OneCode.{OneCode}
+use Rattle.one_line.specs.declared.one_code.OneCode.the-variants.{Runs, Did}
 use Rattle.context.specs.State.{lineAt, rulesFor, Holds}
 use Rattle.context.specs.Outcome.{Steps}
 use Rattle.context.specs.Coding.{Coded}

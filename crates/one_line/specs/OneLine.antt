@@ -6,8 +6,8 @@ use Prim.Native.Nat.{ℕ, _<_}
 use lib.ListN.{length}
 use Rattle.rules.specs.Lines.{Went}
 use Rattle.rules.specs.Pages.{oneLine, readOneLine, changesAfter}
-use Rattle.error.specs.Error.{rowAnswerOf}
-use Rattle.error.specs.declared.Answer.{Answer}
+use Rattle.answer.specs.Answer.{rowAnswerOf}
+use Rattle.answer.specs.declared.Answer.{Answer}
 use Rattle.context.specs.declared.step.Step.{Step}
 use Rattle.context.specs.declared.step.Step.the-variants.{On, Stop}
 use Rattle.context.specs.Outcome.{stepFor}

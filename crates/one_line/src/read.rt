@@ -1,11 +1,11 @@
 // The public reading of one 2D line, from a stated bit of the data. A line alone is read by the lookup, and not exactly: both are settings
 // of a page.
-use crate::two;
+use crate::line_2d;
+use answer::Answer;
 use context::reference;
 use context::reference::Reference;
 use context::step::Rules;
 use context::step::Step;
-use error::Answer;
 ghost use mathlib.Core.Path.{_≡_};
 ghost use Rattle.one_line.specs.OneLine.{Answers, pastAt, ReadOne};
 
@@ -61,16 +61,16 @@ pub fn read_line(
     ensures { λ r. ⌜ ReadOne (now (src .entry)) at columns strict (now (reference .entry)) (now (changes .entry)) r (now (changes .exit)) ⌝ }
 {
     if columns == 0 {
-        return error::refusal(6);
+        return answer::refusal(6);
     }
     if columns == 4294967295 {
-        return error::refusal(6);
+        return answer::refusal(6);
     }
     if 4294967296 < src.len() {
-        return error::refusal(7);
+        return answer::refusal(7);
     }
     if !reference::ascends(reference, columns) {
-        return error::refusal(8);
+        return answer::refusal(8);
     }
     let end = 8 * src.len();
     if at > end as u64 {
@@ -78,7 +78,7 @@ pub fn read_line(
     }
     let white = lookups::white_lookup();
     let black = lookups::black_lookup();
-    answer(two::decode_2d_line(
+    answer(line_2d::decode_2d_line(
         &white,
         &black,
         src,

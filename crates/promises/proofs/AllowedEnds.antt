@@ -12,8 +12,8 @@ use Rattle.rules.specs.ByUnit as ByUnit
 use Rattle.rules.specs.ByUnit.{asGroup4, turn}
 use Rattle.rules.proofs.ByRow.{few-cases, call-cases}
 use Rattle.rules.proofs.ByUnit.{turn-ends}
-use Rattle.error.specs.declared.Answer.{Answer}
-use Rattle.rows.specs.Settings.{settingsOf}
+use Rattle.answer.specs.declared.Answer.{Answer}
+use Rattle.settings.specs.Settings.{settingsOf}
 use Rattle.ccitt.specs.Ends.{Allowed}
 use Rattle.by_row.specs.declared.End.{End}
 use Rattle.by_row.specs.declared.End.the-variants as End

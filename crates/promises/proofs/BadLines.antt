@@ -19,9 +19,9 @@ use Rattle.rules.proofs.Store.{length-rowsIn}
 use Rattle.rules.proofs.Group3Trip.{Page3Written, page3-written, page-bytes}
 use Rattle.rules.proofs.BadLines.{Mending, spared-length}
 use Rattle.rules.proofs.OneBadLine.{bad-lines-decode, written-line-at, one-bad-line}
-use Rattle.error.specs.declared.Answer.{Answer}
-use Rattle.rows.specs.declared.DecodeSettings.{DecodeSettings}
-use Rattle.rows.specs.Settings.{encodingOf, settingsOf}
+use Rattle.answer.specs.declared.Answer.{Answer}
+use Rattle.settings.specs.declared.DecodeSettings.{DecodeSettings}
+use Rattle.settings.specs.Settings.{encodingOf, settingsOf}
 use Rattle.promises.specs.Rooms.{Call, places, rowsOf, marksOf, Reading}
 use Rattle.promises.specs.BadLines.{ForBadLines, Roomy, KBadLinesCostKRows, MarkedAreBad, frontOf, backOf, OneBadLineCostsOneRow}
 use Rattle.promises.proofs.Rooms.{answerIn, rows-are, marks-are, as-many}

@@ -12,8 +12,8 @@ use Rattle.rules.specs.Damage2D.{comingPage, mayComeAll, SparedTo1D}
 use Rattle.rules.proofs.Mending.{Mends}
 use Rattle.rules.proofs.MendedPage.{spared-count}
 use Rattle.rules.proofs.BadLines2D.{bad-lines-2d}
-use Rattle.error.specs.declared.Answer.{Answer}
-use Rattle.rows.specs.Settings.{encodingOf, settingsOf}
+use Rattle.answer.specs.declared.Answer.{Answer}
+use Rattle.settings.specs.Settings.{encodingOf, settingsOf}
 use Rattle.promises.specs.Rooms.{places}
 use Rattle.promises.specs.BadLines2D.{BadLinesCostRowsTo1D}
 use Rattle.promises.proofs.Rooms.{answerIn}

@@ -25,9 +25,9 @@ use Rattle.rules.proofs.LessRoom.{changesIn}
 use Rattle.rules.proofs.ByRow.{few-cases, call-cases, repeats-end, call-marked, Bounded, row-bounded, call-sides, Own, own-start, own-lent, rowAt, rowIn, own-next, own-reads}
 use Rattle.rules.proofs.ByRow as Laws
 use Rattle.rules.proofs.FormsAgree.{start-sound, fitting-agree, few-changes, any-row, changesHere, four-exactly}
-use Rattle.error.specs.declared.Answer.{Answer}
-use Rattle.rows.specs.declared.DecodeSettings.{DecodeSettings}
-use Rattle.rows.specs.Settings.{settingsOf}
+use Rattle.answer.specs.declared.Answer.{Answer}
+use Rattle.settings.specs.declared.DecodeSettings.{DecodeSettings}
+use Rattle.settings.specs.Settings.{settingsOf}
 use Rattle.by_row.specs.declared.Side.{Side}
 use Rattle.by_row.specs.declared.Side.the-variants.{First, Second}
 use Rattle.by_row.specs.declared.End.the-variants.{Unended}

@@ -29,11 +29,11 @@ use Rattle.rules.proofs.Answers.{short-cases, decode-reads}
 use Rattle.rules.proofs.Calls.{total-same, calls-enough, calls-few}
 use Rattle.rules.proofs.Handed.{passes}
 use Rattle.rules.proofs.ByUnit.{turn-cases, turn-ends, turn-repeats, Positive, turns-ended, turns-open, turns-report}
-use Rattle.error.specs.declared.Answer.{Answer}
-use Rattle.error.specs.Error as Error
-use Rattle.rows.specs.declared.DecodeSettings.{DecodeSettings}
-use Rattle.rows.specs.declared.EncodingMode.the-variants.{Group4}
-use Rattle.rows.specs.Settings.{encodingOf, settingsOf}
+use Rattle.answer.specs.declared.Answer.{Answer}
+use Rattle.answer.specs.Answer as Error
+use Rattle.settings.specs.declared.DecodeSettings.{DecodeSettings}
+use Rattle.settings.specs.declared.EncodingMode.the-variants.{Group4}
+use Rattle.settings.specs.Settings.{encodingOf, settingsOf}
 use Rattle.by_unit.specs.declared.Saved.{Saved}
 use Rattle.by_unit.specs.declared.Reading as Unit
 use Rattle.by_unit.specs.declared.Reading.the-variants.{Open, Ended}

@@ -22,8 +22,8 @@ use Rattle.rules.proofs.Rows.{row4-cases, row3-cases, mended-cases, line3-damag
 use Rattle.rules.proofs.Bits.{length-bitsOf}
 use Rattle.rules.proofs.Answers.{short-cases, Refuses, too-wide, too-long, no-columns, Allowed, decode-cases}
 use Rattle.rules.proofs.Pages.{step, roomFor, page-cases, page-falls, Held, held-start, held-next, Answered, read-answered}
-use Rattle.error.specs.Error.{answerOf, rowAnswerOf}
-use Rattle.rows.specs.Settings.{settingsOf}
+use Rattle.answer.specs.Answer.{answerOf, rowAnswerOf}
+use Rattle.settings.specs.Settings.{settingsOf}
 use Rattle.promises.specs.Bytes.{Consumed, PageBytes, BytesOfPage, Passes, LineBytes, BytesOfLine, BytesInSteps}
 use Rattle.promises.proofs.Demand1Line as Lined
 use Rattle.promises.proofs.PageFaults.{one-more}

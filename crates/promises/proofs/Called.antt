@@ -5,7 +5,7 @@ use Prim.Native.Nat.{ℕ, _≤_}
 use native.Mathlib.Omega.{arith}
 use lib.IntN.{ℤ}
 use lib.ListN.{take}
-use Rattle.rows.specs.declared.DecodeSettings.{DecodeSettings}
+use Rattle.settings.specs.declared.DecodeSettings.{DecodeSettings}
 use Rattle.heads.specs.Form.{heads}
 use Rattle.heads.specs.declared.Box.{Box}
 use Rattle.heads.specs.declared.HeadsAnswer.{HeadsAnswer}

@@ -22,8 +22,8 @@ use Rattle.rules.proofs.Store.{length-rowsIn}
 use Rattle.rules.proofs.RoundTrip.{bits-split}
 use Rattle.rules.proofs.Group3Trip.{blank-none, Page3Written, page3-written, page-bytes}
 use Rattle.rules.proofs.CutPage3.{cut-told}
-use Rattle.error.specs.declared.Answer.{Answer}
-use Rattle.rows.specs.Settings.{encodingOf, settingsOf}
+use Rattle.answer.specs.declared.Answer.{Answer}
+use Rattle.settings.specs.Settings.{encodingOf, settingsOf}
 use Rattle.writer.specs.Outcome.{Answers}
 use Rattle.promises.specs.Rooms.{places, rowsOf, marksOf}
 use Rattle.promises.specs.CutGroup3.{CutIsTold, ExactTellsEveryCut}

@@ -22,10 +22,10 @@ use Rattle.rules.proofs.ExactPages.{ShortPage, decode-short, decode-done}
 use Rattle.rules.proofs.MoreRoom.{decode-settled}
 use Rattle.rules.proofs.Marks.{came-as-many, decode-came}
 use Rattle.rules.proofs.Store.{length-joined, length-ends, rows-back}
-use Rattle.error.specs.Error.{answerOf}
-use Rattle.error.specs.declared.Answer.{Answer}
-use Rattle.rows.specs.declared.DecodeSettings.{DecodeSettings}
-use Rattle.rows.specs.Settings.{settingsOf}
+use Rattle.answer.specs.Answer.{answerOf}
+use Rattle.answer.specs.declared.Answer.{Answer}
+use Rattle.settings.specs.declared.DecodeSettings.{DecodeSettings}
+use Rattle.settings.specs.Settings.{settingsOf}
 use Rattle.ccitt.specs.Decode.{Gives}
 use Rattle.promises.specs.Demand1.{TooFew, Listed, Refused, Stored, DecodeAnswers, Stays, MoreRoom}
 

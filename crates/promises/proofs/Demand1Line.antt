@@ -17,8 +17,8 @@ use Rattle.rules.proofs.Bits.{length-bitsOf}
 use Rattle.rules.specs.Rising.{Rising}
 use Rattle.rules.proofs.Lines.{read-whole, read-broken, data-bound}
 use Rattle.rules.proofs.Store.{length-joined}
-use Rattle.error.specs.Error.{rowAnswerOf}
-use Rattle.error.specs.declared.Answer.{Answer}
+use Rattle.answer.specs.Answer.{rowAnswerOf}
+use Rattle.answer.specs.declared.Answer.{Answer}
 use Rattle.promises.specs.Demand1Line.{LineListed, LineRefused, LineStored, ReadLineAnswers}
 
 module _ (bytes : List ℕ) (at columns : ℕ) (strict : Bool) (reference changes : List ℕ) where

@@ -13,7 +13,7 @@ use Rattle.rules.specs.Lines.{two}
 use Rattle.rules.specs.Pages.{mostBytes, noLine, entries}
 use Rattle.rules.specs.Write.{mostMakeup, lineBits, pageBits, rowsIn, writes, writeLine, writePage, Written, unwritten}
 use Rattle.rules.proofs.Writes.{writes-cases}
-use Rattle.error.specs.declared.Answer.{Answer}
+use Rattle.answer.specs.declared.Answer.{Answer}
 use Rattle.writer.specs.Outcome.{Answers}
 use Rattle.promises.specs.Demand1Write.{WriteListed, WriteLineAnswers, WritePageAnswers}
 

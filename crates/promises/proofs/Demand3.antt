@@ -20,10 +20,10 @@ use Rattle.rules.proofs.PageBack.{Plain, whole}
 use Rattle.rules.proofs.ReadBack.{rows-same}
 use Rattle.rules.proofs.RoundTrip.{line-returns, bits-split, page-returns, page-cut, line-written, PageWritten, page-written}
 use Rattle.rules.proofs.Store.{length-rowsIn}
-use Rattle.error.specs.Error.{answerOf, rowAnswerOf}
-use Rattle.error.specs.declared.Answer.{Answer}
-use Rattle.rows.specs.declared.DecodeSettings.{DecodeSettings}
-use Rattle.rows.specs.Settings.{encodingOf, settingsOf}
+use Rattle.answer.specs.Answer.{answerOf, rowAnswerOf}
+use Rattle.answer.specs.declared.Answer.{Answer}
+use Rattle.settings.specs.declared.DecodeSettings.{DecodeSettings}
+use Rattle.settings.specs.Settings.{encodingOf, settingsOf}
 use Rattle.one_line.specs.OneLine.{ReadOne}
 use Rattle.writer.specs.Outcome.{Answers}
 use Rattle.promises.specs.Demand3.{Back, LineReadsBack, WrittenLineReadsBack, LinesApart, Plainly, WrittenPageReadsBack, Due, CutPageGivesFirstRows}

@@ -14,7 +14,7 @@ use Rattle.rules.specs.Plain.{lost, byEntry, byLookup}
 use Rattle.rules.proofs.Codes.{shape}
 use Rattle.rules.proofs.Lookup.{lookup-valid}
 use Rattle.rules.proofs.Plain.{plain-is-lookup}
-use Rattle.error.specs.Error.{numberOf}
+use Rattle.answer.specs.Answer.{numberOf}
 use Rattle.codes.specs.Plain.{foundOf}
 use Rattle.codes.specs.declared.plain.Found.{Found}
 use Rattle.promises.specs.EnginesAgree.{BothAt, CodesAgree, RunsAgree, FailingCodesAgree, byEngine, PagesAgree}

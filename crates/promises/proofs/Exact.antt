@@ -24,10 +24,10 @@ use Rattle.rules.proofs.Answers.{short-rows, Refuses, too-wide, too-long, no-co
 use Rattle.rules.specs.Marks.{strictOf}
 use Rattle.rules.proofs.Marks.{decode-came, came-as-many}
 use Rattle.rules.proofs.ExactPages.{Beside, agrees, lacks, refuses, exact-off, decode-short, decode-beside, exact-same, exact-first}
-use Rattle.error.specs.Error.{answerOf}
-use Rattle.error.specs.declared.Answer.{Answer}
-use Rattle.rows.specs.declared.DecodeSettings.{DecodeSettings}
-use Rattle.rows.specs.Settings.{settingsOf}
+use Rattle.answer.specs.Answer.{answerOf}
+use Rattle.answer.specs.declared.Answer.{Answer}
+use Rattle.settings.specs.declared.DecodeSettings.{DecodeSettings}
+use Rattle.settings.specs.Settings.{settingsOf}
 use Rattle.ccitt.specs.Decode.{Gives}
 use Rattle.promises.specs.Rooms.{Call, places}
 use Rattle.promises.specs.Exact.{ExactOff, ExactOffCodes, Twice, SameArrays, ExactIsStrict, fourteen, ShortIsStrict, ExactIsFront, ShortStays, linesOf, ExactCodesMoveOn, FewCodesInALine, codesAfter, pageCodes, FewCodesInAPage}

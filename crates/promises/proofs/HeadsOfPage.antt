@@ -27,10 +27,10 @@ use Rattle.rules.proofs.Rows.{row4-cases, row3-cases, mended-cases}
 use Rattle.rules.proofs.Store.{length-joined, length-ends, length-rowsIn}
 use Rattle.rules.specs.Marks.{Came, none-yet, and-row, Told}
 use Rattle.rules.proofs.Marks.{came-as-many}
-use Rattle.error.specs.declared.Answer.{Answer}
-use Rattle.rows.specs.declared.DecodeSettings.{DecodeSettings}
-use Rattle.rows.specs.Settings.{settingsOf}
-use Rattle.desk.proofs.Stored.{ends-rise}
+use Rattle.answer.specs.declared.Answer.{Answer}
+use Rattle.settings.specs.declared.DecodeSettings.{DecodeSettings}
+use Rattle.settings.specs.Settings.{settingsOf}
+use Rattle.listing_text.proofs.Stored.{ends-rise}
 use Rattle.writer.specs.Paging.{goodRows}
 use Rattle.writer.specs.Outcome as Writer
 use Rattle.heads.specs.Form.{Page, pixel, marked, sound}

@@ -19,10 +19,10 @@ use Rattle.rules.specs.Marks.{Refused, refused, Came}
 use Rattle.rules.proofs.Clean.{Twin, alike, apart, cutOf, line-twins}
 use Rattle.rules.proofs.Marks.{at-most-at, decode-came, came-listed, came-strict}
 use Rattle.rules.proofs.RoundTrip.{line-returns}
-use Rattle.error.specs.Error.{rowAnswerOf}
-use Rattle.error.specs.declared.Answer.{Answer}
-use Rattle.rows.specs.declared.DecodeSettings.{DecodeSettings}
-use Rattle.rows.specs.Settings.{settingsOf}
+use Rattle.answer.specs.Answer.{rowAnswerOf}
+use Rattle.answer.specs.declared.Answer.{Answer}
+use Rattle.settings.specs.declared.DecodeSettings.{DecodeSettings}
+use Rattle.settings.specs.Settings.{settingsOf}
 use Rattle.ccitt.specs.Decode.{Decodes}
 use Rattle.promises.specs.Marks.{DecodeMarks, MarksTell, WrittenPageIsClean, ReadLineMarks, LineMarkTells, WrittenLineIsClean}
 use Rattle.promises.proofs.Demand1 as Paged

@@ -2,8 +2,8 @@
 use mathlib.Core.Path.{_≡_, sym, ap, _∙_, subst}
 use mathlib.Core.Logic.{inl, inr}
 use mathlib.Core.Bool.{false}
-use Rattle.rows.specs.declared.EncodingMode.the-variants.{Group4}
-use Rattle.rows.specs.declared.DecodeSettings.{DecodeSettings}
+use Rattle.settings.specs.declared.EncodingMode.the-variants.{Group4}
+use Rattle.settings.specs.declared.DecodeSettings.{DecodeSettings}
 use Rattle.by_row.specs.declared.RowState.{RowState}
 use Rattle.by_row.specs.declared.RowStep.{RowStep}
 use Rattle.by_row.specs.ByRow.{ReadsRow}
@@ -16,7 +16,7 @@ use Rattle.by_unit.specs.Reading.{ReadsUnits}
 use Rattle.exports.specs.UnitState as Units
 use Rattle.exports.specs.UnitState.{ReadsUnitsForC}
 use Rattle.exports.proofs.UnitState as UnitLaws
-use Rattle.desk.proofs.Standing.{says-once}
+use Rattle.listing_text.proofs.Standing.{says-once}
 use Rattle.promises.specs.PinnedAround.{ForCGroup4Pinned, ForCGroup3Pinned, ForCRowPinned, ForCUnitsPinned, PushLinePinned, ParsePinned, PrintsPinned}
 use Rattle.promises.proofs.OneAnswer.{settled-with}
 use Rattle.promises.proofs.Pinned.{decode-pinned, push-pinned}

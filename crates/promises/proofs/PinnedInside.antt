@@ -15,9 +15,9 @@ use Rattle.rules.specs.Runs.{Res, ok, fault, Sum, sum, readRun}
 use Rattle.rules.specs.Plain as Plain
 use Rattle.rules.specs.Modes as Rule
 use Rattle.rules.specs.Modes.{pass, horizontal, VR, VL, Moded}
-use Rattle.error.specs.Error.{numberOf}
-use Rattle.error.specs.declared.DecodeError.{DecodeError}
-use Rattle.error.specs.declared.DecodeError.the-variants.{UnexpectedEof, InvalidCode, Overflow}
+use Rattle.answer.specs.Answer.{numberOf}
+use Rattle.answer.specs.declared.DecodeError.{DecodeError}
+use Rattle.answer.specs.declared.DecodeError.the-variants.{UnexpectedEof, InvalidCode, Overflow}
 use Rattle.bit_reader.specs.Loaded.{Loaded, LoadedAt}
 use Rattle.bit_reader.specs.declared.buffer.Buffer.{Buffer}
 use Rattle.bit_reader.specs.declared.buffer.Fed.the-variants.{On, End}
@@ -37,7 +37,7 @@ use Rattle.codes.specs.declared.run.Code.the-variants as OfRun
 use Rattle.codes.specs.declared.run.Run.{Run}
 use Rattle.codes.specs.declared.run.Run.the-variants.{Length, Bad}
 use Rattle.context.specs.Places.{B1At}
-use Rattle.one_line.specs.declared.once.OneCode.the-variants.{Runs, Did}
+use Rattle.one_line.specs.declared.one_code.OneCode.the-variants.{Runs, Did}
 use Rattle.promises.specs.PinnedInside as Pinned
 use Rattle.promises.specs.PinnedInside.{Alike, AlikeRuns}
 use Rattle.promises.proofs.OneAnswer.{settled, settled-with, settled-by}

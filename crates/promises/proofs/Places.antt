@@ -16,10 +16,10 @@ use Rattle.rules.proofs.Places.{Fault, read-placed, page-placed}
 use Rattle.rules.proofs.Places as Law
 use Rattle.rules.proofs.Answers.{short-cases}
 use Rattle.rules.proofs.Marks.{implied}
-use Rattle.error.specs.Error.{answerWith}
-use Rattle.error.specs.declared.Answer.{Answer}
-use Rattle.rows.specs.declared.DecodeSettings.{DecodeSettings}
-use Rattle.rows.specs.Settings.{settingsOf}
+use Rattle.answer.specs.Answer.{answerWith}
+use Rattle.answer.specs.declared.Answer.{Answer}
+use Rattle.settings.specs.declared.DecodeSettings.{DecodeSettings}
+use Rattle.settings.specs.Settings.{settingsOf}
 use Rattle.promises.specs.Places.{Placed, DecodePlaces, ReadLinePlaces, WritersNameNone, RunFaults, ModeFaults, LineFault, ReadLineFaults, PageFault, DecodeFaults}
 use Rattle.promises.proofs.Demand1 as Paged
 use Rattle.promises.proofs.Demand1Line as Lined

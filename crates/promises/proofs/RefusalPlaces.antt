@@ -19,9 +19,9 @@ use Rattle.rules.specs.ByUnit as Units
 use Rattle.rules.specs.ByUnit.{goingOf, baseOf, saidBehind, unlessFewer, readingAfter, asGroup4, turn}
 use Rattle.rules.proofs.ByRow.{few-cases, call-cases}
 use Rattle.rules.proofs.ByUnit.{turn-cases}
-use Rattle.error.specs.declared.Answer.{Answer}
-use Rattle.rows.specs.declared.DecodeSettings.{DecodeSettings}
-use Rattle.rows.specs.Settings.{settingsOf}
+use Rattle.answer.specs.declared.Answer.{Answer}
+use Rattle.settings.specs.declared.DecodeSettings.{DecodeSettings}
+use Rattle.settings.specs.Settings.{settingsOf}
 use Rattle.by_row.specs.declared.RowState.{RowState}
 use Rattle.by_row.specs.ByRow.{Ending, endOf, rowStateOf}
 use Rattle.by_row.proofs.States as RowEnds

@@ -15,10 +15,10 @@ use Rattle.rules.proofs.Within.{front-joined, front-ends}
 use Rattle.rules.proofs.Marks.{decode-came, came-as-many}
 use Rattle.rules.proofs.Rooms.{decode-within, decode-front, decode-spent, four-wants, five-wants, four-never, four-never-more, five-never, one-within, one-front, one-spent, one-wants, one-never}
 use Rattle.rules.specs.Lines.{headOr}
-use Rattle.error.specs.Error.{rowAnswerOf}
-use Rattle.error.specs.declared.Answer.{Answer}
-use Rattle.rows.specs.declared.DecodeSettings.{DecodeSettings}
-use Rattle.rows.specs.Settings.{settingsOf}
+use Rattle.answer.specs.Answer.{rowAnswerOf}
+use Rattle.answer.specs.declared.Answer.{Answer}
+use Rattle.settings.specs.declared.DecodeSettings.{DecodeSettings}
+use Rattle.settings.specs.Settings.{settingsOf}
 use Rattle.ccitt.specs.Decode.{Gives}
 use Rattle.promises.specs.Rooms.{Call, places, rowsOf, marksOf, looseOf, handed, Front, Roomier, FourFills, FiveFills, FourGoesOn, FiveGoesOn, SmallerRoom, SmallerRoomIsFront, RoomEnough, EntryForEachBit, LineCall, asCall, LineReading, LineFourFills, LineFourGoesOn, SmallerLine, SmallerLineIsFront, LineRoomEnough}
 use Rattle.promises.proofs.Demand1.{changes-front, ends-front, marks-front, in-store}

@@ -25,9 +25,9 @@ use Rattle.rules.proofs.Budget.{whole-bytes}
 use Rattle.rules.proofs.Pages.{Does, row-does}
 use Rattle.rules.proofs.LessRoom.{changesIn, RowCut, RowFills, row-fills, row-cut, row-cut-cases}
 use Rattle.rules.proofs.ByRow.{call-cases, Bounded, row-bounded}
-use Rattle.error.specs.declared.Answer.{Answer}
-use Rattle.rows.specs.declared.DecodeSettings.{DecodeSettings}
-use Rattle.rows.specs.Settings.{settingsOf}
+use Rattle.answer.specs.declared.Answer.{Answer}
+use Rattle.settings.specs.declared.DecodeSettings.{DecodeSettings}
+use Rattle.settings.specs.Settings.{settingsOf}
 use Rattle.by_row.specs.declared.End.the-variants.{Unended}
 use Rattle.by_row.specs.declared.RowState.{RowState}
 use Rattle.by_row.specs.ByRow.{sideOf, otherSide, endOf, rowStateOf, answerOf, countOf}

@@ -23,8 +23,8 @@ use Rattle.rules.proofs.Budget.{Bytes, whole-bytes, aligned-ahead, Starts, Sets
 use Rattle.rules.proofs.Rows.{row4-cases, row3-cases, mended-cases, line3-whole}
 use Rattle.rules.proofs.Answers.{short-rows, short-marks, decode-cases}
 use Rattle.rules.proofs.Pages.{step, roomFor, page-cases, page-falls, Behind, ends-behind, Held, held-start, held-next}
-use Rattle.error.specs.declared.Answer as Source
-use Rattle.rows.specs.Settings.{settingsOf}
+use Rattle.answer.specs.declared.Answer as Source
+use Rattle.settings.specs.Settings.{settingsOf}
 use Rattle.promises.specs.RowsTakeBits.{Excepted, RowTakes, RowsTakeBits}
 use Rattle.promises.proofs.PageFaults.{one-more}
 use Rattle.promises.proofs.Marks.{mark-at}

@@ -21,11 +21,11 @@ use Rattle.rules.specs.ByUnit.{endOf, goingOf, savedAt, saidBehind, unlessFewer
 use Rattle.rules.specs.ByRow as Rule
 use Rattle.rules.specs.ByRow.{Arrays, arrayAt, other}
 use Rattle.rules.proofs.ByUnit.{turn-cases}
-use Rattle.error.specs.declared.Answer.{Answer}
-use Rattle.rows.specs.declared.DecodeSettings.{DecodeSettings}
-use Rattle.rows.specs.declared.EncodingMode.{EncodingMode}
-use Rattle.rows.specs.declared.EncodingMode.the-variants.{Group4, «Group3_1D», «Group3_2D»}
-use Rattle.rows.specs.Settings.{settingsOf as ofSource}
+use Rattle.answer.specs.declared.Answer.{Answer}
+use Rattle.settings.specs.declared.DecodeSettings.{DecodeSettings}
+use Rattle.settings.specs.declared.EncodingMode.{EncodingMode}
+use Rattle.settings.specs.declared.EncodingMode.the-variants.{Group4, «Group3_1D», «Group3_2D»}
+use Rattle.settings.specs.Settings.{settingsOf as ofSource}
 use Rattle.ccitt.specs.Decode.{Gives}
 use Rattle.by_row.specs.declared.Side.{Side}
 use Rattle.by_row.specs.declared.Side.the-variants.{First, Second}

@@ -27,9 +27,9 @@ use Rattle.rules.proofs.Bits.{both-true}
 use Rattle.rules.proofs.ByUnit.{turn-cases}
 use Rattle.rules.proofs.Store.{length-joined, length-ends, rows-back}
 use Rattle.rules.proofs.ByRow.{call-cases}
-use Rattle.error.specs.declared.Answer.{Answer}
-use Rattle.rows.specs.declared.DecodeSettings.{DecodeSettings}
-use Rattle.rows.specs.Settings.{settingsOf}
+use Rattle.answer.specs.declared.Answer.{Answer}
+use Rattle.settings.specs.declared.DecodeSettings.{DecodeSettings}
+use Rattle.settings.specs.Settings.{settingsOf}
 use Rattle.by_row.specs.declared.End.the-variants.{Unended}
 use Rattle.by_row.specs.ByRow.{endOf, rowStateOf, answerOf, countOf}
 use Rattle.by_unit.specs.declared.Saved.{Saved}

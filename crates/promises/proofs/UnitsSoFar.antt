@@ -20,9 +20,9 @@ use Rattle.rules.proofs.Budget.{whole-bytes}
 use Rattle.rules.proofs.Answers.{short-cases, decode-reads}
 use Rattle.rules.proofs.Calls.{called, calls-left, page-left, page-open}
 use Rattle.rules.proofs.ByUnit.{Tie, tie-start, tie-call}
-use Rattle.error.specs.declared.Answer.{Answer}
-use Rattle.rows.specs.declared.DecodeSettings.{DecodeSettings}
-use Rattle.rows.specs.Settings.{settingsOf}
+use Rattle.answer.specs.declared.Answer.{Answer}
+use Rattle.settings.specs.declared.DecodeSettings.{DecodeSettings}
+use Rattle.settings.specs.Settings.{settingsOf}
 use Rattle.by_unit.specs.Standing.{answerOf}
 use Rattle.promises.specs.Rooms.{Call}
 use Rattle.promises.specs.ByUnit.{UnitCall, numberOf, Page}

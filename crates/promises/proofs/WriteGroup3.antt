@@ -17,10 +17,10 @@ use Rattle.rules.proofs.Bits.{both-true}
 use Rattle.rules.specs.Damage.{allClean}
 use Rattle.rules.proofs.Writes.{write3-cases}
 use Rattle.rules.proofs.Group3Trip.{Returns, Page3Written, page3-written, Told1D, Told2D, write1D-returns, write2D-returns}
-use Rattle.error.specs.Error.{answerOf}
-use Rattle.error.specs.declared.Answer.{Answer}
-use Rattle.rows.specs.declared.DecodeSettings.{DecodeSettings}
-use Rattle.rows.specs.Settings.{encodingOf, settingsOf}
+use Rattle.answer.specs.Answer.{answerOf}
+use Rattle.answer.specs.declared.Answer.{Answer}
+use Rattle.settings.specs.declared.DecodeSettings.{DecodeSettings}
+use Rattle.settings.specs.Settings.{encodingOf, settingsOf}
 use Rattle.writer.specs.Outcome.{Answers}
 use Rattle.promises.specs.WriteGroup3.{Write3Listed, Write1DAnswers, Write2DAnswers, For1D, For2D, GivesBack, Written1DReadsBack, Written1DBeforeZeros, Written2DReadsBack, Written2DBeforeZeros, tagged1D, KOneIsAll1D}
 use Rattle.promises.proofs.Demand1.{in-store}

@@ -2,7 +2,7 @@
 -- place or 1 with bytes, can be repeated.
 use Prim.Native.Nat.{ℕ, _<_}
 use mathlib.Core.List.{List}
-use Rattle.rows.specs.declared.DecodeSettings.{DecodeSettings}
+use Rattle.settings.specs.declared.DecodeSettings.{DecodeSettings}
 use Rattle.ccitt.specs.Ends.{Allowed}
 use Rattle.by_row.specs.ByRow as Row
 use Rattle.by_unit.specs.Reading as Unit

@@ -11,9 +11,9 @@ use Rattle.rules.specs.Pages.{mostBytes}
 use Rattle.rules.specs.Write.{mostMakeup, lineBits, rowsIn}
 use Rattle.rules.specs.WriteGroup3.{filled, page3Bits, write1D}
 use Rattle.rules.specs.Damage.{stray, Arrived, own, other, owns, arrivedPage, upTo, mayAll, Spared, RoomFor, AllButOne}
-use Rattle.error.specs.declared.Answer.{Answer}
-use Rattle.rows.specs.declared.DecodeSettings.{DecodeSettings}
-use Rattle.rows.specs.declared.EncodingMode.the-variants.{«Group3_1D»}
+use Rattle.answer.specs.declared.Answer.{Answer}
+use Rattle.settings.specs.declared.DecodeSettings.{DecodeSettings}
+use Rattle.settings.specs.declared.EncodingMode.the-variants.{«Group3_1D»}
 use Rattle.writer.specs.Outcome.{Answers}
 use Rattle.promises.specs.Rooms.{Call, places, rowsOf, marksOf, Reading}
 

@@ -9,8 +9,8 @@ use Rattle.rules.specs.Bits.{bitsOf}
 use Rattle.rules.specs.Pages.{mostBytes}
 use Rattle.rules.specs.Write.{mostMakeup}
 use Rattle.rules.specs.Damage2D.{Coming, comingPage, mayComeAll, SparedTo1D}
-use Rattle.rows.specs.declared.DecodeSettings.{DecodeSettings}
-use Rattle.rows.specs.declared.EncodingMode.the-variants.{«Group3_2D»}
+use Rattle.settings.specs.declared.DecodeSettings.{DecodeSettings}
+use Rattle.settings.specs.declared.EncodingMode.the-variants.{«Group3_2D»}
 use Rattle.promises.specs.Rooms.{Call, rowsOf, marksOf, Reading}
 use Rattle.promises.specs.BadLines.{Roomy}
 

@@ -11,9 +11,9 @@ use Rattle.rules.specs.Pages.{mostBytes, strictIfExact, placesIn}
 use Rattle.rules.specs.Units.{pageUnits, total, sameEach, callsFor}
 use Rattle.rules.specs.ByUnit.{endOf, part, opened, savedStart}
 use Rattle.rules.specs.Rising.{Rising}
-use Rattle.rows.specs.declared.DecodeSettings.{DecodeSettings}
-use Rattle.rows.specs.declared.EncodingMode.the-variants.{Group4}
-use Rattle.rows.specs.Settings.{settingsOf}
+use Rattle.settings.specs.declared.DecodeSettings.{DecodeSettings}
+use Rattle.settings.specs.declared.EncodingMode.the-variants.{Group4}
+use Rattle.settings.specs.Settings.{settingsOf}
 use Rattle.by_unit.specs.declared.Saved.{Saved}
 use Rattle.by_unit.specs.declared.Reading as Unit
 use Rattle.by_unit.specs.declared.Reading.the-variants.{Open}

@@ -10,9 +10,9 @@ use Rattle.rules.specs.Bits.{bitsOf}
 use Rattle.rules.specs.Rows.{Settings, bytesTo, finished}
 use Rattle.rules.specs.Pages.{Kept, noneKept, entries, pageStep, rowOf, strictIfExact, mostBytes, ascends, placesIn}
 use Rattle.rules.specs.InSteps.{moreToCome}
-use Rattle.error.specs.declared.Answer.{Answer}
-use Rattle.rows.specs.declared.DecodeSettings.{DecodeSettings}
-use Rattle.rows.specs.Settings.{settingsOf}
+use Rattle.answer.specs.declared.Answer.{Answer}
+use Rattle.settings.specs.declared.DecodeSettings.{DecodeSettings}
+use Rattle.settings.specs.Settings.{settingsOf}
 use Rattle.ccitt.specs.Decode.{Decodes}
 use Rattle.one_line.specs.OneLine.{ReadOne}
 use Rattle.promises.specs.ByRow.{RowCall, RowReading}

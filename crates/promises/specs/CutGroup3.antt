@@ -10,9 +10,9 @@ use Rattle.rules.specs.Bits.{bitsOf}
 use Rattle.rules.specs.Write.{mostMakeup, rowsIn}
 use Rattle.rules.specs.WriteGroup3.{write1D}
 use Rattle.rules.specs.Cut.{CutTold}
-use Rattle.error.specs.declared.Answer.{Answer}
-use Rattle.rows.specs.declared.DecodeSettings.{DecodeSettings}
-use Rattle.rows.specs.declared.EncodingMode.the-variants.{«Group3_1D»}
+use Rattle.answer.specs.declared.Answer.{Answer}
+use Rattle.settings.specs.declared.DecodeSettings.{DecodeSettings}
+use Rattle.settings.specs.declared.EncodingMode.the-variants.{«Group3_1D»}
 use Rattle.writer.specs.Outcome.{Answers}
 use Rattle.promises.specs.Rooms.{Call, rowsOf, marksOf, Reading}
 

@@ -10,8 +10,8 @@ use lib.ListN.{length, take, drop}
 use Rattle.rules.specs.Pages.{mostBytes, entries}
 use Rattle.rules.specs.Write.{rowsIn}
 use Rattle.rules.specs.Rising.{Rows}
-use Rattle.error.specs.declared.Answer.{Answer}
-use Rattle.rows.specs.declared.DecodeSettings.{DecodeSettings}
+use Rattle.answer.specs.declared.Answer.{Answer}
+use Rattle.settings.specs.declared.DecodeSettings.{DecodeSettings}
 use Rattle.ccitt.specs.Decode.{Decodes}
 
 -- ---- The page form

@@ -7,7 +7,7 @@ use Prim.Native.Nat.{ℕ, _+_, _*_, _≤_, _<_}
 use lib.ListN.{length, take, drop}
 use Rattle.rules.specs.Pages.{mostBytes, ascends}
 use Rattle.rules.specs.Rising.{Rising}
-use Rattle.error.specs.declared.Answer.{Answer}
+use Rattle.answer.specs.declared.Answer.{Answer}
 use Rattle.one_line.specs.OneLine.{ReadOne}
 
 -- a call of `read_line` on bytes, from a bit, with a reference and an array of changes: its answer, and the array after it

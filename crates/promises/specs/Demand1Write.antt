@@ -8,7 +8,7 @@ use lib.ListN.{length}
 use Rattle.rules.specs.Lines.{two}
 use Rattle.rules.specs.Pages.{mostBytes, ascends}
 use Rattle.rules.specs.Write.{mostMakeup, lineBits, pageBits, rowsIn, endsRise, allAscend, writeLine, writePage}
-use Rattle.error.specs.declared.Answer.{Answer}
+use Rattle.answer.specs.declared.Answer.{Answer}
 use Rattle.writer.specs.Outcome.{Answers}
 
 -- a call of a writer: whether what it is to write is good, and the bit after its last one

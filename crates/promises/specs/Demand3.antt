@@ -12,9 +12,9 @@ use Rattle.rules.specs.Lines.{two}
 use Rattle.rules.specs.Pages.{mostBytes, entries}
 use Rattle.rules.specs.Write.{mostMakeup, lineBits, rowsBits, rowsIn, writeLine, writePage}
 use Rattle.rules.specs.Rising.{Rising}
-use Rattle.error.specs.declared.Answer.{Answer}
-use Rattle.rows.specs.declared.DecodeSettings.{DecodeSettings}
-use Rattle.rows.specs.declared.EncodingMode.the-variants.{Group4}
+use Rattle.answer.specs.declared.Answer.{Answer}
+use Rattle.settings.specs.declared.DecodeSettings.{DecodeSettings}
+use Rattle.settings.specs.declared.EncodingMode.the-variants.{Group4}
 use Rattle.one_line.specs.OneLine.{ReadOne}
 use Rattle.writer.specs.Outcome.{Answers}
 use Rattle.ccitt.specs.Decode.{Decodes}

@@ -7,16 +7,16 @@ use lib.ListN.{drop}
 use Rattle.rules.specs.Bits.{bitsOf}
 use Rattle.rules.specs.Codes.{Colour}
 use Rattle.rules.specs.Plain.{lost, plain, byLookup}
-use Rattle.error.specs.Error.{numberOf}
-use Rattle.error.specs.declared.Answer.{Answer}
-use Rattle.error.specs.declared.DecodeError.{DecodeError}
+use Rattle.answer.specs.Answer.{numberOf}
+use Rattle.answer.specs.declared.Answer.{Answer}
+use Rattle.answer.specs.declared.DecodeError.{DecodeError}
 use Rattle.bit_reader.specs.declared.buffer.Buffer.{Buffer}
 use Rattle.codes.specs.Plain.{foundOf}
 use Rattle.codes.specs.Runs.{RunRead}
 use Rattle.codes.specs.declared.plain.Found.{Found}
 use Rattle.codes.specs.declared.run.Run.{Run}
 use Rattle.codes.specs.declared.run.Run.the-variants.{Bad}
-use Rattle.rows.specs.declared.DecodeSettings.{DecodeSettings}
+use Rattle.settings.specs.declared.DecodeSettings.{DecodeSettings}
 use Rattle.ccitt.specs.Decode.{Decodes}
 use Rattle.promises.specs.PinnedInside.{AlikeRuns}
 

@@ -15,10 +15,10 @@ use Rattle.rules.specs.Rows.{Settings, rulesOf}
 use Rattle.rules.specs.Group4.{eolsBefore, over}
 use Rattle.rules.specs.Pages.{mostBytes, Kept, noneKept, entries, pageStep, rowOf, rowsLeft, strictIfExact, placesIn}
 use Rattle.rules.specs.Rising.{Rising}
-use Rattle.error.specs.declared.Answer.{Answer}
-use Rattle.rows.specs.declared.DecodeSettings.{DecodeSettings}
-use Rattle.rows.specs.declared.EncodingMode.the-variants.{Group4}
-use Rattle.rows.specs.Settings.{settingsOf}
+use Rattle.answer.specs.declared.Answer.{Answer}
+use Rattle.settings.specs.declared.DecodeSettings.{DecodeSettings}
+use Rattle.settings.specs.declared.EncodingMode.the-variants.{Group4}
+use Rattle.settings.specs.Settings.{settingsOf}
 use Rattle.ccitt.specs.Decode.{Reads, Decodes}
 use Rattle.promises.specs.Demand1.{Stays}
 use Rattle.promises.specs.Rooms.{Call, rowsOf, marksOf, Reading}

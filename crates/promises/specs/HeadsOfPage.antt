@@ -14,9 +14,9 @@ use Rattle.rules.specs.Write.{mostMakeup, rowsIn, writePage}
 use Rattle.rules.specs.WriteGroup3.{write1D}
 use Rattle.rules.specs.Damage.{Arrived, own, other}
 use Rattle.rules.specs.Marks.{Came, Told}
-use Rattle.error.specs.declared.Answer.{Answer}
-use Rattle.rows.specs.declared.DecodeSettings.{DecodeSettings}
-use Rattle.rows.specs.Settings.{settingsOf}
+use Rattle.answer.specs.declared.Answer.{Answer}
+use Rattle.settings.specs.declared.DecodeSettings.{DecodeSettings}
+use Rattle.settings.specs.Settings.{settingsOf}
 use Rattle.writer.specs.Outcome as Writer
 use Rattle.heads.specs.declared.Box.{Box}
 use Rattle.heads.specs.declared.HeadsAnswer.{HeadsAnswer}

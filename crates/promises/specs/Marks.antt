@@ -13,9 +13,9 @@ use Rattle.rules.specs.Pages.{mostBytes, entries, strictIfExact}
 use Rattle.rules.specs.Write.{mostMakeup, lineBits, rowsIn, writePage}
 use Rattle.rules.specs.Rising.{Rising}
 use Rattle.rules.specs.Marks.{Came}
-use Rattle.error.specs.declared.Answer.{Answer}
-use Rattle.rows.specs.declared.DecodeSettings.{DecodeSettings}
-use Rattle.rows.specs.Settings.{settingsOf}
+use Rattle.answer.specs.declared.Answer.{Answer}
+use Rattle.settings.specs.declared.DecodeSettings.{DecodeSettings}
+use Rattle.settings.specs.Settings.{settingsOf}
 use Rattle.one_line.specs.OneLine.{ReadOne}
 use Rattle.writer.specs.Outcome.{Answers}
 use Rattle.ccitt.specs.Decode.{Decodes}

@@ -3,8 +3,8 @@ use mathlib.Core.Path.{_≡_}
 use mathlib.Core.Bool.{Bool, false}
 use mathlib.Core.List.{List}
 use Prim.Native.Nat.{ℕ}
-use Rattle.rows.specs.declared.EncodingMode.{EncodingMode}
-use Rattle.rows.specs.declared.EncodingMode.the-variants.{Group4}
+use Rattle.settings.specs.declared.EncodingMode.{EncodingMode}
+use Rattle.settings.specs.declared.EncodingMode.the-variants.{Group4}
 use Rattle.ccitt.specs.Decode.{Decodes}
 use Rattle.context.specs.declared.line.Line.{Line}
 use Rattle.exports.specs.Exports.{settingsFor}
@@ -13,8 +13,8 @@ use Rattle.exports.specs.UnitState.{ReadsUnitsForC}
 use Rattle.exports.specs.declared.UnitAnswer.{UnitAnswer}
 use Rattle.lent.specs.Lent.{Lends}
 use Rattle.lent.specs.declared.Pushed.{Pushed}
-use Rattle.desk.specs.Line.{Says}
-use Rattle.desk.specs.Listed.{Prints}
+use Rattle.listing_text.specs.Line.{Says}
+use Rattle.listing_text.specs.Listed.{Prints}
 use Rattle.promises.specs.OneAnswer.{OneAnswer, OneWith, OneWithThree}
 
 -- ---- exports: the settings are those that a function's parameters stand for. The others have the contracts of read_line and the writers.

@@ -43,7 +43,7 @@ use Rattle.one_line.specs.OneCode.{OneCoded}
 use Rattle.context.specs.declared.line.Line.{Line}
 use Rattle.context.specs.declared.reference.Found.{Found}
 use Rattle.context.specs.declared.step.Rules.{Rules}
-use Rattle.rows.specs.Between.{RowGives}
+use Rattle.settings.specs.Between.{RowGives}
 use Rattle.promises.specs.OneAnswer.{OneAnswer, OneWith}
 
 -- ---- tables

@@ -21,13 +21,13 @@ use Rattle.rules.specs.Pages.{Kept, noneKept, entries, pageStep, rowOf, strictI
 use Rattle.rules.specs.Write.{Written, codesBits}
 use Rattle.rules.specs.Eols.{EolAt}
 use Rattle.rules.specs.Counts.{Vertical}
-use Rattle.error.specs.declared.Answer.{Answer}
+use Rattle.answer.specs.declared.Answer.{Answer}
 use Rattle.codes.specs.Runs.{runOf, RunRead}
 use Rattle.codes.specs.declared.run.Run.{Run}
 use Rattle.codes.specs.Modes.{modeOf}
 use Rattle.codes.specs.declared.mode.Mode.{Mode}
-use Rattle.rows.specs.declared.DecodeSettings.{DecodeSettings}
-use Rattle.rows.specs.Settings.{settingsOf}
+use Rattle.settings.specs.declared.DecodeSettings.{DecodeSettings}
+use Rattle.settings.specs.Settings.{settingsOf}
 use Rattle.ccitt.specs.Decode.{Decodes}
 use Rattle.one_line.specs.OneLine.{ReadOne}
 use Rattle.writer.specs.Outcome.{Answers}

@@ -9,9 +9,9 @@ use Rattle.rules.specs.Pages as Page
 use Rattle.rules.specs.Pages.{changesAfter, placesIn}
 use Rattle.rules.specs.Write.{rowsIn}
 use Rattle.rules.specs.Within.{within}
-use Rattle.error.specs.Error.{rowAnswerOf}
-use Rattle.error.specs.declared.Answer.{Answer}
-use Rattle.rows.specs.declared.DecodeSettings.{DecodeSettings}
+use Rattle.answer.specs.Answer.{rowAnswerOf}
+use Rattle.answer.specs.declared.Answer.{Answer}
+use Rattle.settings.specs.declared.DecodeSettings.{DecodeSettings}
 use Rattle.one_line.specs.OneLine.{ReadOne}
 use Rattle.ccitt.specs.Decode.{Gives, Decodes}
 

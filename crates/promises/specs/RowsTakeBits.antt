@@ -10,9 +10,9 @@ use Rattle.rules.specs.Machine.{more, run}
 use Rattle.rules.specs.Bits.{bitsOf}
 use Rattle.rules.specs.Rows.{group4, Settings, recoveredMark}
 use Rattle.rules.specs.Pages.{Kept, noneKept, pageStep, rowOf, strictIfExact, placesIn}
-use Rattle.error.specs.declared.Answer.{Answer}
-use Rattle.rows.specs.declared.DecodeSettings.{DecodeSettings}
-use Rattle.rows.specs.Settings.{settingsOf}
+use Rattle.answer.specs.declared.Answer.{Answer}
+use Rattle.settings.specs.declared.DecodeSettings.{DecodeSettings}
+use Rattle.settings.specs.Settings.{settingsOf}
 use Rattle.ccitt.specs.Decode.{Decodes}
 
 -- The one row that may take none: the page's first, which was recovered, of a Group 3 page.

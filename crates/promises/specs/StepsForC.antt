@@ -11,9 +11,9 @@ use lib.ListN.{length, take, getD}
 use Rattle.rules.specs.Units.{sameEach}
 use Rattle.rules.specs.ByRow.{rowStart, FitIn}
 use Rattle.rules.specs.ByUnit.{opened, savedStart}
-use Rattle.error.specs.declared.Answer.{Answer}
-use Rattle.rows.specs.declared.DecodeSettings.{DecodeSettings}
-use Rattle.rows.specs.declared.EncodingMode.the-variants.{Group4}
+use Rattle.answer.specs.declared.Answer.{Answer}
+use Rattle.settings.specs.declared.DecodeSettings.{DecodeSettings}
+use Rattle.settings.specs.declared.EncodingMode.the-variants.{Group4}
 use Rattle.by_row.specs.declared.RowState.{RowState}
 use Rattle.by_row.specs.ByRow.{rowStateOf}
 use Rattle.by_unit.specs.declared.Reading as Unit

@@ -13,8 +13,8 @@ use Rattle.rules.specs.InSteps.{saysOnly}
 use Rattle.rules.specs.ByRow as Row
 use Rattle.rules.specs.ByUnit as Unit
 use Rattle.rules.specs.ByUnit.{part}
-use Rattle.error.specs.declared.Answer.{Answer}
-use Rattle.rows.specs.declared.DecodeSettings.{DecodeSettings}
+use Rattle.answer.specs.declared.Answer.{Answer}
+use Rattle.settings.specs.declared.DecodeSettings.{DecodeSettings}
 use Rattle.by_row.specs.declared.End.the-variants.{Unended}
 use Rattle.by_row.specs.ByRow.{endOf, otherSide}
 use Rattle.by_unit.specs.declared.Saved.{Saved}

@@ -9,9 +9,9 @@ use Rattle.rules.specs.Lines.{one}
 use Rattle.rules.specs.Pages.{mostBytes, entries}
 use Rattle.rules.specs.Write.{mostMakeup, lineBits, eolBits, rowsIn, endsRise, allAscend}
 use Rattle.rules.specs.WriteGroup3.{mixed, times, layout1D, page3Bits, write1D, write2D}
-use Rattle.error.specs.declared.Answer.{Answer}
-use Rattle.rows.specs.declared.DecodeSettings.{DecodeSettings}
-use Rattle.rows.specs.declared.EncodingMode.the-variants.{«Group3_1D», «Group3_2D»}
+use Rattle.answer.specs.declared.Answer.{Answer}
+use Rattle.settings.specs.declared.DecodeSettings.{DecodeSettings}
+use Rattle.settings.specs.declared.EncodingMode.the-variants.{«Group3_1D», «Group3_2D»}
 use Rattle.writer.specs.Outcome.{Answers}
 use Rattle.ccitt.specs.Decode.{Decodes}
 

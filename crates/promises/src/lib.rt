@@ -1,5 +1,6 @@
 // What the order demands, as statements over the contracts of the public functions: see specs/. The functions here tie these statements to the source: each
 // calls a public function and ensures the predicate that the promises are about. A function whose contract is weakened, or asks more, is refused here.
+pub mod of_answer;
 pub mod of_bit_reader;
 pub mod of_bit_reader_buffer;
 pub mod of_bit_reader_zeros;
@@ -15,31 +16,30 @@ pub mod of_context_line;
 pub mod of_context_offset;
 pub mod of_context_reference;
 pub mod of_context_step;
-pub mod of_desk_lines;
-pub mod of_desk_settings;
-pub mod of_error;
 pub mod of_exports;
 pub mod of_group3;
 pub mod of_group4;
 pub mod of_heads;
 pub mod of_heads_numbers;
 pub mod of_lent;
-pub mod of_one_line_once;
+pub mod of_listing_text_lines;
+pub mod of_listing_text_settings_line;
+pub mod of_one_line_line_1d;
+pub mod of_one_line_line_2d;
+pub mod of_one_line_one_code;
 pub mod of_one_line_read;
-pub mod of_one_line_runs;
-pub mod of_one_line_two;
 pub mod of_reader;
 pub mod of_reader_cursor;
-pub mod of_rows;
+pub mod of_settings;
 pub mod of_swift_loops;
 pub mod of_tables;
 pub mod of_writer;
 pub mod of_writer_page;
 
-use error::Answer;
+use answer::Answer;
 use heads::Box;
 use heads::HeadsAnswer;
-use rows::DecodeSettings;
+use settings::DecodeSettings;
 ghost use mathlib.Core.Path.{_≡_};
 ghost use lib.ListN.{take};
 ghost use Rattle.promises.specs.Called.{HeadsOfDecoded};

@@ -1,7 +1,7 @@
 // Calls of the public functions of by_row, each with the contract that its promises are about.
 use by_row::RowState;
 use by_row::RowStep;
-use rows::DecodeSettings;
+use settings::DecodeSettings;
 ghost use mathlib.Core.Path.{_≡_};
 ghost use Rattle.rules.specs.ByRow.{rowStart};
 ghost use Rattle.by_row.specs.ByRow.{rowStateOf, ReadsRow};

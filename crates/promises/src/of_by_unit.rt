@@ -1,7 +1,7 @@
 // Calls of the public functions of by_unit, each with the contract that its promises are about.
 use by_unit::Reading;
 use by_unit::Turn;
-use rows::DecodeSettings;
+use settings::DecodeSettings;
 ghost use mathlib.Core.Path.{_≡_};
 ghost use Rattle.rules.specs.ByUnit.{opened, savedStart};
 ghost use Rattle.by_unit.specs.Reading.{readingOf, ReadsUnits};

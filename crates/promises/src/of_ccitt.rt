@@ -1,9 +1,9 @@
 // Calls of the public functions of ccitt, each with the contract that its promises are about.
-use error::Answer;
-use rows::DecodeSettings;
+use answer::Answer;
+use settings::DecodeSettings;
 ghost use mathlib.Core.Path.{_≡_};
 ghost use Rattle.rules.specs.Pages.{tooFew};
-ghost use Rattle.rows.specs.Settings.{settingsOf};
+ghost use Rattle.settings.specs.Settings.{settingsOf};
 ghost use Rattle.ccitt.specs.Decode.{isGroup4, strictFor, Decodes};
 
 pub fn is_group4(settings: DecodeSettings) -> bool

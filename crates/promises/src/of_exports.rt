@@ -1,8 +1,8 @@
 // Calls of the public functions of exports, each with the contract that its promises are about.
-use error::Answer;
+use answer::Answer;
 use exports::UnitAnswer;
 use heads::HeadsAnswer;
-ghost use Rattle.rows.specs.declared.EncodingMode.the-variants.{Group4, «Group3_1D», «Group3_2D»};
+ghost use Rattle.settings.specs.declared.EncodingMode.the-variants.{Group4, «Group3_1D», «Group3_2D»};
 ghost use Rattle.ccitt.specs.Decode.{Decodes};
 ghost use Rattle.one_line.specs.OneLine.{ReadOne};
 ghost use Rattle.rules.specs.Write.{mostMakeup, writeLine, writePage};

@@ -1,15 +1,15 @@
 // Calls of the public functions of group3, each with the contract that its promises are about.
-use rows::DecodeSettings;
-use rows::Row;
-use rows::State;
+use settings::DecodeSettings;
+use settings::Row;
+use settings::State;
 ghost use mathlib.Core.Path.{_≡_};
 ghost use Prim.Native.Nat.{_-_};
 ghost use lib.ListN.{length};
 ghost use Rattle.rules.specs.Bits.{bitsOf};
 ghost use Rattle.rules.specs.Group3.{row3};
 ghost use Rattle.tables.specs.Pairs.{pairTable};
-ghost use Rattle.rows.specs.Settings.{settingsOf};
-ghost use Rattle.rows.specs.Between.{stateOf, RowFrom, RowGives};
+ghost use Rattle.settings.specs.Settings.{settingsOf};
+ghost use Rattle.settings.specs.Between.{stateOf, RowFrom, RowGives};
 ghost use Rattle.group3.specs.Tags.{taggingOf};
 
 pub fn row<'a>(

@@ -1,8 +1,8 @@
 // Calls of the public functions of group4, each with the contract that its promises are about.
 use codes::eol::Eols;
-use rows::DecodeSettings;
-use rows::Row;
-use rows::State;
+use settings::DecodeSettings;
+use settings::Row;
+use settings::State;
 ghost use mathlib.Core.Path.{_≡_};
 ghost use mathlib.Core.List.{[]};
 ghost use Prim.Native.Nat.{_-_};
@@ -10,8 +10,8 @@ ghost use lib.ListN.{length};
 ghost use Rattle.rules.specs.Bits.{bitsOf};
 ghost use Rattle.rules.specs.Group4.{over, row4};
 ghost use Rattle.codes.specs.Eols.{eolsOf};
-ghost use Rattle.rows.specs.Settings.{settingsOf};
-ghost use Rattle.rows.specs.Between.{stateOf, RowFrom, RowGives};
+ghost use Rattle.settings.specs.Settings.{settingsOf};
+ghost use Rattle.settings.specs.Between.{stateOf, RowFrom, RowGives};
 
 pub fn is_over(src: &[u8], settings: DecodeSettings, state: State, eols: Eols) -> bool
     ensures { λ r. ⌜ r ≡ over (settingsOf settings) (bitsOf (now (src .entry))) (stateOf [] [] state) (eolsOf eols) ⌝ }

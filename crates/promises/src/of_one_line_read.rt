@@ -1,5 +1,5 @@
 // Calls of the public functions of one_line::read, each with the contract that its promises are about.
-use error::Answer;
+use answer::Answer;
 ghost use Rattle.one_line.specs.OneLine.{ReadOne};
 
 pub fn read_line(

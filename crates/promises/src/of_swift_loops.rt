@@ -1,7 +1,7 @@
 // Calls of the public functions of swift_loops, each with the contract that its promises are about.
 use context::line::Line;
-use swift_loops::pairs::Halt;
-use swift_loops::swift::Stand;
+use swift_loops::fast_1d::Halt;
+use swift_loops::fast_2d::Stand;
 ghost use mathlib.Core.Path.{_≡_};
 ghost use Prim.Native.Nat.{_-_};
 ghost use lib.ListN.{length};
@@ -12,7 +12,7 @@ ghost use Rattle.swift_loops.specs.Swift.{keptIn, Walks, Walked};
 pub fn line_of(width: u32, s: Halt) -> Line
     ensures { λ r. ⌜ r ≡ haltLine width s ⌝ }
 {
-    swift_loops::pairs::line_of(width, s)
+    swift_loops::fast_1d::line_of(width, s)
 }
 
 pub fn pairs<'a>(
@@ -28,7 +28,7 @@ pub fn pairs<'a>(
     requires { ⌜ Pairing (now white) (now black) (now both) (now src) width at ⌝ }
     ensures { λ r. ⌜ Ran (bitsOf (now (src .entry))) (length (now (row .entry))) width (now (row .entry)) (startAt at) (now (row .exit)) r ⌝ }
 {
-    swift_loops::pairs::pairs(white, black, both, src, row, width, at, plain)
+    swift_loops::fast_1d::pairs(white, black, both, src, row, width, at, plain)
 }
 
 pub fn swift_codes<'a>(
@@ -44,5 +44,5 @@ pub fn swift_codes<'a>(
     requires { ⌜ Walks (now white) (now black) (now src) (now changes) start base width from ⌝ }
     ensures { λ r. ⌜ Walked (keptIn start base (now (changes .entry))) (bitsOf (now (src .entry))) base (length (now (changes .entry)) - base) width (now (changes .entry)) from (now (changes .exit)) r ⌝ }
 {
-    swift_loops::swift::swift_codes(white, black, src, changes, start, base, width, from)
+    swift_loops::fast_2d::swift_codes(white, black, src, changes, start, base, width, from)
 }

@@ -1,5 +1,5 @@
 // Calls of the public functions of writer, each with the contract that its promises are about.
-use error::Answer;
+use answer::Answer;
 ghost use Rattle.rules.specs.Write.{mostMakeup, writeLine, writePage};
 ghost use Rattle.rules.specs.WriteGroup3.{write1D, write2D};
 ghost use Rattle.writer.specs.Outcome.{Answers};

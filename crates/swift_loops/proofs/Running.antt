@@ -24,9 +24,9 @@ use Rattle.context.specs.declared.line.Line.{Line}
 use Rattle.context.specs.declared.step.Rules as Code
 use Rattle.context.specs.declared.step.Step.{Step}
 use Rattle.context.specs.declared.step.Step.the-variants.{On}
-use Rattle.swift_loops.specs.declared.pairs.Halt.{Halt}
-use Rattle.swift_loops.specs.declared.pairs.Pace.{Pace}
-use Rattle.swift_loops.specs.declared.pairs.Pair.{Pair}
+use Rattle.swift_loops.specs.declared.fast_1d.Halt.{Halt}
+use Rattle.swift_loops.specs.declared.fast_1d.Pace.{Pace}
+use Rattle.swift_loops.specs.declared.fast_1d.Pair.{Pair}
 use Rattle.context.specs.State.{rulesFor, ruling, turns, Holds}
 use Rattle.context.specs.Outcome.{Steps, Reads, Runs}
 use Rattle.swift_loops.specs.Pairs.{PairRun, Known, KnownIn, halting, haltLine, startAt, paceOf, Halts, Ran, Paces}

@@ -18,7 +18,7 @@ use Rattle.bit_reader.specs.Loaded.{Ahead}
 use Rattle.bit_reader.proofs.Window.{ahead-shift}
 use Rattle.codes.proofs.Modes.{one-live, top-straight}
 use Rattle.context.specs.declared.reference.Reference.the-variants.{Kept}
-use Rattle.swift_loops.specs.declared.swift.Stand.{Stand}
+use Rattle.swift_loops.specs.declared.fast_2d.Stand.{Stand}
 use Rattle.context.specs.State.{turns}
 use Rattle.context.specs.Places.{Seen}
 use Rattle.swift_loops.specs.Swift.{standing, Stands, Roomy, keptIn, Noted, Walked, Ready, Asks, Turned}

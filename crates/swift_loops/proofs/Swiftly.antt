@@ -22,9 +22,9 @@ use Rattle.rules.proofs.Lines.{moves, line-more}
 use Rattle.tables.specs.Tables.{colourOf}
 use Rattle.context.specs.declared.offset.Move.the-variants.{By}
 use Rattle.context.specs.declared.reference.Reference.the-variants.{Kept}
-use Rattle.swift_loops.specs.declared.swift.Stand.{Stand}
-use Rattle.swift_loops.specs.declared.swift.Taken.{Taken}
-use Rattle.swift_loops.specs.declared.swift.Taken.the-variants.{On, Other}
+use Rattle.swift_loops.specs.declared.fast_2d.Stand.{Stand}
+use Rattle.swift_loops.specs.declared.fast_2d.Taken.{Taken}
+use Rattle.swift_loops.specs.declared.fast_2d.Taken.the-variants.{On, Other}
 use Rattle.context.specs.State.{ruling, turns}
 use Rattle.context.specs.Offset.{moveBy}
 use Rattle.context.specs.Places.{Left, Seen, Reached, Onward, Turning}

@@ -16,11 +16,11 @@ use Rattle.tables.specs.Tables.{colourOf, Lookups}
 use Rattle.bit_reader.specs.Cursor.{mostBits}
 use Rattle.bit_reader.specs.Loaded.{Ahead, Loading}
 use Rattle.context.specs.declared.line.Line.{Line}
-use Rattle.swift_loops.specs.declared.pairs.Halt.{Halt}
-use Rattle.swift_loops.specs.declared.pairs.Pace.{Pace}
-use Rattle.swift_loops.specs.declared.pairs.Paced.{Paced}
-use Rattle.swift_loops.specs.declared.pairs.Paced.the-variants.{On, Other}
-use Rattle.swift_loops.specs.declared.pairs.Pair.{Pair}
+use Rattle.swift_loops.specs.declared.fast_1d.Halt.{Halt}
+use Rattle.swift_loops.specs.declared.fast_1d.Pace.{Pace}
+use Rattle.swift_loops.specs.declared.fast_1d.Paced.{Paced}
+use Rattle.swift_loops.specs.declared.fast_1d.Paced.the-variants.{On, Other}
+use Rattle.swift_loops.specs.declared.fast_1d.Pair.{Pair}
 use Rattle.context.specs.State.{ruling}
 
 -- ---- A pair

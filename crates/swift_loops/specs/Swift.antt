@@ -17,9 +17,9 @@ use Rattle.tables.specs.Tables.{colourOf, Lookups}
 use Rattle.bit_reader.specs.Cursor.{mostBits}
 use Rattle.bit_reader.specs.Loaded.{Ahead, Loading}
 use Rattle.context.specs.declared.line.Line.{Line}
-use Rattle.swift_loops.specs.declared.swift.Stand.{Stand}
-use Rattle.swift_loops.specs.declared.swift.Taken.{Taken}
-use Rattle.swift_loops.specs.declared.swift.Taken.the-variants.{On, Other}
+use Rattle.swift_loops.specs.declared.fast_2d.Stand.{Stand}
+use Rattle.swift_loops.specs.declared.fast_2d.Taken.{Taken}
+use Rattle.swift_loops.specs.declared.fast_2d.Taken.the-variants.{On, Other}
 use Rattle.context.specs.State.{ruling}
 use Rattle.context.specs.Places.{Seen}
 

@@ -1,3 +1,3 @@
 // The swift loops over a line: 2D codes under a row that is kept, and pairs of runs (context.rs).
-pub mod pairs;
-pub mod swift;
+pub mod fast_1d;
+pub mod fast_2d;

@@ -13,8 +13,8 @@ use Rattle.rules.specs.Pages.{noLine, mostBytes}
 use Rattle.rules.specs.Write.{mostMakeup}
 use Rattle.rules.specs.WriteGroup3.{Layout, mixed, someGood, writeGroup3, layout1D, write1D, write2D}
 use Rattle.rules.proofs.Writes.{write3-cases}
-use Rattle.error.specs.Error.{answerOf}
-use Rattle.error.specs.declared.Answer.{Answer}
+use Rattle.answer.specs.Answer.{answerOf}
+use Rattle.answer.specs.declared.Answer.{Answer}
 use Rattle.writer.specs.Paging.{goodRows}
 use Rattle.writer.specs.Paging3.{Laid, page3Of}
 use Rattle.writer.specs.Outcome.{firstTests, Answers}

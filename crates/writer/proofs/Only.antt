@@ -5,7 +5,7 @@ use Prim.Native.Nat.{ℕ, _<_}
 use lib.ListN.{getD}
 use Rattle.rules.specs.Write.{Written}
 use Rattle.rules.proofs.Bits.{bitsOf-inj}
-use Rattle.error.specs.declared.Answer.{Answer}
+use Rattle.answer.specs.declared.Answer.{Answer}
 use Rattle.writer.specs.Outcome.{Answers}
 
 -- numbers that bytes hold

@@ -9,8 +9,8 @@ use Rattle.rules.specs.Bits.{bitsOf}
 use Rattle.rules.specs.Pages as Page
 use Rattle.rules.specs.Pages.{mostBytes, noLine}
 use Rattle.rules.specs.Write.{Written}
-use Rattle.error.specs.Error.{answerOf}
-use Rattle.error.specs.declared.Answer.{Answer}
+use Rattle.answer.specs.Answer.{answerOf}
+use Rattle.answer.specs.declared.Answer.{Answer}
 
 -- 6 and 7 in this order; 0 where both are passed
 abbrev pub firstTests : ℕ → ℕ → ℕ

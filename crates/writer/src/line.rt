@@ -3,8 +3,8 @@ use crate::answer;
 use crate::ink;
 use crate::mode;
 use crate::run;
+use answer::Answer;
 use context::reference;
-use error::Answer;
 ghost use mathlib.Core.Bool.{false};
 ghost use mathlib.Core.Path.{_≡_};
 ghost use Prim.Native.Nat.{_≤_};
@@ -140,7 +140,7 @@ pub(crate) fn write(
         false,
     );
     if 8 * out.len() < end {
-        return error::refusal(9);
+        return answer::refusal(9);
     }
     put_line(
         &wt,

@@ -1,6 +1,6 @@
 use mathlib.Core.Path.{ap}
-use Rattle.rows.specs.declared.DecodeSettings.{DecodeSettings}
-use Rattle.rows.specs.declared.EncodingMode.the-variants.{Group4}
+use Rattle.settings.specs.declared.DecodeSettings.{DecodeSettings}
+use Rattle.settings.specs.declared.EncodingMode.the-variants.{Group4}
 use borrow.Author.Needs.{needs}
 use Rattle.by_unit.proofs.as_read.Statement.{statement}
 use Rattle.by_unit.proofs.as_read.Tie as tie

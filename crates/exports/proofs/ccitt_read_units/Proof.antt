@@ -3,7 +3,7 @@ use mathlib.Core.Path.{sym, ap, _∙_, subst}
 use mathlib.Core.Bool.{false}
 use lib.ListN.{length}
 use denote.Ref.{now}
-use Rattle.rows.specs.declared.EncodingMode.the-variants.{Group4}
+use Rattle.settings.specs.declared.EncodingMode.the-variants.{Group4}
 use Rattle.exports.specs.Exports.{settingsFor}
 use Rattle.exports.specs.UnitState.{ReadingTold}
 use Rattle.exports.proofs.UnitState.{sixteen, no-reading, called}

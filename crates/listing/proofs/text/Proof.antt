@@ -5,11 +5,11 @@ use lib.ListN.{length-drop}
 use denote.Ref.{now}
 use Rattle.listing.proofs.Answering.{printed, lent-rest, bad-line, too-long, a-page}
 use Rattle.listing.specs.Program.{pageText}
-use Rattle.rows.specs.Settings.{settingsOf}
-use Rattle.desk.specs.Sheet.{badInput}
-use Rattle.desk.specs.Text.{ascii}
-use Rattle.desk.specs.Line.{Says}
-use Rattle.desk.specs.declared.settings.Parsed.the-variants.{Settings as found}
+use Rattle.settings.specs.Settings.{settingsOf}
+use Rattle.listing_text.specs.Sheet.{badInput}
+use Rattle.listing_text.specs.Text.{ascii}
+use Rattle.listing_text.specs.Line.{Says}
+use Rattle.listing_text.specs.declared.settings_line.Parsed.the-variants.{Settings as found}
 use borrow.Author.Needs.{needs}
 use Rattle.listing.proofs.text.Statement.{statement}
 use Rattle.listing.proofs.text.Tie as tie

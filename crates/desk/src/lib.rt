@@ -1,7 +1,0 @@
-// The desk's side of the listing program: the line of settings that it reads, and the listing that it writes.
-mod lines;
-mod put;
-pub mod settings;
-
-pub use lines::bad_input;
-pub use lines::list;

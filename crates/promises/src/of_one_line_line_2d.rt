@@ -1,0 +1,34 @@
+// Calls of the public functions of one_line::line_2d, each with the contract that its promises are about.
+use context::reference::Reference;
+use context::step::Rules;
+use context::step::Step;
+ghost use Rattle.context.specs.Coding.{Lines, Lined};
+
+pub fn decode_2d_line<'a>(
+    white: &'a [u16; 8192],
+    black: &'a [u16; 8192],
+    src: &[u8],
+    reference: &[u32],
+    changes: &mut [u32],
+    base: usize,
+    place: Reference,
+    width: u32,
+    start: usize,
+    rules: Rules,
+) -> Step
+    requires { ⌜ Lines (now white) (now black) (now src) (now reference) (now changes) base place width start ⌝ }
+    ensures { λ r. ⌜ Lined (now (src .entry)) (now (reference .entry)) (now (changes .entry)) base place width start rules r (now (changes .exit)) ⌝ }
+{
+    one_line::line_2d::decode_2d_line(
+        white,
+        black,
+        src,
+        reference,
+        changes,
+        base,
+        place,
+        width,
+        start,
+        rules,
+    )
+}

@@ -1,0 +1,64 @@
+// The settings of a page (lib.rs), the state between its rows, and what one row answers. The rows stand one behind the other in a lent
+// store of changes, and the last kept row is the reference.
+use context::reference::Reference;
+ghost use mathlib.Core.Path.{_≡_};
+ghost use Prim.Native.Nat.{_≤_};
+ghost use Rattle.rules.specs.Rows.{alignedIf, finished};
+ghost use Rattle.bit_reader.specs.Cursor.{mostBits};
+ghost use Rattle.settings.specs.Between.{rowFor};
+
+pub enum EncodingMode {
+    Group4,
+    Group3_1D,
+    Group3_2D,
+}
+
+pub struct DecodeSettings {
+    pub columns: u32,
+    // 0 stands for any number of rows.
+    pub rows: u32,
+    pub end_of_block: bool,
+    pub end_of_line: bool,
+    pub rows_are_byte_aligned: bool,
+    pub encoding: EncodingMode,
+    pub strict: bool,
+    // No idle codes, and no page short of `rows`; strict, whatever `strict` says.
+    pub exact: bool,
+    // Runs are read by the plain engine (A14), not by the lookup. No answer depends on it.
+    pub plain: bool,
+}
+
+// The next bit, the rows kept, and where the reference lies: it is lent, or it lies in the store right before `base`. The next row is written from `base` on.
+// `eols` says whether EOLs are expected, in Group 3 alone.
+pub struct State {
+    pub at: usize,
+    pub rows: usize,
+    pub reference: Reference,
+    pub base: usize,
+    pub eols: bool,
+}
+
+// A row that is kept: its changes, its mark, the bit after it, and whether EOLs are expected. Or the page's end: its number, the bit at
+// fault, the bytes, and the loose changes.
+pub enum Row {
+    Kept(usize, u32, usize, bool),
+    Stop(u32, usize, usize, usize),
+}
+
+pub fn align_if(aligned: bool, at: usize) -> usize
+    requires { ⌜ at ≤ mostBits ⌝ }
+    ensures { λ r. ⌜ r ≡ alignedIf aligned at ⌝ }
+{
+    if aligned {
+        return bit_reader::align(at);
+    }
+    at
+}
+
+// Consumed bytes are rounded up.
+pub fn end_at(at: usize) -> Row
+    requires { ⌜ at ≤ mostBits ⌝ }
+    ensures { λ r. ⌜ r ≡ rowFor (finished at) ⌝ }
+{
+    Row::Stop(0, 0, bit_reader::byte_pos(bit_reader::align(at)), 0)
+}

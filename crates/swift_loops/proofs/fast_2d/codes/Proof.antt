@@ -1,0 +1,116 @@
+-- The invariant: codes have walked here. The measure is what is left of the data.
+use Prim.Native.Nat.{_-_, _*_}
+use native.Mathlib.Omega.{arith}
+use lib.ListN.{length}
+use denote.Ref.{now}
+use borrow.Author.Needs.{needs}
+use Rattle.rules.specs.Bits.{bitsOf}
+use Rattle.swift_loops.specs.Swift.{keptIn, Walked}
+use Rattle.swift_loops.proofs.Swiftly.{walks-none, walked-base, walked-asks, took-other, took-on, took-less}
+use Rattle.swift_loops.proofs.fast_2d.codes.Statement.{statement}
+use Rattle.swift_loops.proofs.fast_2d.codes.Tie as tie
+
+abbrev Inv-loop : tie.InvT-loop
+Inv-loop white black src changes₀ start base width last s₀ changes s = Walked (keptIn start base changes₀) (bitsOf src) base (length changes₀ - base) width changes₀ s₀ changes s
+
+abbrev μ-loop : tie.MeasureT-loop
+μ-loop white black src changes₀ start base width last s₀ changes s = 8 * length src - s .at
+
+returns : tie.Need-returns Inv-loop μ-loop
+returns c = walks-none (c .before .before .before .pre .0)
+
+mul-last : tie.Need-mul-last Inv-loop μ-loop
+mul-last c = search needs
+
+sub-last : tie.Need-sub-last Inv-loop μ-loop
+sub-last c = search needs
+
+loop-holds : tie.Need-loop-holds Inv-loop μ-loop
+loop-holds c = walks-none (c .before .before .before .pre .0)
+
+mul-change-or : tie.Need-mul-change-or Inv-loop μ-loop
+mul-change-or c = omega (arith, c .before .before .before .before .before .before .good .1 .1 .1 .0 .1, c .before .before .before .before .before .before .pre .0 .placed)
+
+sub-change-or : tie.Need-sub-change-or Inv-loop μ-loop
+sub-change-or c = omega (arith, c .before .before .before .before .before .before .pre .0 .placed)
+
+part-change-or-start : tie.Need-part-change-or-start Inv-loop μ-loop
+part-change-or-start c = omega (arith, c .before .before .before .before .before .before .before .pre .0 .placed)
+
+part-change-or-end : tie.Need-part-change-or-end Inv-loop μ-loop
+part-change-or-end c = walked-base (c .before .before .before .before .before .before .before .pre .0) (c .before .before .before .loop .inv)
+
+change-or-requires : tie.Need-change-or-requires Inv-loop μ-loop
+change-or-requires c κs = search needs
+
+same-length : tie.Need-same-length Inv-loop μ-loop
+same-length c = c .before .before .before .before .before .before .before .loop .inv .size
+
+returns-2 : tie.Need-returns-2 Inv-loop μ-loop
+returns-2 c = c .before .before .before .before .before .before .before .loop .inv
+
+ahead-requires : tie.Need-ahead-requires Inv-loop μ-loop
+ahead-requires c κs = omega (arith, c .before .before .before .before .before .if2 .taken, c .before .before .before .before .before .before .before .before .if1 .left)
+
+code-requires : tie.Need-code-requires Inv-loop μ-loop
+code-requires c κs =
+    let asks = c .before .before .before .before .before .before .before .before .before .before .before .before .before .pre in
+    (asks .0 .lookups, walked-asks (asks .0) (c .before .before .before .before .before .before .before .before .before .loop .inv) (asks .1) (c .before .before .before .before .change-or .ensures) (c .before .before .if3 .left) (omega (arith, c .before .before .before .before .before .before .before .before .before .before .before .before .before .good .1 .1 .1 .0 .1)))
+
+enum-told : tie.Need-enum-told Inv-loop μ-loop
+enum-told c = search needs
+
+same-length-2 : tie.Need-same-length-2 Inv-loop μ-loop
+same-length-2 c = omega (arith, c .before .before .before .before .before .before .before .before .before .before .before .before .before .before .loop .inv .size, c .before .before .before .before .code .kept .1 .1 .0)
+
+returns-3 : tie.Need-returns-3 Inv-loop μ-loop
+returns-3 c =
+    let took = c .before .before .before .before .code .ensures (now (c .before .before .before .before .before .before .before .before .before .before .before .before .before .before .before .before .before .before .args .src)) _ (c .before .before .before .before .before .before .ahead .ensures) (omega arith) in
+    took-other (c .before .before .before .before .before .before .before .before .before .before .before .before .before .before .before .before .before .before .pre .0) (c .before .before .before .before .before .before .before .before .before .before .before .before .before .before .loop .inv) _ _ took (c .enum-told .given .1)
+
+enum-known-next : tie.Need-enum-known-next Inv-loop μ-loop
+enum-known-next c = search needs
+
+loop-less : tie.Need-loop-less Inv-loop μ-loop
+loop-less c =
+    let took = c .before .before .before .before .before .code .ensures (now (c .before .before .before .before .before .before .before .before .before .before .before .before .before .before .before .before .before .before .before .args .src)) _ (c .before .before .before .before .before .before .before .ahead .ensures) (omega arith) in
+    took-less (c .before .before .before .before .before .before .before .before .before .before .before .before .before .before .before .before .before .before .before .pre .0) (c .before .before .before .before .before .before .before .before .before .before .before .before .before .before .before .loop .inv) _ (c .before .before .before .before .before .code .last .1 .1 .0) took (c .before .next .given .1)
+
+loop-again : tie.Need-loop-again Inv-loop μ-loop
+loop-again c =
+    let took = c .before .before .before .before .before .code .ensures (now (c .before .before .before .before .before .before .before .before .before .before .before .before .before .before .before .before .before .before .before .args .src)) _ (c .before .before .before .before .before .before .before .ahead .ensures) (omega arith) in
+    took-on (c .before .before .before .before .before .before .before .before .before .before .before .before .before .before .before .before .before .before .before .pre .0) (c .before .before .before .before .before .before .before .before .before .before .before .before .before .before .before .loop .inv) _ _ took (c .before .next .given .1)
+
+same-length-3 : tie.Need-same-length-3 Inv-loop μ-loop
+same-length-3 c = c .before .before .loop .inv .size
+
+returns-4 : tie.Need-returns-4 Inv-loop μ-loop
+returns-4 c = c .before .before .loop .inv
+
+pub codes-spec : {M : Type 1} → statement M
+codes-spec =
+    tie.close
+    (tie.spec
+    Inv-loop
+    μ-loop
+    returns
+    mul-last
+    sub-last
+    loop-holds
+    mul-change-or
+    sub-change-or
+    part-change-or-start
+    part-change-or-end
+    change-or-requires
+    same-length
+    returns-2
+    ahead-requires
+    code-requires
+    enum-told
+    same-length-2
+    returns-3
+    enum-known-next
+    loop-less
+    loop-again
+    same-length-3
+    returns-4)

@@ -1,0 +1,96 @@
+-- In 64 bits no sum of a place and an offset wraps; outside of the line the code is another.
+use mathlib.Core.Path.{refl}
+use native.Mathlib.Omega.{arith}
+use borrow.Author.Needs.{needs}
+use Rattle.swift_loops.proofs.Swiftly.{ready-note, after-length, side-turning, side-walked}
+use Rattle.swift_loops.proofs.fast_2d.vertical.Statement.{statement}
+use Rattle.swift_loops.proofs.fast_2d.vertical.Tie as tie
+
+add-to : tie.Need-add-to
+add-to c = search needs
+
+cast-if1 : tie.Need-cast-if1
+cast-if1 c = search needs
+
+add-if1 : tie.Need-add-if1
+add-if1 c = search needs
+
+returns : tie.Need-returns
+returns c = λ bytes read. refl
+
+add-if2 : tie.Need-add-if2
+add-if2 c = search needs
+
+returns-2 : tie.Need-returns-2
+returns-2 c = λ bytes read. refl
+
+sub-a1 : tie.Need-sub-a1
+sub-a1 c = search needs
+
+cast-a1 : tie.Need-cast-a1
+cast-a1 c = search needs
+
+mul-note : tie.Need-mul-note
+mul-note c = omega (arith, c .before .before .before .before .good .0 .1, c .before .before .before .before .pre .asks .ready .placed)
+
+sub-note : tie.Need-sub-note
+sub-note c = omega (arith, c .before .before .before .before .pre .asks .ready .placed)
+
+part-note-start : tie.Need-part-note-start
+part-note-start c = omega (arith, c .before .before .before .before .pre .asks .ready .placed)
+
+part-note-end : tie.Need-part-note-end
+part-note-end c = search needs
+
+note-requires : tie.Need-note-requires
+note-requires c κs = ready-note (c .before .before .before .before .before .pre .asks .ready)
+
+mul-behind : tie.Need-mul-behind
+mul-behind c = omega (arith, c .before .before .before .before .before .before .before .before .good .0 .1, c .before .before .before .before .before .before .before .before .pre .asks .ready .placed)
+
+sub-behind : tie.Need-sub-behind
+sub-behind c = omega (arith, c .before .before .before .before .before .before .before .before .pre .asks .ready .placed)
+
+part-behind-start : tie.Need-part-behind-start
+part-behind-start c = omega (arith, c .before .before .before .before .before .before .before .before .before .pre .asks .ready .placed)
+
+part-behind-end : tie.Need-part-behind-end
+part-behind-end c = omega (arith, c .before .before .before .before .before .before .before .before .before .pre .asks .ready .placed, after-length (c .before .before .before .before .before .before .before .before .before .pre .asks .ready) (c .before .before .before .note .ensures))
+
+behind-requires : tie.Need-behind-requires
+behind-requires c κs = side-turning (c .before .before .before .before .before .before .before .before .before .before .pre) (c .before .before .before .before .before .before .before .if1 .left) (c .before .before .before .before .before .before .if2 .left) (c .before .before .before .before .note .ensures)
+
+add-t15 : tie.Need-add-t15
+add-t15 c = omega (arith, c .before .before .before .before .before .before .before .before .before .before .before .before .pre .asks .low, c .before .before .before .before .before .before .before .before .before .before .before .before .pre .short)
+
+same-length : tie.Need-same-length
+same-length c = after-length (c .before .before .before .before .before .before .before .before .before .before .before .before .pre .asks .ready) (c .before .before .before .before .before .before .note .ensures)
+
+returns-3 : tie.Need-returns-3
+returns-3 c = λ bytes read. (side-walked (c .before .before .before .before .before .before .before .before .before .before .before .before .pre) (c .before .before .before .before .before .before .before .before .before .if1 .left) (c .before .before .before .before .before .before .before .before .if2 .left) (c .before .before .before .before .before .before .note .ensures) _ (c .before .behind .ensures) bytes read, omega (arith, c .before .before .before .before .before .before .before .before .before .before .before .before .pre .some-bits))
+
+pub vertical-spec : {M : Type 1} → statement M
+vertical-spec =
+    tie.close
+    (tie.spec
+    add-to
+    cast-if1
+    add-if1
+    returns
+    add-if2
+    returns-2
+    sub-a1
+    cast-a1
+    mul-note
+    sub-note
+    part-note-start
+    part-note-end
+    note-requires
+    mul-behind
+    sub-behind
+    part-behind-start
+    part-behind-end
+    behind-requires
+    add-t15
+    same-length
+    returns-3)
