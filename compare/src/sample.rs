@@ -1,4 +1,4 @@
-//! A sample of the crate's answers, which a program replays without Rust (crates/replay): what was asked
+//! A sample of the crate's answers, which a program replays without Rust (crates/test_replay): what was asked
 //! goes into a file `stdin`, what the crate answered into a file `stdout`.
 
 use crate::call::{Ask, Form, Room, Steps};

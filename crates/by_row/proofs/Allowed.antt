@@ -17,7 +17,7 @@ use Rattle.rules.proofs.Lines.{data-bound, read-broken}
 use Rattle.rules.proofs.Rows.{row4-cases, row3-cases, mended-cases}
 use Rattle.rules.proofs.Pages.{Does, row-does}
 use Rattle.rules.proofs.Places.{RowPlaced, row-placed}
-use Rattle.ccitt.specs.Ends.{Allowed}
+use Rattle.settings.specs.Ends.{Allowed}
 
 abbrev pub RowAllowed : RowOut → Type 0
 RowAllowed (row r mark next) = Unit {0}

@@ -26,11 +26,10 @@ use Rattle.settings.specs.declared.DecodeSettings.{DecodeSettings}
 use Rattle.settings.specs.declared.State.{State}
 use Rattle.settings.specs.declared.Row.{Row}
 use Rattle.settings.specs.declared.Row.the-variants.{Kept, Stop}
-use Rattle.settings.specs.Settings.{settingsOf}
-use Rattle.settings.specs.Between.{stateOf, rowFor, changesIn, RowFrom}
-use Rattle.ccitt.specs.Decode.{Rowed, strictFor}
-use Rattle.ccitt.specs.Ends.{Allowed}
-use Rattle.ccitt.proofs.Ends.{short-allowed}
+use Rattle.settings.specs.Settings.{settingsOf, strictFor}
+use Rattle.settings.specs.Between.{stateOf, rowFor, changesIn, RowFrom, Rowed}
+use Rattle.settings.specs.Ends.{Allowed}
+use Rattle.settings.proofs.Ends.{short-allowed}
 use Rattle.by_row.specs.declared.Side.{Side}
 use Rattle.by_row.specs.declared.Side.the-variants.{First, Second}
 use Rattle.by_row.specs.declared.RowState.{RowState}

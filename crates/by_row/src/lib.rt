@@ -11,9 +11,8 @@ ghost use Prim.Native.Nat.{_≤_};
 ghost use Rattle.rules.specs.Pages.{mostBytes};
 ghost use Rattle.rules.specs.ByRow.{ended, rowStart};
 ghost use Rattle.tables.specs.Pairs.{pairTable};
-ghost use Rattle.settings.specs.Between.{RowFrom};
-ghost use Rattle.ccitt.specs.Decode.{Rowed};
-ghost use Rattle.ccitt.specs.Ends.{Allowed};
+ghost use Rattle.settings.specs.Between.{RowFrom, Rowed};
+ghost use Rattle.settings.specs.Ends.{Allowed};
 ghost use Rattle.by_row.specs.ByRow.{otherSide, endOf, Ending, rowStateOf, toldFor, saidFor, refusedFor, noneFor, soundFor, Grows, givenFor, Ends, NextFrom, Next, Tested, ReadsRow};
 
 // One of the two line arrays.
@@ -235,7 +234,7 @@ fn row_under<'a>(
     requires { ⌜ RowFrom (now white) (now black) (now src) (now lent) (now changes) settings state × (now both ≡ pairTable) ⌝ }
     ensures { λ r. ⌜ Rowed (now (src .entry)) (now (lent .entry)) (now (changes .entry)) settings state r (now (changes .exit)) ⌝ }
 {
-    if ccitt::is_group4(settings) {
+    if settings::is_group4(settings) {
         return group4::row(white, black, src, settings, lent, changes, state);
     }
     group3::row(white, black, both, src, settings, lent, changes, state)
@@ -275,14 +274,14 @@ fn next_row(
         &black,
         &pairs,
         src,
-        ccitt::strict_if_exact(settings),
+        settings::strict_if_exact(settings),
         &reference[..held],
         changes,
         between,
     ) {
         Row::Kept(count, mark, at, eols) => given(state, count, mark, at, eols),
         Row::Stop(number, place, bytes, loose) => {
-            if ccitt::is_short(settings, number, state.rows as u64) {
+            if settings::is_short(settings, number, state.rows as u64) {
                 return ends(state, 14, 0, 0, loose);
             }
             ends(state, number, place, bytes, loose)

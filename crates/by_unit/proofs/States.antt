@@ -30,7 +30,7 @@ use Rattle.context.specs.State.{flagOf, flagNumber, lineAt, Holds}
 use Rattle.context.proofs.State.{flag-number}
 use Rattle.context.proofs.Search.{passed-none}
 use Rattle.settings.specs.declared.DecodeSettings.{DecodeSettings}
-use Rattle.ccitt.specs.Ends.{Allowed}
+use Rattle.settings.specs.Ends.{Allowed}
 use Rattle.by_unit.specs.declared.Phase.{Phase}
 use Rattle.by_unit.specs.declared.Phase.the-variants as Phase
 use Rattle.by_unit.specs.declared.Saved.{Saved}

@@ -22,8 +22,8 @@ use Rattle.answer.specs.declared.Answer.{Answer}
 use Rattle.answer.specs.Answer as Error
 use Rattle.settings.specs.declared.DecodeSettings.{DecodeSettings}
 use Rattle.settings.specs.Settings.{settingsOf}
-use Rattle.ccitt.specs.Ends.{Allowed}
-use Rattle.ccitt.proofs.Ends.{short-allowed}
+use Rattle.settings.specs.Ends.{Allowed}
+use Rattle.settings.proofs.Ends.{short-allowed}
 use Rattle.by_unit.specs.declared.Saved.{Saved}
 use Rattle.by_unit.specs.declared.End.{End}
 use Rattle.by_unit.specs.declared.Counts.{Counts}

@@ -28,7 +28,7 @@ use Rattle.context.specs.State.{lineAt, newFor, Holds}
 use Rattle.context.specs.Reference.{Passed}
 use Rattle.settings.specs.declared.DecodeSettings.{DecodeSettings}
 use Rattle.settings.specs.Settings.{settingsOf}
-use Rattle.ccitt.specs.Ends.{Allowed}
+use Rattle.settings.specs.Ends.{Allowed}
 use Rattle.by_unit.specs.declared.stand.Half.{Half}
 use Rattle.by_unit.specs.declared.stand.Half.the-variants.{First, Second}
 use Rattle.by_unit.specs.declared.stand.Stand.{Stand}

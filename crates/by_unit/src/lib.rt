@@ -97,7 +97,7 @@ pub fn start() -> Reading
 fn as_read(settings: DecodeSettings) -> DecodeSettings
     ensures { λ r. ⌜ r ≡ asReadFor settings ⌝ }
 {
-    let strict = ccitt::strict_if_exact(settings);
+    let strict = settings::strict_if_exact(settings);
     DecodeSettings {
         columns: strict.columns,
         rows: strict.rows,
@@ -191,7 +191,7 @@ fn turn_of(settings: DecodeSettings, taken: Taken) -> Turn
             reading: Reading::Open(state::saved(kept, at)),
         },
         Out::Done(answer) => {
-            if ccitt::is_short(settings, answer.number, answer.rows) {
+            if settings::is_short(settings, answer.number, answer.rows) {
                 return ended(
                     Answer {
                         number: 14,

@@ -2,28 +2,14 @@
 use answer::Answer;
 use context::reference::Reference;
 use settings::DecodeSettings;
-use settings::EncodingMode;
 use settings::Row;
 use settings::State;
 ghost use mathlib.Core.Path.{_≡_};
 ghost use mathlib.Core.List.{[]};
 ghost use Prim.Native.Nat.{min};
-ghost use Rattle.rules.specs.Pages.{tooFew};
 ghost use Rattle.tables.specs.Pairs.{pairTable};
-ghost use Rattle.settings.specs.Settings.{settingsOf};
-ghost use Rattle.settings.specs.Between.{RowFrom};
-ghost use Rattle.ccitt.specs.Decode.{isGroup4, Rowed, counted, behindRow, Behind, PageFrom, Reads, strictFor, shortFor, Decodes};
-
-pub fn is_group4(settings: DecodeSettings) -> bool
-    ensures { λ r. ⌜ r ≡ isGroup4 (settings .encoding) ⌝ }
-{
-    let encoding = settings.encoding;
-    match encoding {
-        EncodingMode::Group4 => true,
-        EncodingMode::Group3_1D => false,
-        EncodingMode::Group3_2D => false,
-    }
-}
+ghost use Rattle.settings.specs.Between.{RowFrom, Rowed};
+ghost use Rattle.ccitt.specs.Decode.{counted, behindRow, Behind, PageFrom, Reads, shortFor, Decodes};
 
 // What one row does, by the encoding. The reference lies in the store, so none is lent. Each call has no other of its kind, and is so compiled in place.
 fn row<'a>(
@@ -39,7 +25,7 @@ fn row<'a>(
     ensures { λ r. ⌜ Rowed (now (src .entry)) [] (now (changes .entry)) settings state r (now (changes .exit)) ⌝ }
 {
     let lent: [u32; 0] = [];
-    if is_group4(settings) {
+    if settings::is_group4(settings) {
         return group4::swift_row(white, black, src, settings, &lent, changes, state);
     }
     group3::swift_row(white, black, both, src, settings, &lent, changes, state)
@@ -134,45 +120,11 @@ fn page<'a>(
     }
 }
 
-// How a page is read: exact implies strict (A12).
-pub fn strict_if_exact(settings: DecodeSettings) -> DecodeSettings
-    ensures { λ r. ⌜ r ≡ strictFor settings ⌝ }
-{
-    DecodeSettings {
-        columns: settings.columns,
-        rows: settings.rows,
-        end_of_block: settings.end_of_block,
-        end_of_line: settings.end_of_line,
-        rows_are_byte_aligned: settings.rows_are_byte_aligned,
-        encoding: settings.encoding,
-        strict: if settings.exact {
-            true
-        } else {
-            settings.strict
-        },
-        exact: settings.exact,
-        plain: settings.plain,
-    }
-}
-
-// Whether an exact reading ends a page with too few rows.
-pub fn is_short(settings: DecodeSettings, number: u32, rows: u64) -> bool
-    ensures { λ r. ⌜ r ≡ tooFew (settingsOf settings) number rows ⌝ }
-{
-    if !settings.exact {
-        return false;
-    }
-    if number != 0 {
-        return false;
-    }
-    rows < settings.rows as u64
-}
-
-// It keeps them, and answers 14 with no bytes.
+// An exact page that is short of rows keeps them, and answers 14 with no bytes.
 fn unless_short(settings: DecodeSettings, answer: Answer) -> Answer
     ensures { λ r. ⌜ r ≡ shortFor settings answer ⌝ }
 {
-    if !is_short(settings, answer.number, answer.rows) {
+    if !settings::is_short(settings, answer.number, answer.rows) {
         return answer;
     }
     Answer {
@@ -208,7 +160,7 @@ pub fn decode(
     let white = lookups::white_lookup();
     let black = lookups::black_lookup();
     let both = tables::pair_lookup();
-    let reading = strict_if_exact(settings);
+    let reading = settings::strict_if_exact(settings);
     let answer = page(&white, &black, &both, src, reading, changes, ends, marks);
     unless_short(settings, answer)
 }

@@ -22,9 +22,8 @@ use Rattle.codes.specs.Eols.{eolsOf}
 use Rattle.codes.proofs.Eols.{closing, many, search-from, nowhere}
 use Rattle.settings.specs.declared.DecodeSettings.{DecodeSettings}
 use Rattle.settings.specs.declared.State.{State}
-use Rattle.settings.specs.Settings.{settingsOf}
+use Rattle.settings.specs.Settings.{settingsOf, taggingOf}
 use Rattle.settings.specs.Between.{stateOf}
-use Rattle.group3.specs.Tags.{taggingOf}
 use Rattle.group3.specs.Ahead.{alignedFrom, NoEolAt, BeforeIn, judgedIn, missingIn, beforeIn}
 
 -- ---- Bits of the data

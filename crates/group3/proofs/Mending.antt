@@ -23,9 +23,8 @@ use Rattle.settings.specs.declared.DecodeSettings.{DecodeSettings}
 use Rattle.settings.specs.declared.State.{State}
 use Rattle.settings.specs.declared.Row.{Row}
 use Rattle.settings.specs.declared.Row.the-variants.{Kept, Stop}
-use Rattle.settings.specs.Settings.{settingsOf}
+use Rattle.settings.specs.Settings.{settingsOf, taggingOf}
 use Rattle.settings.specs.Between.{stateOf, rowFor, changesIn, RowGives}
-use Rattle.group3.specs.Tags.{taggingOf}
 use Rattle.group3.specs.Lined.{linesBy}
 use Rattle.group3.specs.Recovery.{whiteFor, afterLineIn, Damages, Lies, Recovers}
 

@@ -31,12 +31,11 @@ use Rattle.settings.specs.declared.DecodeSettings.{DecodeSettings}
 use Rattle.settings.specs.declared.State.{State}
 use Rattle.settings.specs.declared.Row.{Row}
 use Rattle.settings.specs.declared.Row.the-variants.{Kept, Stop}
-use Rattle.settings.specs.Settings.{settingsOf}
+use Rattle.settings.specs.Settings.{settingsOf, taggingOf}
 use Rattle.settings.specs.Between.{stateOf, rowFor, RowFrom, RowGives}
 use Rattle.settings.proofs.Ended.{gives-stop}
 use Rattle.group3.specs.declared.eob.Before.{Before}
 use Rattle.group3.specs.declared.eob.Before.the-variants.{Line as LineAt, End, NoEol}
-use Rattle.group3.specs.Tags.{taggingOf}
 use Rattle.group3.specs.Ahead.{alignedFrom, beforeOf, beforeIn}
 use Rattle.group3.specs.Lined.{LineFrom, lineIn}
 use Rattle.group3.specs.Recovery.{afterLineIn, Damages, Lies, Recovers}

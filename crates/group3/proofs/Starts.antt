@@ -25,12 +25,12 @@ use Rattle.context.specs.Coding.{Lines, StepsAt, Lined}
 use Rattle.context.proofs.RowPart.{row-lent, row-back}
 use Rattle.settings.specs.declared.DecodeSettings.{DecodeSettings}
 use Rattle.settings.specs.declared.State.{State}
-use Rattle.settings.specs.Settings.{settingsOf}
+use Rattle.settings.specs.Settings.{settingsOf, taggingOf}
 use Rattle.settings.specs.Between.{stateOf}
 use Rattle.settings.proofs.Ended.{unchanged}
 use Rattle.group3.specs.declared.line.Kind.{Kind}
 use Rattle.group3.specs.declared.line.Kind.the-variants.{One, Two, NoTag}
-use Rattle.group3.specs.Tags.{taggingOf, isTagged}
+use Rattle.group3.specs.Tags.{isTagged}
 use Rattle.group3.specs.Lined.{linesBy, kindLine, KindStarts, KindAt, LineFrom, lineIn}
 
 -- ---- The kind of the line at a bit

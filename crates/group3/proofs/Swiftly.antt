@@ -21,10 +21,10 @@ use Rattle.codes.proofs.Eols.{Closed, closing, plain-eol, none-yet, eol, no-eol
 use Rattle.settings.specs.declared.DecodeSettings.{DecodeSettings}
 use Rattle.settings.specs.declared.State.{State}
 use Rattle.settings.specs.declared.Row.{Row}
-use Rattle.settings.specs.Settings.{settingsOf}
+use Rattle.settings.specs.Settings.{settingsOf, taggingOf}
 use Rattle.settings.specs.Between.{stateOf, RowFrom, RowGives}
 use Rattle.group3.specs.declared.eob.Before.the-variants.{Line}
-use Rattle.group3.specs.Tags.{taggingOf, isTagged}
+use Rattle.group3.specs.Tags.{isTagged}
 use Rattle.group3.specs.Ahead.{alignedFrom, singleAt, usual, beforeOf, beforeIn}
 use Rattle.group3.specs.Lined.{LineFrom, lineIn}
 use Rattle.group3.specs.Recovery.{afterLineIn}

@@ -16,11 +16,11 @@ use Rattle.codes.specs.declared.eol.Eols.{Eols}
 use Rattle.codes.specs.Eols.{eolsOf}
 use Rattle.settings.specs.declared.DecodeSettings.{DecodeSettings}
 use Rattle.settings.specs.declared.State.{State}
-use Rattle.settings.specs.Settings.{settingsOf}
+use Rattle.settings.specs.Settings.{settingsOf, taggingOf}
 use Rattle.settings.specs.Between.{stateOf}
 use Rattle.group3.specs.declared.eob.Before.{Before}
 use Rattle.group3.specs.declared.eob.Before.the-variants.{Line, End, NoEol}
-use Rattle.group3.specs.Tags.{taggingOf, isTagged}
+use Rattle.group3.specs.Tags.{isTagged}
 
 -- "Without EOLs, we need to align first"
 abbrev pub alignedFrom : DecodeSettings → State → ℕ

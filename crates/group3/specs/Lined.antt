@@ -12,11 +12,10 @@ use Rattle.bit_reader.specs.Loaded.{Loading}
 use Rattle.context.specs.declared.step.Rules as Line
 use Rattle.settings.specs.declared.DecodeSettings.{DecodeSettings}
 use Rattle.settings.specs.declared.State.{State}
-use Rattle.settings.specs.Settings.{settingsOf}
+use Rattle.settings.specs.Settings.{settingsOf, taggingOf}
 use Rattle.settings.specs.Between.{stateOf, RowFrom}
 use Rattle.group3.specs.declared.line.Kind.{Kind}
 use Rattle.group3.specs.declared.line.Kind.the-variants.{One, Two, NoTag}
-use Rattle.group3.specs.Tags.{taggingOf}
 
 -- how the lines of a page are read
 abbrev pub linesBy : DecodeSettings → Line.Rules

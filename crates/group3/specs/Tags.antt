@@ -1,4 +1,4 @@
--- Tag bits, by the encoding, and what a reading of the EOLs between them asks.
+-- Tag bits, and what a reading of the EOLs between them asks.
 use mathlib.Core.Bool.{Bool, true, false}
 use mathlib.Core.List.{List}
 use Prim.Native.Nat.{ℕ, _≤_}
@@ -6,14 +6,6 @@ use Rattle.rules.specs.Group3 as Rule
 use Rattle.rules.specs.Group3.{untagged, tagged}
 use Rattle.bit_reader.specs.Loaded.{Loading}
 use Rattle.codes.specs.declared.eol.Eols.{Eols}
-use Rattle.settings.specs.declared.EncodingMode.{EncodingMode}
-use Rattle.settings.specs.declared.EncodingMode.the-variants.{Group4, «Group3_1D», «Group3_2D»}
-
--- only 2D lines have tag bits; this crate reads no Group 4 page
-abbrev pub taggingOf : EncodingMode → Rule.Tagging
-taggingOf Group4 = untagged
-taggingOf «Group3_1D» = untagged
-taggingOf «Group3_2D» = tagged
 
 abbrev pub isTagged : Rule.Tagging → Bool
 isTagged untagged = false

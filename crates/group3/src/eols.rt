@@ -9,7 +9,8 @@ ghost use Rattle.rules.specs.Bits.{bitsOf, firstBit};
 ghost use Rattle.rules.specs.Group3.{betweenTags, eols3};
 ghost use Rattle.bit_reader.specs.Loaded.{Loading};
 ghost use Rattle.codes.specs.Eols.{eolsOf};
-ghost use Rattle.group3.specs.Tags.{taggingOf, isTagged, EolsRead};
+ghost use Rattle.settings.specs.Settings.{taggingOf};
+ghost use Rattle.group3.specs.Tags.{isTagged, EolsRead};
 ghost use Rattle.group3.specs.Ahead.{singleAt};
 
 pub(crate) fn is_tagged(settings: DecodeSettings) -> bool

@@ -11,7 +11,7 @@ ghost use mathlib.Core.Path.{_≡_};
 ghost use Rattle.tables.specs.Pairs.{pairTable};
 ghost use Rattle.bit_reader.specs.Loaded.{Loading};
 ghost use Rattle.context.specs.Coding.{StepsAt};
-ghost use Rattle.group3.specs.Tags.{taggingOf};
+ghost use Rattle.settings.specs.Settings.{taggingOf};
 ghost use Rattle.group3.specs.Lined.{KindAt, LineFrom, lineIn};
 
 // Where the codes of a 1D or a 2D line begin; or no tag bit is left.

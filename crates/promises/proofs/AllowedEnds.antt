@@ -14,7 +14,7 @@ use Rattle.rules.proofs.ByRow.{few-cases, call-cases}
 use Rattle.rules.proofs.ByUnit.{turn-ends}
 use Rattle.answer.specs.declared.Answer.{Answer}
 use Rattle.settings.specs.Settings.{settingsOf}
-use Rattle.ccitt.specs.Ends.{Allowed}
+use Rattle.settings.specs.Ends.{Allowed}
 use Rattle.by_row.specs.declared.End.{End}
 use Rattle.by_row.specs.declared.End.the-variants as End
 use Rattle.by_row.specs.ByRow.{endOf, rowStateOf}

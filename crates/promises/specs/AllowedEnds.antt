@@ -3,7 +3,7 @@
 use Prim.Native.Nat.{ℕ, _<_}
 use mathlib.Core.List.{List}
 use Rattle.settings.specs.declared.DecodeSettings.{DecodeSettings}
-use Rattle.ccitt.specs.Ends.{Allowed}
+use Rattle.settings.specs.Ends.{Allowed}
 use Rattle.by_row.specs.ByRow as Row
 use Rattle.by_unit.specs.Reading as Unit
 use Rattle.promises.specs.ByRow.{RowCall, RowReading}

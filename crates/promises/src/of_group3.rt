@@ -8,9 +8,8 @@ ghost use lib.ListN.{length};
 ghost use Rattle.rules.specs.Bits.{bitsOf};
 ghost use Rattle.rules.specs.Group3.{row3};
 ghost use Rattle.tables.specs.Pairs.{pairTable};
-ghost use Rattle.settings.specs.Settings.{settingsOf};
+ghost use Rattle.settings.specs.Settings.{settingsOf, taggingOf};
 ghost use Rattle.settings.specs.Between.{stateOf, RowFrom, RowGives};
-ghost use Rattle.group3.specs.Tags.{taggingOf};
 
 pub fn row<'a>(
     white: &'a [u16; 8192],

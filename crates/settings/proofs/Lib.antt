@@ -1,2 +1,4 @@
--- A law that the crates of the encodings cite.
+-- Laws that the crates above cite.
 pub mod Ended
+pub mod Ends
+pub mod Rowed

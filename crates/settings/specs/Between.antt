@@ -5,7 +5,8 @@ use Prim.Native.Nat.{ℕ, _-_, _≤_, _<_}
 use lib.ListN.{length, take, drop}
 use Rattle.rules.specs.Rows as Rule
 use Rattle.rules.specs.Rows.{RowOut, row, stop}
-use Rattle.rules.specs.Pages.{overlaid}
+use Rattle.rules.specs.Bits.{bitsOf}
+use Rattle.rules.specs.Pages.{overlaid, rowOf}
 use Rattle.rules.specs.Rising.{Rising}
 use Rattle.tables.specs.Tables.{Lookups}
 use Rattle.bit_reader.specs.Loaded.{Loading}
@@ -14,6 +15,7 @@ use Rattle.settings.specs.declared.DecodeSettings.{DecodeSettings}
 use Rattle.settings.specs.declared.State.{State}
 use Rattle.settings.specs.declared.Row.{Row}
 use Rattle.settings.specs.declared.Row.the-variants.{Kept, Stop}
+use Rattle.settings.specs.Settings.{encodingOf, settingsOf}
 
 -- the state whose reference is lent, or lies in a store of changes
 abbrev pub stateOf : List ℕ → List ℕ → State → Rule.State
@@ -42,3 +44,8 @@ pub record RowFrom (w b bytes lent xs : List ℕ) (settings : DecodeSettings) (s
 pub record RowGives (base : ℕ) (xs : List ℕ) (w : RowOut) (r : Row) (ys : List ℕ) : Type 0 where
   pub answer : r ≡ rowFor w
   pub store : ys ≡ take base xs ++ overlaid (changesIn w) (drop base xs)
+
+-- one row of the encoding's
+abbrev pub Rowed : List ℕ → List ℕ → List ℕ → DecodeSettings → State → Row → List ℕ → Type 0
+Rowed bytes lent xs settings st r ys =
+    RowGives (st .base) xs (rowOf (encodingOf (settings .encoding)) (settingsOf settings) (bitsOf bytes) (length xs - st .base) (stateOf lent xs st)) r ys

@@ -3,8 +3,10 @@
 use context::reference::Reference;
 ghost use mathlib.Core.Path.{_≡_};
 ghost use Prim.Native.Nat.{_≤_};
+ghost use Rattle.rules.specs.Pages.{tooFew};
 ghost use Rattle.rules.specs.Rows.{alignedIf, finished};
 ghost use Rattle.bit_reader.specs.Cursor.{mostBits};
+ghost use Rattle.settings.specs.Settings.{settingsOf, isGroup4, strictFor};
 ghost use Rattle.settings.specs.Between.{rowFor};
 
 pub enum EncodingMode {
@@ -45,6 +47,7 @@ pub enum Row {
     Stop(u32, usize, usize, usize),
 }
 
+// A row that begins at a byte, where the settings say so.
 pub fn align_if(aligned: bool, at: usize) -> usize
     requires { ⌜ at ≤ mostBits ⌝ }
     ensures { λ r. ⌜ r ≡ alignedIf aligned at ⌝ }
@@ -61,4 +64,50 @@ pub fn end_at(at: usize) -> Row
     ensures { λ r. ⌜ r ≡ rowFor (finished at) ⌝ }
 {
     Row::Stop(0, 0, bit_reader::byte_pos(bit_reader::align(at)), 0)
+}
+
+// The one encoding whose rows have no 1D lines and no tags.
+pub fn is_group4(settings: DecodeSettings) -> bool
+    ensures { λ r. ⌜ r ≡ isGroup4 (settings .encoding) ⌝ }
+{
+    let encoding = settings.encoding;
+    match encoding {
+        EncodingMode::Group4 => true,
+        EncodingMode::Group3_1D => false,
+        EncodingMode::Group3_2D => false,
+    }
+}
+
+// How a page is read: exact implies strict (A12).
+pub fn strict_if_exact(settings: DecodeSettings) -> DecodeSettings
+    ensures { λ r. ⌜ r ≡ strictFor settings ⌝ }
+{
+    DecodeSettings {
+        columns: settings.columns,
+        rows: settings.rows,
+        end_of_block: settings.end_of_block,
+        end_of_line: settings.end_of_line,
+        rows_are_byte_aligned: settings.rows_are_byte_aligned,
+        encoding: settings.encoding,
+        strict: if settings.exact {
+            true
+        } else {
+            settings.strict
+        },
+        exact: settings.exact,
+        plain: settings.plain,
+    }
+}
+
+// Whether an exact reading ends a page with too few rows.
+pub fn is_short(settings: DecodeSettings, number: u32, rows: u64) -> bool
+    ensures { λ r. ⌜ r ≡ tooFew (settingsOf settings) number rows ⌝ }
+{
+    if !settings.exact {
+        return false;
+    }
+    if number != 0 {
+        return false;
+    }
+    rows < settings.rows as u64
 }

@@ -1,7 +1,7 @@
 -- `by_row::row_under` meets its contract. Assumes nothing.
 use mathlib.Core.Path.{sym, _∙_}
 use denote.Ref.{now}
-use Rattle.ccitt.proofs.Paging.{rowed-4, rowed-3}
+use Rattle.settings.proofs.Rowed.{rowed-4, rowed-3}
 use borrow.Author.Needs.{needs}
 use Rattle.by_row.proofs.row_under.Statement.{statement}
 use Rattle.by_row.proofs.row_under.Tie as tie

@@ -2,7 +2,7 @@
 use mathlib.Core.Path.{sym, _∙_}
 use mathlib.Core.List.{[]}
 use denote.Ref.{now}
-use Rattle.ccitt.proofs.Paging.{rowed-4, rowed-3}
+use Rattle.settings.proofs.Rowed.{rowed-4, rowed-3}
 use borrow.Author.Needs.{needs}
 use Rattle.ccitt.proofs.row.Statement.{statement}
 use Rattle.ccitt.proofs.row.Tie as tie

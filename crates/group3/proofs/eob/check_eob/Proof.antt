@@ -3,8 +3,7 @@ use mathlib.Core.Path.{sym, _∙_}
 use borrow.Author.Needs.{needs}
 use denote.Ref.{now}
 use Rattle.bit_reader.specs.Loaded.{Loading}
-use Rattle.settings.specs.Settings.{settingsOf}
-use Rattle.group3.specs.Tags.{taggingOf}
+use Rattle.settings.specs.Settings.{settingsOf, taggingOf}
 use Rattle.group3.proofs.Judging.{aligned-loading, lacking-there, before-lacking, before-judged}
 use Rattle.group3.proofs.eob.check_eob.Statement.{statement}
 use Rattle.group3.proofs.eob.check_eob.Tie as tie

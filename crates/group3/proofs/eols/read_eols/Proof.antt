@@ -6,7 +6,8 @@ use borrow.Author.Tests.{not-true, not-false}
 use denote.Ref.{now}
 use Rattle.rules.specs.Bits.{bitsOf}
 use Rattle.codes.specs.Eols.{eolsOf}
-use Rattle.group3.specs.Tags.{isTagged, taggingOf}
+use Rattle.settings.specs.Settings.{taggingOf}
+use Rattle.group3.specs.Tags.{isTagged}
 use Rattle.group3.proofs.TagBits.{all-read, eols-untagged, eols-none, eols-tagged}
 use Rattle.group3.proofs.eols.read_eols.Statement.{statement}
 use Rattle.group3.proofs.eols.read_eols.Tie as tie

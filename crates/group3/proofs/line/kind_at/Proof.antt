@@ -7,7 +7,8 @@ use borrow.Author.Needs.{needs}
 use borrow.Author.Tests.{not-true, not-false}
 use denote.Ref.{now}
 use Rattle.rules.specs.Bits.{bitsOf}
-use Rattle.group3.specs.Tags.{isTagged, taggingOf}
+use Rattle.settings.specs.Settings.{taggingOf}
+use Rattle.group3.specs.Tags.{isTagged}
 use Rattle.group3.proofs.Judging.{end-is}
 use Rattle.group3.proofs.Starts.{kind-untagged, kind-missing, kind-one, kind-two}
 use Rattle.group3.proofs.line.kind_at.Statement.{statement}

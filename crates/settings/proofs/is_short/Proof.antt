@@ -2,8 +2,8 @@
 use mathlib.Core.Bool.{and-false}
 use borrow.Author.Needs.{needs}
 use borrow.Author.Tests.{eq-eqb, ne-eqb, not-true, not-false}
-use Rattle.ccitt.proofs.is_short.Statement.{statement}
-use Rattle.ccitt.proofs.is_short.Tie as tie
+use Rattle.settings.proofs.is_short.Statement.{statement}
+use Rattle.settings.proofs.is_short.Tie as tie
 
 returns : tie.Need-returns
 returns c = rw (not-true (c .before .before .args .settings .exact) (c .if1 .taken))

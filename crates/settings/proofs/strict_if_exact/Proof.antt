@@ -1,6 +1,6 @@
 -- By the flag.
-use Rattle.ccitt.proofs.strict_if_exact.Statement.{statement}
-use Rattle.ccitt.proofs.strict_if_exact.Tie as tie
+use Rattle.settings.proofs.strict_if_exact.Statement.{statement}
+use Rattle.settings.proofs.strict_if_exact.Tie as tie
 
 returns : tie.Need-returns
 returns c = rw (c .if1 .taken)

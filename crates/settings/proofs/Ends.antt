@@ -8,7 +8,7 @@ use borrow.Author.Tests.{eqb-true}
 use Rattle.rules.specs.Rows.{Settings}
 use Rattle.rules.specs.Pages.{tooFew}
 use Rattle.rules.proofs.Bits.{both-true}
-use Rattle.ccitt.specs.Ends.{Allowed}
+use Rattle.settings.specs.Ends.{Allowed}
 
 pub short-allowed : (S : Settings) (n rows place bytes loose : ℕ) → tooFew S n rows ≡ true → Allowed n place bytes loose → Allowed 14 0 0 loose
 short-allowed S n rows place bytes loose e a = record { no-bytes = λ h. refl; no-place = λ h. refl; no-loose = λ h. a .no-loose (inl was-done) }
