@@ -8,7 +8,7 @@ use lib.IntN.{ℤ}
 use lib.ListN.{length, take}
 use borrow.Author.Tests.{leb-true, eq-eqb, ne-eqb}
 use Rattle.rules.specs.Write.{rowsIn}
-use Rattle.writer.specs.Paging.{goodRows}
+use Rattle.row_store.specs.Store.{goodRows}
 use Rattle.heads.specs.Form.{all, ordered, marked, sound, given, Page, quotaGiven, clean, pageIn, tickTable, headsIn, headsOn, heads, told, refusal}
 use Rattle.heads.specs.Steps.{only, toldBy}
 use Rattle.heads.specs.Numbers.{formIn, headsFrom}

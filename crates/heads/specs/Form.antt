@@ -10,7 +10,7 @@ use lib.ListN.{length, getD, take}
 use Rattle.rules.specs.Codes.{Colour, white, black}
 use Rattle.rules.specs.Pixels.{pixelsOf}
 use Rattle.rules.specs.Write.{rowsIn}
-use Rattle.writer.specs.Paging.{goodRows}
+use Rattle.row_store.specs.Store.{goodRows}
 use Rattle.heads.specs.declared.Box.{Box}
 use Rattle.heads.specs.declared.HeadsAnswer.{HeadsAnswer}
 
@@ -91,7 +91,7 @@ headsIn table least quota = told quota (ticks least 0 0 table) (ticks least 1 0 
 unfoldable pub marked : ℕ → List ℕ → Bool
 marked rows marks = leb rows (length marks) && all (λ m. leb m 2) (take rows marks)
 
--- "A store that 8 would refuse, or with a row unmarked, answers 8." The test is the page writer's: no end falls or passes the array, and each row
+-- "A store that 8 would refuse, or with a row unmarked, answers 8." The test is that of a store: no end falls or passes the array, and each row
 -- ascends strictly below the width.
 unfoldable pub sound : ℕ → List ℕ → List ℕ → List ℕ → Bool
 sound columns changes ends marks = goodRows columns changes 0 ends && marked (length ends) marks

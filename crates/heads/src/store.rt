@@ -1,5 +1,4 @@
 // Test 8 of a store with its marks, and where its rows lie.
-use writer::page;
 ghost use mathlib.Core.Path.{_≡_};
 ghost use Prim.Native.Nat.{_≤_};
 ghost use lib.ListN.{length};
@@ -26,7 +25,7 @@ fn marked(rows: usize, marks: &[u8]) -> bool
 pub(crate) fn sound(columns: u32, changes: &[u32], ends: &[u64], marks: &[u8]) -> bool
     ensures { λ r. ⌜ r ≡ Form.sound columns (now (changes .entry)) (now (ends .entry)) (now (marks .entry)) ⌝ }
 {
-    if !page::ascend(columns, changes, ends) {
+    if !row_store::ascend(columns, changes, ends) {
         return false;
     }
     marked(ends.len(), marks)

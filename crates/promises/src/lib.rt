@@ -30,11 +30,11 @@ pub mod of_one_line_one_code;
 pub mod of_one_line_read;
 pub mod of_reader;
 pub mod of_reader_cursor;
+pub mod of_row_store;
 pub mod of_settings;
 pub mod of_swift_loops;
 pub mod of_tables;
 pub mod of_writer;
-pub mod of_writer_page;
 
 use answer::Answer;
 use heads::Box;

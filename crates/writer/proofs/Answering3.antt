@@ -15,7 +15,7 @@ use Rattle.rules.specs.WriteGroup3.{Layout, mixed, someGood, writeGroup3, layou
 use Rattle.rules.proofs.Writes.{write3-cases}
 use Rattle.answer.specs.Answer.{answerOf}
 use Rattle.answer.specs.declared.Answer.{Answer}
-use Rattle.writer.specs.Paging.{goodRows}
+use Rattle.row_store.specs.Store.{goodRows}
 use Rattle.writer.specs.Paging3.{Laid, page3Of}
 use Rattle.writer.specs.Outcome.{firstTests, Answers}
 use Rattle.writer.proofs.Answering.{Writing, First, refuses, both-true, first-false, second-false}

@@ -11,9 +11,10 @@ use Rattle.rules.specs.Bits.{bitsOf}
 use Rattle.rules.specs.Write.{toByte, writtenAt}
 use Rattle.rules.specs.Rising.{Rising, none}
 use Rattle.writer.specs.Putting.{inked, Cleared, Room, Puts}
-use Rattle.writer.specs.Paging.{goodRows, Sheet, Pages}
+use Rattle.row_store.specs.Store.{goodRows}
+use Rattle.writer.specs.Paging.{Sheet, Pages}
 use Rattle.writer.proofs.Owing.{Owes, owes-all, owes-put, puts-zeros}
-use Rattle.writer.proofs.GoodRows.{rowTo, Good, good}
+use Rattle.row_store.proofs.GoodRows.{rowTo, Good, good}
 
 -- the rows from the k-th on are left, under the row from `from` to `base`, and `todo` is what is left of the page's bits
 pub record Between (write : Bool) (width : ℕ) (changes ends start : List ℕ) (all : List Bool) (next from base k : ℕ) (todo : List Bool) (out : List ℕ) : Type 0 where

@@ -16,12 +16,13 @@ use Rattle.rules.specs.WriteGroup3.{Layout, bare, filled, mixed, kOf, kindNext,
 use Rattle.rules.specs.Rising.{Rising, none, some}
 use Rattle.rules.proofs.Ascending.{rises-lower}
 use Rattle.writer.specs.Coding.{lineOf}
-use Rattle.writer.specs.Paging.{goodRows, pageOf, Pages}
+use Rattle.row_store.specs.Store.{goodRows}
+use Rattle.writer.specs.Paging.{pageOf, Pages}
 use Rattle.writer.specs.Paging3.{Laid, lineFrom, page3Of}
 use Rattle.writer.specs.Bounds.{lastEnd, mostRow, mostBits, Measured}
 use Rattle.writer.proofs.RunCodes.{run-few}
 use Rattle.writer.proofs.Turns.{line-few}
-use Rattle.writer.proofs.GoodRows.{rowTo, good}
+use Rattle.row_store.proofs.GoodRows.{rowTo, good}
 
 -- ---- A line
 

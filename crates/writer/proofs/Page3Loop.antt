@@ -20,7 +20,7 @@ use Rattle.writer.specs.Coding.{Rowed}
 use Rattle.writer.specs.Paging.{Sheet, Pages}
 use Rattle.writer.specs.Paging3.{Laid, kindFrom, lineFrom, row3Of, page3Of}
 use Rattle.writer.proofs.Owing.{owes-last}
-use Rattle.writer.proofs.GoodRows.{rowTo}
+use Rattle.row_store.proofs.GoodRows.{rowTo}
 use Rattle.writer.proofs.Bounds.{kind-few, ahead-few, end-few}
 use Rattle.writer.proofs.BetweenRows.{Between, before-rows, tested, row-fits, too-long, row-behind, page-is}
 

@@ -12,7 +12,7 @@ use Rattle.rules.specs.Pages.{ascends}
 use Rattle.rules.specs.Write.{rowsIn, endsRise, allAscend}
 use Rattle.rules.specs.Rising.{Rising}
 use Rattle.rules.proofs.Ascending.{ascends-rises}
-use Rattle.writer.specs.Paging.{goodRows}
+use Rattle.row_store.specs.Store.{goodRows}
 
 -- the row from `base` to `end`
 abbrev pub rowTo : List ℕ → ℕ → ℕ → List ℕ
