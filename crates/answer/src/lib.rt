@@ -9,6 +9,7 @@ pub enum DecodeError {
     Overflow,
 }
 
+// An error's number of the list.
 pub fn number(e: DecodeError) -> u32
     ensures { λ r. ⌜ r ≡ numberOf e ⌝ }
 {

@@ -17,6 +17,7 @@ fn lesser(a: usize, b: usize) -> usize
     if a < b { a } else { b }
 }
 
+// A buffer at a bit of the data, with at least the next 13 bits.
 pub fn load(src: &[u8], at: usize) -> Buffer
     requires { ⌜ Loading (now src) at ⌝ }
     ensures { λ r. ⌜ LoadedAt (now (src .entry)) at r ⌝ }

@@ -72,12 +72,14 @@ pub fn align(at: usize) -> usize
     (at + 7) / 8 * 8
 }
 
+// Whether a bit lies past the data.
 pub fn at_end(len: usize, at: usize) -> bool
     ensures { λ r. ⌜ r ≡ leb (8 * len) at ⌝ }
 {
     len <= byte_pos(at)
 }
 
+// The byte in which a bit lies.
 pub fn byte_pos(at: usize) -> usize
     ensures { λ r. ⌜ r ≡ at / 8 ⌝ }
 {

@@ -9,6 +9,7 @@ pub enum Move {
     Over,
 }
 
+// From the position to a1, which is b1 and the offset.
 pub fn moved(b1: u32, offset: i64, position: u32) -> Move
     requires { ⌜ Offset offset ⌝ }
     ensures { λ r. ⌜ r ≡ moveBy b1 (offsetMode offset) position ⌝ }

@@ -68,6 +68,7 @@ pub fn change_or(row: &[u32], place: usize, width: u32) -> u32
     width
 }
 
+// b1 and b2 for a position and its colour; the search starts where the one before it stopped.
 pub fn find(reference: &[u32], seen: usize, width: u32, position: u32, colour: u32) -> Found
     requires { ⌜ Searches (now reference) seen width position colour ⌝ }
     ensures { λ r. ⌜ Finds (now (reference .entry)) width position (colourOf colour) r ⌝ }
@@ -90,6 +91,7 @@ pub fn b1_from(reference: &[u32], seen: usize, width: u32, position: u32, colour
     b1_place(stop, colour)
 }
 
+// Whether a row ascends strictly below a width, as test 8 asks.
 pub fn ascends(row: &[u32], width: u32) -> bool
     ensures { λ r. ⌜ r ≡ ascends width (now (row .entry)) ⌝ }
 {

@@ -44,6 +44,7 @@ fn row_at<'a>(
     }
 }
 
+// The next row of a Group 3 page, 1D or 2D; or the page's end.
 pub fn row<'a>(
     white: &'a [u16; 8192],
     black: &'a [u16; 8192],

@@ -53,6 +53,7 @@ fn is_full(settings: DecodeSettings, rows: usize) -> bool
     rows == settings.rows as usize
 }
 
+// Whether the page ends before the next row: by EOFB, by its number of rows, or with the data.
 pub fn is_over(src: &[u8], settings: DecodeSettings, state: State, eols: Eols) -> bool
     ensures { λ r. ⌜ r ≡ over (settingsOf settings) (bitsOf (now (src .entry))) (stateOf [] [] state) (eolsOf eols) ⌝ }
 {
@@ -104,6 +105,7 @@ fn row_at<'a>(
     }
 }
 
+// The next row of a Group 4 page; or the page's end.
 pub fn row<'a>(
     white: &'a [u16; 8192],
     black: &'a [u16; 8192],

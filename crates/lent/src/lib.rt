@@ -55,6 +55,7 @@ pub fn push_line(line: Line, changes: &mut [u32], count: u32, strict: bool) -> P
     }
 }
 
+// Pixels pushed on a line that is lent and changed in place; the answer is 0, or the fault's number.
 pub fn push_pixels(line: &mut Line, changes: &mut [u32], count: u32, strict: bool) -> u32
     ensures { λ r. ⌜ Lends (now (changes .entry)) (now (line .entry)) count strict r (now (line .exit)) (now (changes .exit)) ⌝ }
 {

@@ -48,6 +48,7 @@ fn next_run<'a>(
     run::read_run(white, black, colour, src, buffer)
 }
 
+// Runs of alternating colour from a bit on: two of them, as horizontal mode has, or to the width.
 pub fn runs<'a>(
     white: &'a [u16; 8192],
     black: &'a [u16; 8192],

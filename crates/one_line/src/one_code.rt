@@ -28,6 +28,7 @@ pub enum OneCode {
     Did(Step),
 }
 
+// One mode code of a 2D line, given b1 and b2.
 pub fn mode_code(
     src: &[u8],
     changes: &mut [u32],

@@ -50,6 +50,7 @@ fn past(end: usize) -> Answer
     }
 }
 
+// One 2D line under a lent reference, from a bit on (01).
 pub fn read_line(
     src: &[u8],
     at: u64,

@@ -17,6 +17,7 @@ pub struct BitReader<'a> {
 }
 
 impl<'a> BitReader<'a> {
+    // At the first bit.
     pub fn new(src: &'a [u8]) -> BitReader<'a>
         ensures { λ r. ⌜ r ≡ readerAt (src .entry) 0 ⌝ }
     {
@@ -46,6 +47,7 @@ impl<'a> BitReader<'a> {
         self.at = cursor::align(self.at);
     }
 
+    // Whether no bit is left.
     pub fn at_end(&self) -> bool
         ensures { λ r. ⌜ r ≡ leb (8 * length (now (now (self .entry) .src))) (now (self .entry) .at) ⌝ }
     {

@@ -40,6 +40,7 @@ pub struct Pair {
     pub size: usize,
 }
 
+// The line that stands so between two runs; nothing was cut in it.
 pub fn line_of(width: u32, s: Halt) -> Line
     ensures { λ r. ⌜ r ≡ haltLine width s ⌝ }
 {

@@ -24,30 +24,35 @@ pub fn pair_lookup() -> [u16; 2048]
     lookup_pairs::PAIR_LOOKUP
 }
 
+// T.4's codes of white runs of 0 to 63,
 pub fn white_terminating() -> [[u16; 3]; 64]
     ensures { λ r. ⌜ r ≡ rows whiteTerminating ⌝ }
 {
     code_tables::WHITE_TERMINATING
 }
 
+// of white runs of 64 to 1728,
 pub fn white_makeup() -> [[u16; 3]; 27]
     ensures { λ r. ⌜ r ≡ rows whiteMakeup ⌝ }
 {
     code_tables::WHITE_MAKEUP
 }
 
+// of black runs of 0 to 63,
 pub fn black_terminating() -> [[u16; 3]; 64]
     ensures { λ r. ⌜ r ≡ rows blackTerminating ⌝ }
 {
     code_tables::BLACK_TERMINATING
 }
 
+// of black runs of 64 to 1728,
 pub fn black_makeup() -> [[u16; 3]; 27]
     ensures { λ r. ⌜ r ≡ rows blackMakeup ⌝ }
 {
     code_tables::BLACK_MAKEUP
 }
 
+// and of runs of 1792 to 2560 in either colour.
 pub fn common_makeup() -> [[u16; 3]; 13]
     ensures { λ r. ⌜ r ≡ rows commonMakeup ⌝ }
 {

@@ -1,7 +1,7 @@
 // A 2D line: the code at each position, to the width.
-use crate::answer;
 use crate::ink;
 use crate::mode;
+use crate::outcome;
 use crate::run;
 use answer::Answer;
 use context::reference;
@@ -155,5 +155,5 @@ pub(crate) fn write(
         at,
         true,
     );
-    answer::done(end)
+    outcome::done(end)
 }

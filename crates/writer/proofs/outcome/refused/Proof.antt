@@ -1,8 +1,8 @@
--- `writer::answer::refused` meets its contract. The tests of `firstTests`, one after the other. Assumes nothing.
+-- `writer::outcome::refused` meets its contract. The tests of `firstTests`, one after the other. Assumes nothing.
 use borrow.Author.Tests.{eq-eqb, ne-eqb, lt-ltb, le-ltb}
 use Rattle.rules.specs.Pages.{mostBytes}
-use Rattle.writer.proofs.answer.refused.Statement.{statement}
-use Rattle.writer.proofs.answer.refused.Tie as tie
+use Rattle.writer.proofs.outcome.refused.Statement.{statement}
+use Rattle.writer.proofs.outcome.refused.Tie as tie
 
 returns : tie.Need-returns
 returns c =
