@@ -7,7 +7,8 @@ use Prim.Native.Nat.{ℕ, _+_, _*_, _≤_, _<_}
 use lib.Dec.{eqb, leb}
 use lib.ListN.{length, take}
 use Rattle.rules.specs.Pages.{mostBytes, ascends}
-use Rattle.rules.specs.InSteps.{Said, says, saysOnly, moreToCome}
+use Rattle.rules.specs.Answers.{moreToCome}
+use Rattle.rules.specs.InSteps.{Said, says, saysOnly}
 use Rattle.rules.specs.ByRow as Rule
 use Rattle.rules.specs.ByRow.{Arrays, unended, ended, gives, tested}
 use Rattle.answer.specs.declared.Answer.{Answer}

@@ -13,7 +13,8 @@ use Rattle.rules.specs.Bits.{bitsOf}
 use Rattle.rules.specs.Rows.{Settings}
 use Rattle.rules.specs.Pages as Page
 use Rattle.rules.specs.Pages.{mostBytes, entries, tooFew, strictIfExact, placesIn}
-use Rattle.rules.specs.InSteps.{Said, says, saysOnly, moreToCome}
+use Rattle.rules.specs.Answers.{moreToCome}
+use Rattle.rules.specs.InSteps.{Said, says, saysOnly}
 use Rattle.rules.specs.Units as Units
 use Rattle.rules.specs.Units.{Going, call, taken}
 use Rattle.rules.specs.ByUnit as ByUnit

@@ -8,7 +8,8 @@ use lib.Dec.{eqb, leb}
 use lib.ListN.{length}
 use Rattle.rules.specs.Codes.{Colour, white, black}
 use Rattle.rules.specs.Pages.{mostBytes, tooFew, ascends, placesIn}
-use Rattle.rules.specs.InSteps.{Said, says, moreToCome}
+use Rattle.rules.specs.Answers.{moreToCome}
+use Rattle.rules.specs.InSteps.{Said, says}
 use Rattle.rules.specs.ByUnit as Rule
 use Rattle.rules.specs.ByUnit.{atEols, atMode, atFirst, atSecond, endOf, part, opened, ended, asGroup4, turnOn, turn}
 use Rattle.answer.specs.declared.Answer.{Answer}

@@ -7,6 +7,7 @@ use lib.Dec.{eqb, leb, ltb}
 use lib.IntN.{ℤ, pos, negℤ, _-ℤ_}
 use lib.Signed.{leZ}
 use lib.ListN.{length, getD, take}
+use Rattle.rules.specs.Answers.{complete, badRows, badForm, notOneTick, mendedRow}
 use Rattle.rules.specs.Codes.{Colour, white, black}
 use Rattle.rules.specs.Pixels.{pixelsOf}
 use Rattle.rules.specs.Write.{rowsIn}
@@ -76,11 +77,11 @@ refusal n = record { number = n; heads = 0; left = pos 0 }
 -- The answer by the digits that are ticked in each column. "Heads are ten times the ticked tens digit plus the ticked units digit. Not exactly one tick
 -- in a column answers 12"; "Then subtract heads from a quota: the quota left is a signed number, and below zero is an answer".
 abbrev pub told : ℤ → List ℕ → List ℕ → HeadsAnswer
-told quota (tens ∷ []) (units ∷ []) = record { number = 0; heads = 10 * tens + units; left = quota -ℤ pos (10 * tens + units) }
-told quota (tens ∷ []) [] = refusal 12
-told quota (tens ∷ []) (units ∷ other ∷ more) = refusal 12
-told quota [] units = refusal 12
-told quota (tens ∷ other ∷ more) units = refusal 12
+told quota (tens ∷ []) (units ∷ []) = record { number = complete; heads = 10 * tens + units; left = quota -ℤ pos (10 * tens + units) }
+told quota (tens ∷ []) [] = refusal notOneTick
+told quota (tens ∷ []) (units ∷ other ∷ more) = refusal notOneTick
+told quota [] units = refusal notOneTick
+told quota (tens ∷ other ∷ more) units = refusal notOneTick
 
 unfoldable pub headsIn : List (List ℕ) → ℕ → ℤ → HeadsAnswer
 headsIn table least quota = told quota (ticks least 0 0 table) (ticks least 1 0 table)
@@ -124,13 +125,13 @@ clean columns rows marks form = all (all (cleanUnder columns rows marks)) form
 unfoldable pub headsOn : Page → List ℕ → List (List Box) → ℕ → ℤ → HeadsAnswer
 headsOn page marks form least quota =
     elim (given form least quota) [
-      | false ↦ refusal 11
+      | false ↦ refusal badForm
       | true ↦ elim (clean (page .columns) (length (page .rows)) marks form) [
-        | false ↦ refusal 13
+        | false ↦ refusal mendedRow
         | true ↦ headsIn (tickTable page form) least quota
       ]
     ]
 
 unfoldable pub heads : ℕ → List ℕ → List ℕ → List ℕ → List (List Box) → ℕ → ℤ → HeadsAnswer
 heads columns changes ends marks form least quota =
-    elim (sound columns changes ends marks) [ false ↦ refusal 8 | true ↦ headsOn (pageIn columns changes ends) marks form least quota ]
+    elim (sound columns changes ends marks) [ false ↦ refusal badRows | true ↦ headsOn (pageIn columns changes ends) marks form least quota ]

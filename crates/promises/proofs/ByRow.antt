@@ -13,7 +13,8 @@ use Rattle.rules.specs.Bits.{bitsOf}
 use Rattle.rules.specs.Rows.{Settings, State, RowOut, row, stop}
 use Rattle.rules.specs.Pages as Page
 use Rattle.rules.specs.Pages.{mostBytes, tooWide, strictIfExact}
-use Rattle.rules.specs.InSteps.{Said, moreToCome}
+use Rattle.rules.specs.Answers.{moreToCome}
+use Rattle.rules.specs.InSteps.{Said}
 use Rattle.rules.specs.ByRow as Rule
 use Rattle.rules.specs.ByRow.{Arrays, arrayAt, other, unended, ended, referenceIn, between, roomIn, afterRow, unlessFew, sound, readRow, Caller, callerWith, Over, goesOn, callStep, overOf, FitIn}
 use Rattle.rules.proofs.Machine.{run-once}

@@ -11,7 +11,8 @@ use Rattle.rules.specs.Bits.{bitsOf}
 use Rattle.rules.specs.Rows.{Settings, RowOut, row, stop}
 use Rattle.rules.specs.Pages as Page
 use Rattle.rules.specs.Pages.{strictIfExact, placesIn}
-use Rattle.rules.specs.InSteps.{Said, saysOnly, moreToCome}
+use Rattle.rules.specs.Answers.{moreToCome}
+use Rattle.rules.specs.InSteps.{Said, saysOnly}
 use Rattle.rules.specs.ByRow as Rows
 use Rattle.rules.specs.ByRow.{ended, unended, afterRow, unlessFew}
 use Rattle.rules.specs.Units.{Going, soFar, call}

@@ -9,7 +9,7 @@ use Rattle.rules.specs.Machine.{more, run}
 use Rattle.rules.specs.Bits.{bitsOf}
 use Rattle.rules.specs.Rows.{Settings, bytesTo, finished}
 use Rattle.rules.specs.Pages.{Kept, noneKept, entries, pageStep, rowOf, strictIfExact, mostBytes, ascends, placesIn}
-use Rattle.rules.specs.InSteps.{moreToCome}
+use Rattle.rules.specs.Answers.{moreToCome}
 use Rattle.answer.specs.declared.Answer.{Answer}
 use Rattle.settings.specs.declared.DecodeSettings.{DecodeSettings}
 use Rattle.settings.specs.Settings.{settingsOf}

@@ -16,7 +16,8 @@ use Rattle.rules.specs.Lines.{Went, went, failed, two, readLine}
 use Rattle.rules.specs.Rows.{Encoding, group4, group3-1D, group3-2D, Settings, State, RowOut, row, stop, rulesOf}
 use Rattle.rules.specs.Group4.{eolsBefore, afterLine4}
 use Rattle.rules.specs.Pages.{Kept, withRow, endWith, entries, rowOf, strictIfExact, tooFew, unlessShort, mostBytes, tooWide, overlaid}
-use Rattle.rules.specs.InSteps.{says, moreToCome, mostCounted}
+use Rattle.rules.specs.Answers.{moreToCome}
+use Rattle.rules.specs.InSteps.{says, mostCounted}
 use Rattle.rules.specs.ByRow.{Side, first, second, other, Arrays, arrayAt, written, End, unended, ended, RowState, between, roomIn, RowStep, afterRow, sound, leaves, refuses, noColumns, unlessFew, rowHere, nextRow, tested, unlessEnded, readRow, Caller, callerWith, goesOn, callStep, overOf}
 use Rattle.rules.proofs.Bits.{length-bitsOf, both-true}
 use Rattle.rules.proofs.Ascending.{rises-ascends}

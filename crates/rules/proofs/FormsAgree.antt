@@ -13,7 +13,8 @@ use Rattle.rules.specs.Machine.{Out, more, done, andThen, run, ends}
 use Rattle.rules.specs.Bits.{bitsOf}
 use Rattle.rules.specs.Rows.{Settings, State, RowOut, row, stop}
 use Rattle.rules.specs.Pages.{Answer, refusal, Kept, noneKept, withRow, endWith, entries, pageStep, rowsLeft, pageOf, readPage, strictIfExact, unlessShort, mostBytes, tooWide, ascendsFrom, decode}
-use Rattle.rules.specs.InSteps.{saysOnly, moreToCome, mostCounted}
+use Rattle.rules.specs.Answers.{moreToCome}
+use Rattle.rules.specs.InSteps.{saysOnly, mostCounted}
 use Rattle.rules.specs.ByRow.{Side, first, second, other, Arrays, arrayAt, written, rowStart, referenceIn, between, roomIn, RowStep, afterRow, sound, refuses, noColumns, unlessFew, tested, readRow, Caller, callerWith, Over, goesOn, callStep, overOf, FitIn}
 use Rattle.rules.proofs.Bits.{length-bitsOf}
 use Rattle.rules.proofs.Machine.{ends-stops}

@@ -6,11 +6,12 @@ use mathlib.Core.List.{List, [], _∷_, _++_}
 use Prim.Native.Nat.{ℕ, suc, _+_, _*_, _≤_}
 use lib.Dec.{eqb, leb, ltb}
 use lib.ListN.{length, take}
+use Rattle.rules.specs.Answers.{complete, badWidth, tooLong, badRows, tooFewRows, moreToCome}
 use Rattle.rules.specs.Machine.{Out, more, done}
 use Rattle.rules.specs.Bits.{bitsOf}
 use Rattle.rules.specs.Rows.{Settings, State, RowOut, row, stop}
 use Rattle.rules.specs.Pages.{Answer, entries, rowOf, strictIfExact, tooFew, mostBytes, tooWide, ascends, overlaid}
-use Rattle.rules.specs.InSteps.{Said, says, saysOnly, moreToCome, mostCounted}
+use Rattle.rules.specs.InSteps.{Said, says, saysOnly, mostCounted}
 
 -- ---- The lent arrays
 
@@ -119,7 +120,7 @@ module _ (S : Settings) (bytes : List ℕ) (p : RowState) (xs : Arrays) where
   -- "Columns 0, once the tests that apply are passed, gives 0, no rows, 0 bytes", and that is the page's end
   abbrev pub noColumns : RowStep
   noColumns = record {
-    said = saysOnly 0;
+    said = saysOnly complete;
     state = record { at = p .at; rows = 0; entries = 0; eols = p .eols; side = p .side; held = p .held; end = ended 0 0 0 0 };
     arrays = xs;
   }
@@ -127,7 +128,7 @@ module _ (S : Settings) (bytes : List ℕ) (p : RowState) (xs : Arrays) where
   -- the page's end is 14 where the rows given are too few (A12)
   abbrev pub unlessFew : RowOut → RowOut
   unlessFew (row r mark next) = row r mark next
-  unlessFew (stop n place b loose) = cond (tooFew S n (p .rows)) (stop 14 0 0 loose) (stop n place b loose)
+  unlessFew (stop n place b loose) = cond (tooFew S n (p .rows)) (stop tooFewRows 0 0 loose) (stop n place b loose)
 
   -- what the next row does, read as the page form reads it
   abbrev pub rowHere : RowOut
@@ -140,11 +141,11 @@ module _ (S : Settings) (bytes : List ℕ) (p : RowState) (xs : Arrays) where
   unfoldable pub tested : RowStep
   tested =
       elim (tooWide (S .columns)) [
-        | true ↦ refuses 6
+        | true ↦ refuses badWidth
         | false ↦ elim (ltb mostBytes (length bytes)) [
-          | true ↦ refuses 7
+          | true ↦ refuses tooLong
           | false ↦ elim (sound S bytes p xs) [
-            | false ↦ refuses 8
+            | false ↦ refuses badRows
             | true ↦ elim (eqb (S .columns) 0) [ true ↦ noColumns | false ↦ nextRow ]
           ]
         ]

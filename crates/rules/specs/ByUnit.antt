@@ -6,6 +6,7 @@ use mathlib.Core.List.{List, [], _∷_, _++_}
 use Prim.Native.Nat.{ℕ, zero, suc, _+_, _-_}
 use lib.Dec.{eqb, leb, ltb}
 use lib.ListN.{length, take, drop, getD}
+use Rattle.rules.specs.Answers.{complete, badWidth, tooLong, badRows, badNumber, tooFewRows}
 use Rattle.rules.specs.Machine.{Out, more, done}
 use Rattle.rules.specs.Bits.{bitsOf}
 use Rattle.rules.specs.Codes.{Colour, white}
@@ -144,7 +145,7 @@ saidBehind rows base a = says (a .number) (a .place) (a .bytes) (rows + length (
 
 -- 14 where the page has too few rows (A12)
 abbrev pub unlessFewer : Settings → Said → Said
-unlessFewer S c = cond (tooFew S (c .number) (c .rows)) (says 14 0 0 (c .rows) (c .entries) (c .loose)) c
+unlessFewer S c = cond (tooFew S (c .number) (c .rows)) (says tooFewRows 0 0 (c .rows) (c .entries) (c .loose)) c
 
 -- what a caller holds between calls: an open page's state; or, "once the page has ended", the answer to repeat
 pub data Reading : Type 0 where
@@ -212,12 +213,12 @@ module _ (S : Settings) (bytes changes ends marks : List ℕ) where
   unfoldable pub turnOn : ℕ → Saved → Turn
   turnOn n s =
       elim (tooWide (S .columns)) [
-        | true ↦ still (saysOnly 6) (opened s)
+        | true ↦ still (saysOnly badWidth) (opened s)
         | false ↦ elim (ltb mostBytes (length bytes)) [
-          | true ↦ still (saysOnly 7) (opened s)
+          | true ↦ still (saysOnly tooLong) (opened s)
           | false ↦ elim (sound changes ends s (S .columns) (length (bitsOf bytes)) (placesIn ends marks)) [
-            | false ↦ still (saysOnly 8) (opened s)
-            | true ↦ elim (eqb (S .columns) 0) [ true ↦ still (saysOnly 0) (ended (saysOnly 0)) | false ↦ readOn n s ]
+            | false ↦ still (saysOnly badRows) (opened s)
+            | true ↦ elim (eqb (S .columns) 0) [ true ↦ still (saysOnly complete) (ended (saysOnly complete)) | false ↦ readOn n s ]
           ]
         ]
       ]
@@ -225,7 +226,7 @@ module _ (S : Settings) (bytes changes ends marks : List ℕ) where
   -- "N of 0 answers 10 before any other test, after the page's end too, and changes nothing"; "once the page has ended, a call repeats that answer
   -- before tests 6 to 8 and writes nothing"
   unfoldable pub turn : ℕ → Reading → Turn
-  turn zero p = still (saysOnly 10) p
+  turn zero p = still (saysOnly badNumber) p
   turn (suc n) (opened s) = turnOn (suc n) s
   turn (suc n) (ended c) = still c (ended c)
 

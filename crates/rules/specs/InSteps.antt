@@ -22,10 +22,6 @@ says n place bytes rows entries loose = record { number = n; mark = 0; rows = ro
 abbrev pub saysOnly : ℕ → Said
 saysOnly n = says n 0 0 0 0 0
 
--- 15: "A call in steps that is neither refused nor ends the page answers 15, more to come, with bytes 0 and its other counts as they stand."
-abbrev pub moreToCome : ℕ
-moreToCome = 15
-
 -- 8: "a count past its array or past 8 × bytes + 1"
 abbrev pub mostCounted : List ℕ → ℕ
 mostCounted bytes = 8 * length bytes + 1

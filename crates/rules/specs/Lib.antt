@@ -1,5 +1,6 @@
 pub mod Machine
 pub mod Bits
+pub mod Answers
 pub mod Codes
 pub mod Lookup
 pub mod Runs

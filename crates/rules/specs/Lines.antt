@@ -5,6 +5,7 @@ use mathlib.Core.List.{List, [], _∷_, _++_}
 use Prim.Native.Nat.{ℕ, zero, suc, _+_, _-_}
 use lib.Dec.{eqb, leb}
 use lib.ListN.{length}
+use Rattle.rules.specs.Answers.{invalidCode, overflow, noEntry, mostPixels}
 use Rattle.rules.specs.Machine.{Out, more, done, ends}
 use Rattle.rules.specs.Codes.{Colour, white, black, opposite, differ}
 use Rattle.rules.specs.Runs.{Res, ok, fault, unreachable, Sum, readRun}
@@ -73,14 +74,14 @@ add R count s =
     (went s)
     (cond (leb (length (recorded s)) (R .room))
     (went (line (s .at) (s .position + count) (s .colour) (recorded s) (s .cut)))
-    (failed 4 0 s))
+    (failed noEntry 0 s))
 
 -- "Too many pixels: strict answers 1; lenient cuts to the width." `place` is the bit at fault.
 unfoldable pub push : Rules → ℕ → ℕ → Line → Went
 push R place count s =
     cond (leb count (R .width - s .position))
     (add R count s)
-    (cond (R .strict) (failed 1 place s) (add R (R .width - s .position) (withCut s)))
+    (cond (R .strict) (failed invalidCode place s) (add R (R .width - s .position) (withCut s)))
 
 abbrev pub pushTurn : Rules → ℕ → ℕ → Line → Went
 pushTurn R place count s = next (push R place count s) λ t. went (turned t)
@@ -144,7 +145,7 @@ idle (VL k) s t = unmoved s t && not (atFirst s)
 
 -- "Where it is set", such a code "answers 1" and points "at the mode code", where the line s stands. A fault that was found in the code came first.
 abbrev pub unlessIdle : Rules → Mode → Line → Went → Went
-unlessIdle R mode s (went t) = cond (R .exact && idle mode s t) (failed 1 (s .at) s) (went t)
+unlessIdle R mode s (went t) = cond (R .exact && idle mode s t) (failed invalidCode (s .at) s) (went t)
 unlessIdle R mode s (failed n place t) = failed n place t
 
 -- ---- The codes of a 2D line (T.4 4.2.1.3.2, T.6 2.2.3)
@@ -152,7 +153,7 @@ unlessIdle R mode s (failed n place t) = failed n place t
 module _ (R : Rules) (reference : List ℕ) where
   -- vertical: to a1. "a1 below 0, above 4,294,967,295, or left of the position is 3."
   unfoldable pub vertical : ℕ → ℕ → Line → Went
-  vertical place a1 s = cond (leb a1 4294967295 && leb (s .position) a1) (pushTurn R place (a1 - s .position) s) (failed 3 place s)
+  vertical place a1 s = cond (leb a1 mostPixels && leb (s .position) a1) (pushTurn R place (a1 - s .position) s) (failed overflow place s)
 
   -- what a mode, whose code began at `place`, does to the line that stands after it
   unfoldable pub apply : List Bool → ℕ → Mode → Line → Went
@@ -165,7 +166,7 @@ module _ (R : Rules) (reference : List ℕ) where
   apply bs place (VL k) s =
       cond (leb k (b1 (R .width) reference (s .position) (s .colour)))
       (vertical place (b1 (R .width) reference (s .position) (s .colour) - k) s)
-      (failed 3 place s)
+      (failed overflow place s)
 
   abbrev pub afterMode : List Bool → Line → Res Moded → Went
   afterMode bs s (ok m) = unlessIdle R (m .mode) s (apply bs (s .at) (m .mode) (movedTo (m .at) s))

@@ -4,6 +4,7 @@ use mathlib.Core.Bool.{Bool, true, false}
 use mathlib.Core.List.{List, [], _∷_, _++_}
 use Prim.Native.Nat.{ℕ, _≤_}
 use lib.Dec.{eqb}
+use Rattle.rules.specs.Answers.{invalidCode}
 use Rattle.rules.specs.Lines.{Line, Went, went, failed, two, readLine}
 use Rattle.rules.specs.Rows.{Encoding, group4, group3-1D, group3-2D, Settings, State, pageStart, row, rulesOf}
 use Rattle.rules.specs.Group4.{eolsBefore}
@@ -25,7 +26,7 @@ strictOf S = record {
 
 -- the strict answer to too many pixels
 pub data Refused : Went → Type 0 where
-  refused : {p : ℕ} {s : Line} → Refused (failed 1 p s)
+  refused : {p : ℕ} {s : Line} → Refused (failed invalidCode p s)
 
 -- what is read from the bit where a row's line begins, under a reference
 abbrev pub rowLine : Encoding → Settings → List Bool → ℕ → List ℕ → ℕ → Went

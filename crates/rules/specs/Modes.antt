@@ -5,6 +5,7 @@ use mathlib.Core.List.{List, [], _∷_}
 use Prim.Native.Nat.{ℕ, zero, suc, _+_}
 use lib.Dec.{leb}
 use lib.ListN.{length, drop}
+use Rattle.rules.specs.Answers.{invalidCode, unexpectedEof}
 use Rattle.rules.specs.Bits.{window, firstBit, leadingZeros}
 use Rattle.rules.specs.Lookup.{begins}
 use Rattle.rules.specs.Runs.{Res, ok, fault}
@@ -75,8 +76,8 @@ moded a m = record { at = a; mode = m }
 
 -- Six or more leading zeros consume 6 bits, then 1, or 2 where these are not left; a mode needs its own bits, and is 2 without them.
 unfoldable pub modeTake : ℕ → ℕ → ModeIn → Res Moded
-modeTake size at (known m len) = cond (leb (at + len) size) (ok (moded (at + len) m)) (fault 2 at)
-modeTake size at unknown = fault (cond (leb (at + 6) size) 1 2) at
+modeTake size at (known m len) = cond (leb (at + len) size) (ok (moded (at + len) m)) (fault unexpectedEof at)
+modeTake size at unknown = fault (cond (leb (at + 6) size) invalidCode unexpectedEof) at
 
 -- the mode code that begins at a bit
 unfoldable pub readMode : List Bool → ℕ → Res Moded

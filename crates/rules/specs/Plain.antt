@@ -5,6 +5,7 @@ use mathlib.Core.List.{List, [], _∷_}
 use Prim.Native.Nat.{ℕ, suc}
 use lib.Dec.{leb}
 use lib.ListN.{length}
+use Rattle.rules.specs.Answers.{invalidCode, unexpectedEof}
 use Rattle.rules.specs.Bits.{window}
 use Rattle.rules.specs.Codes.{Colour, Code, codeBits, codesOf}
 use Rattle.rules.specs.Lookup.{Entry, valid, invalid, lookup}
@@ -54,10 +55,10 @@ verdict (candidate (x ∷ xs) run ∷ cs) = orMoreBits (verdict cs)
 
 -- Bit after bit, of which `taken` came before: 1 where no code agrees any more, 2 where the data ends first.
 unfoldable pub compare : ℕ → List Candidate → List Bool → Found
-compare taken cs [] = lost 2 taken
+compare taken cs [] = lost unexpectedEof taken
 compare taken cs (b ∷ bs) =
     elim (verdict (agreeing b cs)) [
-      | no-code ↦ lost 1 (suc taken)
+      | no-code ↦ lost invalidCode (suc taken)
       | is-code run ↦ found run (suc taken)
       | more-bits ↦ compare (suc taken) (agreeing b cs) bs
     ]
@@ -71,8 +72,8 @@ plain colour bs = compare 0 (candidates (codesOf colour)) bs
 -- What an entry says where so many bits are left: "An invalid entry consumes its length, then answers 1; too few bits left is 2" (01, "Codes"), and then all
 -- that are left were taken ("consuming past it moves to the end", 01, "bit_reader.rs").
 abbrev pub byEntry : ℕ → Entry → Found
-byEntry left (valid run size) = cond (leb size left) (found run size) (lost 2 left)
-byEntry left (invalid size) = cond (leb size left) (lost 1 size) (lost 2 left)
+byEntry left (valid run size) = cond (leb size left) (found run size) (lost unexpectedEof left)
+byEntry left (invalid size) = cond (leb size left) (lost invalidCode size) (lost unexpectedEof left)
 
 abbrev pub byLookup : Colour → List Bool → Found
 byLookup colour bs = byEntry (length bs) (lookup colour (window 13 bs))

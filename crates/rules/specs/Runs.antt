@@ -5,6 +5,7 @@ use mathlib.Core.List.{List, [], _∷_, List·Memᴰ}
 use Prim.Native.Nat.{ℕ, _+_, _-_, _≤_, _<_}
 use lib.Dec.{leb, ltb}
 use lib.ListN.{length, drop}
+use Rattle.rules.specs.Answers.{invalidCode, unexpectedEof, overflow, mostPixels}
 use Rattle.rules.specs.Machine.{Out, more, done, ends}
 use Rattle.rules.specs.Bits.{window}
 use Rattle.rules.specs.Codes.{Colour, Code, codesOf}
@@ -44,13 +45,13 @@ sum a t = record { at = a; total = t }
 -- One code, of which the data's `size` bits may hold too few. An invalid entry consumes its length, then answers 1; too few bits
 -- left is 2; a sum above 4,294,967,295 is 3. A run of less than 64 is the last.
 unfoldable pub runTake : ℕ → Sum → Entry → Out Sum (Res Sum)
-runTake size s (invalid len) = done (fault (cond (leb (s .at + len) size) 1 2) (s .at))
+runTake size s (invalid len) = done (fault (cond (leb (s .at + len) size) invalidCode unexpectedEof) (s .at))
 runTake size s (valid run len) =
     cond (leb (s .at + len) size)
-    (cond (leb (s .total + run) 4294967295)
+    (cond (leb (s .total + run) mostPixels)
     (cond (ltb run 64) (done (ok (sum (s .at + len) (s .total + run)))) (more (sum (s .at + len) (s .total + run))))
-    (done (fault 3 (s .at))))
-    (done (fault 2 (s .at)))
+    (done (fault overflow (s .at))))
+    (done (fault unexpectedEof (s .at)))
 
 unfoldable pub runStep : Colour → List Bool → Sum → Out Sum (Res Sum)
 runStep colour bs s = runTake (length bs) s (lookup colour (window 13 (drop (s .at) bs)))

@@ -6,6 +6,7 @@ use mathlib.Core.Option.{Option, none, some}
 use Prim.Native.Nat.{ℕ, zero, suc, _+_, _-_, _/_}
 use lib.Dec.{eqb, ltb}
 use lib.ListN.{length, drop}
+use Rattle.rules.specs.Answers.{invalidCode, noRowEnd, moreToCome}
 use Rattle.rules.specs.Machine.{Out, more, done, andThen, run, onward, spent, costs}
 use Rattle.rules.specs.Codes.{Colour}
 use Rattle.rules.specs.Runs.{Res, ok, fault, Sum, sum, runStep, bitsAfter}
@@ -16,7 +17,6 @@ use Rattle.rules.specs.Eols.{zeroRun, eolAfter, Eols, eolsTo}
 use Rattle.rules.specs.Rows.{group4, Settings, State, readMark, rulesOf, bytesTo, alignedIf}
 use Rattle.rules.specs.Group4.{eolsBefore, over}
 use Rattle.rules.specs.Pages.{Answer, noneKept, entries, pageStep, rowsLeft, rowOf}
-use Rattle.rules.specs.InSteps.{moreToCome}
 
 -- ---- The units of a page: "one mode code, one make-up code, one terminating code or one EOL, and a code that fails is one too"
 
@@ -134,7 +134,7 @@ module _ (S : Settings) (bs : List Bool) (store places : ℕ) where
   closeRow k l =
       cond (ltb (k .count) places)
       (betweenRows (keeps k (l .changes) (readMark l)) (eolsTo 0 (alignedIf (S .aligned) (l .at))))
-      (broken k 5 0 l)
+      (broken k noRowEnd 0 l)
 
   abbrev pub settleAt : Keeping → Stand → Out Going Answer
   settleAt k (between e) = betweenRows k e
@@ -169,7 +169,7 @@ module _ (S : Settings) (bs : List Bool) (store places : ℕ) where
 
   -- where exact is set (A12), a horizontal code whose two runs moved nothing is 1, at the mode code
   abbrev pub unlessUnmoved : ℕ → Bool → Line → Went → Went
-  unlessUnmoved place blank s (went t) = cond (S .exact && (blank && unmoved s t)) (failed 1 place s) (went t)
+  unlessUnmoved place blank s (went t) = cond (S .exact && (blank && unmoved s t)) (failed invalidCode place s) (went t)
   unlessUnmoved place blank s (failed n p t) = failed n p t
 
   -- what a run makes of the line: behind the first comes the second, behind the second the next mode code

@@ -4,6 +4,7 @@ use mathlib.Core.List.{List, [], _∷_, _++_}
 use Prim.Native.Nat.{ℕ, _-_}
 use lib.Dec.{leb, ltb}
 use lib.ListN.{length, take}
+use Rattle.rules.specs.Answers.{noEntry, noRowEnd}
 use Rattle.rules.specs.Pages.{Answer, entries}
 
 -- an answer that a larger room gave
@@ -14,11 +15,11 @@ module _ (a : Answer) where
 
   -- "4: a change is to be recorded and no entry is left"
   abbrev pub four : List (List ℕ) → List ℕ → Answer
-  four = cutBehind 4
+  four = cutBehind noEntry
 
   -- "5: a row is complete and no row end is left", nor a place for its mark (A5)
   abbrev pub five : List (List ℕ) → List ℕ → Answer
-  five = cutBehind 5
+  five = cutBehind noRowEnd
 
 -- that answer, in a store of so many change entries and places for so many row ends with their marks
 module _ (store places : ℕ) (a : Answer) where

@@ -5,6 +5,7 @@ use mathlib.Core.List.{List, [], _∷_, _++_}
 use Prim.Native.Nat.{ℕ, zero, suc, _+_, _-_, _*_, _/_, _%_}
 use lib.Dec.{eqb, leb, ltb}
 use lib.ListN.{length, take, drop, replicate}
+use Rattle.rules.specs.Answers.{complete, badWidth, tooLong, badRows, noFit}
 use Rattle.rules.specs.Bits.{bitsOf}
 use Rattle.rules.specs.Codes.{Colour, white, opposite, Code, codeBits, codeAt, terminatingOf, makeupOf}
 use Rattle.rules.specs.Modes.{Mode, pass, horizontal, VR, VL, modeBits}
@@ -129,14 +130,14 @@ unwritten n out = record { number = n; end = 0; bits = bitsOf out }
 unfoldable pub writes : ℕ → Bool → List Bool → ℕ → List ℕ → ℕ → Written
 writes columns good xs end out at =
     elim (noLine columns) [
-      | true ↦ unwritten 6 out
+      | true ↦ unwritten badWidth out
       | false ↦ elim (ltb mostBytes (length out)) [
-        | true ↦ unwritten 7 out
+        | true ↦ unwritten tooLong out
         | false ↦ elim good [
-          | false ↦ unwritten 8 out
+          | false ↦ unwritten badRows out
           | true ↦ elim (leb (at + length xs) (length (bitsOf out))) [
-            | false ↦ unwritten 9 out
-            | true ↦ record { number = 0; end = end; bits = writtenAt at xs (bitsOf out) }
+            | false ↦ unwritten noFit out
+            | true ↦ record { number = complete; end = end; bits = writtenAt at xs (bitsOf out) }
           ]
         ]
       ]

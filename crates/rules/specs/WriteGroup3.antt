@@ -5,6 +5,7 @@ use mathlib.Core.List.{List, [], _∷_, _++_}
 use Prim.Native.Nat.{ℕ, zero, suc, _-_}
 use lib.Dec.{leb, ltb}
 use lib.ListN.{length, replicate}
+use Rattle.rules.specs.Answers.{badNumber}
 use Rattle.rules.specs.Lines.{Kind, one, two}
 use Rattle.rules.specs.Rows.{bytesTo}
 use Rattle.rules.specs.Pages.{mostBytes, noLine}
@@ -91,7 +92,7 @@ unfoldable pub writeGroup3 : ℕ → Layout → Bool → ℕ → List ℕ → Li
 writeGroup3 most layout allowed columns changes ends out =
     let xs = page3Bits most columns layout (rowsIn 0 changes ends) in
     elim (allowed || (noLine columns || ltb mostBytes (length out))) [
-      | false ↦ unwritten 10 out
+      | false ↦ unwritten badNumber out
       | true ↦ writes columns (someGood columns changes ends) xs (bytesTo (length xs)) out 0
     ]
 
