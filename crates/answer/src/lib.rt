@@ -3,6 +3,45 @@ ghost use mathlib.Core.Path.{_≡_};
 ghost use Rattle.rules.specs.Pages as Page;
 ghost use Rattle.answer.specs.Answer.{numberOf, answerOf};
 
+// The numbers of the list of answers (01; 10 to 15 are of 02), as the definitions name them (rules: specs/Answers.antt).
+pub const COMPLETE: u32 = 0;
+
+pub const INVALID_CODE: u32 = 1;
+
+pub const UNEXPECTED_EOF: u32 = 2;
+
+pub const OVERFLOW: u32 = 3;
+
+pub const NO_ENTRY: u32 = 4;
+
+pub const NO_ROW_END: u32 = 5;
+
+pub const BAD_WIDTH: u32 = 6;
+
+pub const TOO_LONG: u32 = 7;
+
+pub const BAD_ROWS: u32 = 8;
+
+pub const NO_FIT: u32 = 9;
+
+pub const BAD_NUMBER: u32 = 10;
+
+pub const BAD_FORM: u32 = 11;
+
+pub const NOT_ONE_TICK: u32 = 12;
+
+pub const MENDED_ROW: u32 = 13;
+
+pub const TOO_FEW_ROWS: u32 = 14;
+
+pub const MORE_TO_COME: u32 = 15;
+
+// No place on a line and no sum of a run is more, and no page is so wide.
+pub const MOST_PIXELS: u32 = 4294967295;
+
+// Data and output have no more bytes (A4).
+pub const MOST_BYTES: usize = 4294967296;
+
 pub enum DecodeError {
     UnexpectedEof,
     InvalidCode,
@@ -14,9 +53,9 @@ pub fn number(e: DecodeError) -> u32
     ensures { λ r. ⌜ r ≡ numberOf e ⌝ }
 {
     match e {
-        DecodeError::InvalidCode => 1,
-        DecodeError::UnexpectedEof => 2,
-        DecodeError::Overflow => 3,
+        DecodeError::InvalidCode => INVALID_CODE,
+        DecodeError::UnexpectedEof => UNEXPECTED_EOF,
+        DecodeError::Overflow => OVERFLOW,
     }
 }
 

@@ -128,7 +128,7 @@ fn no_columns(state: RowState) -> RowStep
         held: state.held,
         end: End::Done(0),
     };
-    said(0, 0, 0, 0, ended)
+    said(answer::COMPLETE, 0, 0, 0, ended)
 }
 
 // The state's own tests, of 8.
@@ -167,7 +167,7 @@ fn given(state: RowState, count: usize, mark: u32, at: usize, eols: bool) -> Row
     let entries = state.entries + count;
     RowStep {
         answer: Answer {
-            number: 15,
+            number: answer::MORE_TO_COME,
             mark,
             rows: rows as u64,
             entries: entries as u64,
@@ -253,7 +253,7 @@ fn next_row(
     ensures { λ r. ⌜ Next (now (src .entry)) settings state (now (reference .entry)) (now (changes .entry)) r (now (changes .exit)) ⌝ }
 {
     if !is_sound(src.len(), settings.columns, state, reference) {
-        return refused(8, state);
+        return refused(answer::BAD_ROWS, state);
     }
     if settings.columns == 0 {
         return no_columns(state);
@@ -298,11 +298,11 @@ fn tested(
 ) -> RowStep
     ensures { λ r. ⌜ Tested (now (src .entry)) settings state (now (first .entry)) (now (second .entry)) r (now (first .exit)) (now (second .exit)) ⌝ }
 {
-    if settings.columns == 4294967295 {
-        return refused(6, state);
+    if settings.columns == answer::MOST_PIXELS {
+        return refused(answer::BAD_WIDTH, state);
     }
-    if 4294967296 < src.len() {
-        return refused(7, state);
+    if answer::MOST_BYTES < src.len() {
+        return refused(answer::TOO_LONG, state);
     }
     let side = state.side;
     match side {
@@ -324,11 +324,11 @@ pub fn read_row(
     let end = state.end;
     match end {
         End::Unended => tested(src, settings, state, first, second),
-        End::Done(bytes) => said(0, 0, bytes, 0, state),
-        End::InvalidCode(place, loose) => said(1, place, 0, loose, state),
-        End::UnexpectedEof(place, loose) => said(2, place, 0, loose, state),
-        End::Overflow(place, loose) => said(3, place, 0, loose, state),
-        End::NoRoom(loose) => said(4, 0, 0, loose, state),
-        End::Short => said(14, 0, 0, 0, state),
+        End::Done(bytes) => said(answer::COMPLETE, 0, bytes, 0, state),
+        End::InvalidCode(place, loose) => said(answer::INVALID_CODE, place, 0, loose, state),
+        End::UnexpectedEof(place, loose) => said(answer::UNEXPECTED_EOF, place, 0, loose, state),
+        End::Overflow(place, loose) => said(answer::OVERFLOW, place, 0, loose, state),
+        End::NoRoom(loose) => said(answer::NO_ENTRY, 0, 0, loose, state),
+        End::Short => said(answer::TOO_FEW_ROWS, 0, 0, 0, state),
     }
 }

@@ -186,7 +186,7 @@ fn turn_of(settings: DecodeSettings, taken: Taken) -> Turn
     let out = taken.out;
     match out {
         Out::More(kept, at, _) => Turn {
-            answer: stand::said(15, 0, 0, kept, state::loose_of(at)),
+            answer: stand::said(answer::MORE_TO_COME, 0, 0, kept, state::loose_of(at)),
             units: taken.units,
             reading: Reading::Open(state::saved(kept, at)),
         },
@@ -194,7 +194,7 @@ fn turn_of(settings: DecodeSettings, taken: Taken) -> Turn
             if settings::is_short(settings, answer.number, answer.rows) {
                 return ended(
                     Answer {
-                        number: 14,
+                        number: answer::TOO_FEW_ROWS,
                         mark: 0,
                         rows: answer.rows,
                         entries: answer.entries,
@@ -222,17 +222,17 @@ fn turn_on(
 ) -> Turn
     ensures { λ r. ⌜ TurnsOn (now (src .entry)) settings (now (changes .entry)) (now (ends .entry)) (now (marks .entry)) saved n r (now (changes .exit)) (now (ends .exit)) (now (marks .exit)) ⌝ }
 {
-    if settings.columns == 4294967295 {
-        return still(answer::refusal(6), Reading::Open(saved));
+    if settings.columns == answer::MOST_PIXELS {
+        return still(answer::refusal(answer::BAD_WIDTH), Reading::Open(saved));
     }
-    if 4294967296 < src.len() {
-        return still(answer::refusal(7), Reading::Open(saved));
+    if answer::MOST_BYTES < src.len() {
+        return still(answer::refusal(answer::TOO_LONG), Reading::Open(saved));
     }
     if !state::is_sound(src.len(), settings.columns, changes, ends, marks, saved) {
-        return still(answer::refusal(8), Reading::Open(saved));
+        return still(answer::refusal(answer::BAD_ROWS), Reading::Open(saved));
     }
     if settings.columns == 0 {
-        return ended(answer::refusal(0), 0);
+        return ended(answer::refusal(answer::COMPLETE), 0);
     }
     let white = lookups::white_lookup();
     let black = lookups::black_lookup();
@@ -256,7 +256,7 @@ pub fn read_units(
     ensures { λ r. ⌜ ReadsUnits (now (src .entry)) settings (now (changes .entry)) (now (ends .entry)) (now (marks .entry)) reading n r (now (changes .exit)) (now (ends .exit)) (now (marks .exit)) ⌝ }
 {
     if n == 0 {
-        return still(answer::refusal(10), reading);
+        return still(answer::refusal(answer::BAD_NUMBER), reading);
     }
     match reading {
         Reading::Ended(end, counts) => still(answer_of(end, counts), Reading::Ended(end, counts)),

@@ -109,7 +109,7 @@ pub(crate) fn between(src: &[u8], settings: DecodeSettings, kept: Kept, eols: Eo
         NextEol::Nothing => {
             if is_over(src, settings, kept, eols) {
                 let bytes = bit_reader::byte_pos(bit_reader::align(at));
-                return Out::Done(said(0, 0, bytes, kept, 0));
+                return Out::Done(said(answer::COMPLETE, 0, bytes, kept, 0));
             }
             Out::More(kept, Stand::InLine(line::new_line(settings.columns), at), 0)
         }
@@ -137,10 +137,10 @@ fn close_row(
 {
     let rows = kept.rows;
     if ends.len() <= rows {
-        return Out::Done(said(5, 0, 0, kept, line.changes));
+        return Out::Done(said(answer::NO_ROW_END, 0, 0, kept, line.changes));
     }
     if marks.len() <= rows {
-        return Out::Done(said(5, 0, 0, kept, line.changes));
+        return Out::Done(said(answer::NO_ROW_END, 0, 0, kept, line.changes));
     }
     let base = kept.base + line.changes;
     ends[rows] = wide(base);

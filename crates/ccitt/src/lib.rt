@@ -110,7 +110,7 @@ fn page<'a>(
             Row::Kept(count, mark, at, eols) => {
                 let rows = state.rows;
                 if places <= rows {
-                    return counts(5, 0, rows, state.base, count, 0);
+                    return counts(answer::NO_ROW_END, 0, rows, state.base, count, 0);
                 }
                 ends[rows] = wide(state.base + count);
                 marks[rows] = mark as u8;
@@ -128,7 +128,7 @@ fn unless_short(settings: DecodeSettings, answer: Answer) -> Answer
         return answer;
     }
     Answer {
-        number: 14,
+        number: answer::TOO_FEW_ROWS,
         mark: answer.mark,
         rows: answer.rows,
         entries: answer.entries,
@@ -148,14 +148,14 @@ pub fn decode(
 ) -> Answer
     ensures { λ r. ⌜ Decodes (now (src .entry)) settings (now (changes .entry)) (now (ends .entry)) (now (marks .entry)) r (now (changes .exit)) (now (ends .exit)) (now (marks .exit)) ⌝ }
 {
-    if settings.columns == 4294967295 {
-        return answer::refusal(6);
+    if settings.columns == answer::MOST_PIXELS {
+        return answer::refusal(answer::BAD_WIDTH);
     }
-    if 4294967296 < src.len() {
-        return answer::refusal(7);
+    if answer::MOST_BYTES < src.len() {
+        return answer::refusal(answer::TOO_LONG);
     }
     if settings.columns == 0 {
-        return answer::refusal(0);
+        return answer::refusal(answer::COMPLETE);
     }
     let white = lookups::white_lookup();
     let black = lookups::black_lookup();

@@ -15,6 +15,9 @@ ghost use Rattle.tables.specs.Tables.{colourOf, Lookups};
 ghost use Rattle.codes.specs.Plain.{foundOf};
 ghost use Rattle.codes.specs.Runs.{Reading, RunRead, CodeFrom, codeOf, Addable, summed};
 
+// A sum of runs, where it is counted in 64 bits.
+pub(crate) const MOST_SUM: usize = answer::MOST_PIXELS as usize;
+
 // A run and the buffer behind it; or the error, and the bit at which the failing code began.
 pub enum Run {
     Length(u32, Buffer),
@@ -67,7 +70,7 @@ pub fn read_run<'a>(
         if run == 4095 {
             return Run::Bad(DecodeError::InvalidCode, at);
         }
-        if 4294967295 - run < sum {
+        if answer::MOST_PIXELS - run < sum {
             return Run::Bad(DecodeError::Overflow, at);
         }
         b = next;
@@ -121,7 +124,7 @@ pub(crate) fn add_code(found: Found, at: usize, total: u32) -> Code
         Found::Lost(e, _) => Code::Bad(e, at),
         Found::Code(run, taken) => {
             let sum = total as usize + run;
-            if 4294967295 < sum {
+            if MOST_SUM < sum {
                 return Code::Bad(DecodeError::Overflow, at);
             }
             if run < 64 {

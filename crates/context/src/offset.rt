@@ -3,6 +3,8 @@ ghost use mathlib.Core.Path.{_≡_};
 ghost use Rattle.context.specs.Offset.{Offset, moveBy};
 ghost use Rattle.codes.specs.Modes.{offsetMode};
 
+const MOST_PLACE: i64 = answer::MOST_PIXELS as i64;
+
 // By so many pixels to a1; or a1 is no place to which the line can go.
 pub enum Move {
     By(u32),
@@ -15,7 +17,7 @@ pub fn moved(b1: u32, offset: i64, position: u32) -> Move
     ensures { λ r. ⌜ r ≡ moveBy b1 (offsetMode offset) position ⌝ }
 {
     let a1 = b1 as i64 + offset;
-    if 4294967295 < a1 {
+    if MOST_PLACE < a1 {
         return Move::Over;
     }
     let count = a1 - position as i64;

@@ -21,5 +21,5 @@ pub enum Step {
 pub fn place_of(number: u32, place: usize) -> usize
     ensures { λ r. ⌜ r ≡ placeFor number place ⌝ }
 {
-    if number == 4 { 0 } else { place }
+    if number == answer::NO_ENTRY { 0 } else { place }
 }

@@ -15,6 +15,9 @@ ghost use Rattle.exports.specs.RowState as Row;
 ghost use Rattle.exports.specs.RowState.{flagNumber};
 ghost use Rattle.exports.specs.UnitState.{phaseNumber, endNumbers, endFrom, openNumbers, endedNumbers, numbersOf, EndTold, ReadingTold};
 
+// What 32 bits hold.
+const MOST_WORD: u64 = answer::MOST_PIXELS as u64;
+
 // The reading that numbers are, or that none has them.
 pub(crate) enum ReadingIn {
     Held(Reading),
@@ -51,10 +54,10 @@ fn flags(a: u64, b: u64, c: u64) -> bool
 fn words(a: u64, b: u64) -> bool
     ensures { λ r. ⌜ r ≡ leb a 4294967295 && leb b 4294967295 ⌝ }
 {
-    if 4294967295 < a {
+    if MOST_WORD < a {
         return false;
     }
-    b <= 4294967295
+    b <= MOST_WORD
 }
 
 fn phase_in(number: u64) -> Phase

@@ -60,7 +60,7 @@ pub fn row<'a>(
 {
     match eob::between(src, settings, state) {
         Before::End(at) => settings::end_at(at),
-        Before::NoEol(at) => Row::Stop(1, at, 0, 0),
+        Before::NoEol(at) => Row::Stop(answer::INVALID_CODE, at, 0, 0),
         Before::Line(at, expected) => {
             row_at(
                 white,

@@ -61,7 +61,7 @@ pub(crate) fn decode<'a>(
     match kind_at(src, settings, at) {
         Kind::NoTag => {
             let end = 8 * src.len();
-            Step::Stop(2, line::new_line(columns), end)
+            Step::Stop(answer::UNEXPECTED_EOF, line::new_line(columns), end)
         }
         Kind::One(start) => {
             line_1d::decode_1d_line(

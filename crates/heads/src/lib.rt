@@ -50,10 +50,10 @@ pub(crate) fn on_page(
     ensures { λ r. ⌜ r ≡ headsOn (pageIn columns (now (changes .entry)) (now (ends .entry))) (now (marks .entry)) form least quota ⌝ }
 {
     if !boxes::given(form, least, quota) {
-        return refused(11);
+        return refused(answer::BAD_FORM);
     }
     if !boxes::clean(columns, ends.len(), marks, form) {
-        return refused(13);
+        return refused(answer::MENDED_ROW);
     }
     let table = boxes::tick_table(columns, changes, ends, form);
     reading::heads_in(table, least, quota)
@@ -72,7 +72,7 @@ pub fn heads(
     ensures { λ r. ⌜ r ≡ Form.heads columns (now (changes .entry)) (now (ends .entry)) (now (marks .entry)) form least quota ⌝ }
 {
     if !store::sound(columns, changes, ends, marks) {
-        return refused(8);
+        return refused(answer::BAD_ROWS);
     }
     on_page(columns, changes, ends, marks, form, least, quota)
 }

@@ -51,10 +51,10 @@ pub fn heads_from(
     ensures { λ r. ⌜ r ≡ headsFrom columns (now (changes .entry)) (now (ends .entry)) (now (marks .entry)) (now (boxes .entry)) least quota ⌝ }
 {
     if !store::sound(columns, changes, ends, marks) {
-        return crate::refused(8);
+        return crate::refused(answer::BAD_ROWS);
     }
     if boxes.len() != 80 {
-        return crate::refused(11);
+        return crate::refused(answer::BAD_FORM);
     }
     crate::on_page(columns, changes, ends, marks, form_in(boxes), least, quota)
 }

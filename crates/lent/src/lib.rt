@@ -14,20 +14,20 @@ pub struct Pushed {
 fn refusal(room: usize, line: Line) -> u32
     ensures { λ r. ⌜ Tested room line r ⌝ }
 {
-    if line.width == 4294967295 {
-        return 6;
+    if line.width == answer::MOST_PIXELS {
+        return answer::BAD_WIDTH;
     }
     if line.width < line.position {
-        return 8;
+        return answer::BAD_ROWS;
     }
     if room < line.changes {
-        return 8;
+        return answer::BAD_ROWS;
     }
     if 1 < line.colour {
-        return 8;
+        return answer::BAD_ROWS;
     }
     if 1 < line.cut {
-        return 8;
+        return answer::BAD_ROWS;
     }
     0
 }
@@ -37,7 +37,7 @@ pub fn push_line(line: Line, changes: &mut [u32], count: u32, strict: bool) -> P
     ensures { λ r. ⌜ Lends (now (changes .entry)) line count strict (r .number) (r .line) (now (changes .exit)) ⌝ }
 {
     let number = refusal(changes.len(), line);
-    if number != 0 {
+    if number != answer::COMPLETE {
         return Pushed {
             number: number,
             line: line,
@@ -45,7 +45,7 @@ pub fn push_line(line: Line, changes: &mut [u32], count: u32, strict: bool) -> P
     }
     match line::push_pixels(changes, line, count, strict) {
         Push::On(next) => Pushed {
-            number: 0,
+            number: answer::COMPLETE,
             line: next,
         },
         Push::Stop(fault, so_far) => Pushed {

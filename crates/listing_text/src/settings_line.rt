@@ -1,6 +1,6 @@
 // The line of settings.
-use settings_line::DecodeSettings;
-use settings_line::EncodingMode;
+use settings::DecodeSettings;
+use settings::EncodingMode;
 ghost use mathlib.Core.Path.{_≡_};
 ghost use mathlib.Core.List.{[], _∷_};
 ghost use Prim.Native.Nat.{_≤_};
@@ -8,6 +8,9 @@ ghost use lib.ListN.{length, getD};
 ghost use Rattle.settings.specs.Settings.{encodingOf};
 ghost use Rattle.listing_text.specs.Line.{encodingNumber, Says};
 ghost use Rattle.listing_text.specs.Reading.{digitOf, NumberAt, Stands};
+
+// The largest number that a setting has.
+const MOST_NUMBER: u64 = answer::MOST_PIXELS as u64;
 
 // The settings, and where the data begins.
 pub enum Parsed {
@@ -61,7 +64,7 @@ fn read_number(bytes: &[u8], at: usize) -> Number
             return Number::Missing;
         }
         n = n * 10 + d;
-        if n > 4294967295 {
+        if n > MOST_NUMBER {
             return Number::Missing;
         }
         next += 1;

@@ -86,7 +86,7 @@ fn full_code<'a>(
             line_2d::after_push(pushed, at, next, false)
         }
         Mode::Vertical(offset, next) => match offset::moved(b1, offset, line.position) {
-            Move::Over => Step::Stop(3, line, at),
+            Move::Over => Step::Stop(answer::OVERFLOW, line, at),
             Move::By(count) => {
                 if count == 0 {
                     return line_2d::unmoved(line, at, next, rules.exact);

@@ -48,10 +48,10 @@ pub(crate) fn unmoved(line: Line, at: usize, next: usize, exact: bool) -> Step
         return Step::On(line::turned(line), next);
     }
     if line.position != 0 {
-        return Step::Stop(1, line, at);
+        return Step::Stop(answer::INVALID_CODE, line, at);
     }
     if line.colour != 0 {
-        return Step::Stop(1, line, at);
+        return Step::Stop(answer::INVALID_CODE, line, at);
     }
     Step::On(line::turned(line), next)
 }
@@ -65,7 +65,7 @@ pub(crate) fn unless_idle(step: Step, line: Line, at: usize, exact: bool) -> Ste
         Step::On(after, end) => {
             if exact {
                 if after.position == line.position {
-                    return Step::Stop(1, line, at);
+                    return Step::Stop(answer::INVALID_CODE, line, at);
                 }
             }
             Step::On(after, end)
@@ -113,7 +113,7 @@ fn code_2d<'a>(
             after_push(pushed, at, next, false)
         }
         Mode::Vertical(offset, next) => match offset::moved(b1, offset, line.position) {
-            Move::Over => Step::Stop(3, line, at),
+            Move::Over => Step::Stop(answer::OVERFLOW, line, at),
             Move::By(count) => {
                 if count == 0 {
                     return unmoved(line, at, next, rules.exact);

@@ -49,7 +49,7 @@ pub fn mode_code(
             OneCode::Did(line_2d::after_push(pushed, at, next, false))
         }
         Mode::Vertical(offset, next) => match offset::moved(b1, offset, line.position) {
-            Move::Over => OneCode::Did(Step::Stop(3, line, at)),
+            Move::Over => OneCode::Did(Step::Stop(answer::OVERFLOW, line, at)),
             Move::By(count) => {
                 if count == 0 {
                     return OneCode::Did(line_2d::unmoved(line, at, next, rules.exact));

@@ -15,7 +15,7 @@ fn answer(step: Step) -> Answer
 {
     match step {
         Step::On(line, after) => Answer {
-            number: 0,
+            number: answer::COMPLETE,
             mark: line.cut,
             rows: 1,
             entries: line.changes as u64,
@@ -40,7 +40,7 @@ fn past(end: usize) -> Answer
     ensures { λ r. ⌜ r ≡ pastAt end ⌝ }
 {
     Answer {
-        number: 2,
+        number: answer::UNEXPECTED_EOF,
         mark: 0,
         rows: 0,
         entries: 0,
@@ -62,16 +62,16 @@ pub fn read_line(
     ensures { λ r. ⌜ ReadOne (now (src .entry)) at columns strict (now (reference .entry)) (now (changes .entry)) r (now (changes .exit)) ⌝ }
 {
     if columns == 0 {
-        return answer::refusal(6);
+        return answer::refusal(answer::BAD_WIDTH);
     }
-    if columns == 4294967295 {
-        return answer::refusal(6);
+    if columns == answer::MOST_PIXELS {
+        return answer::refusal(answer::BAD_WIDTH);
     }
-    if 4294967296 < src.len() {
-        return answer::refusal(7);
+    if answer::MOST_BYTES < src.len() {
+        return answer::refusal(answer::TOO_LONG);
     }
     if !reference::ascends(reference, columns) {
-        return answer::refusal(8);
+        return answer::refusal(answer::BAD_ROWS);
     }
     let end = 8 * src.len();
     if at > end as u64 {

@@ -63,7 +63,12 @@ pub fn end_at(at: usize) -> Row
     requires { ⌜ at ≤ mostBits ⌝ }
     ensures { λ r. ⌜ r ≡ rowFor (finished at) ⌝ }
 {
-    Row::Stop(0, 0, bit_reader::byte_pos(bit_reader::align(at)), 0)
+    Row::Stop(
+        answer::COMPLETE,
+        0,
+        bit_reader::byte_pos(bit_reader::align(at)),
+        0,
+    )
 }
 
 // The one encoding whose rows have no 1D lines and no tags.
@@ -106,7 +111,7 @@ pub fn is_short(settings: DecodeSettings, number: u32, rows: u64) -> bool
     if !settings.exact {
         return false;
     }
-    if number != 0 {
+    if number != answer::COMPLETE {
         return false;
     }
     rows < settings.rows as u64

@@ -140,7 +140,7 @@ pub(crate) fn write(
         false,
     );
     if 8 * out.len() < end {
-        return answer::refusal(9);
+        return answer::refusal(answer::NO_FIT);
     }
     put_line(
         &wt,
