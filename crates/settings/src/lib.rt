@@ -63,12 +63,8 @@ pub fn end_at(at: usize) -> Row
     requires { ⌜ at ≤ mostBits ⌝ }
     ensures { λ r. ⌜ r ≡ rowFor (finished at) ⌝ }
 {
-    Row::Stop(
-        answer::COMPLETE,
-        0,
-        bit_reader::byte_pos(bit_reader::align(at)),
-        0,
-    )
+    let bytes = bit_reader::byte_pos(bit_reader::align(at));
+    Row::Stop(answer::COMPLETE, 0, bytes, 0)
 }
 
 // The one encoding whose rows have no 1D lines and no tags.
