@@ -241,17 +241,16 @@ module _ (settings : DecodeSettings) (t : Taken) where
       (λ i. stillOpen ((f ∙ ap (λ (n : ℕ). answerOf (says moreToCome 0 0 (k .rows) (k .base) n)) q) i) (t .units) (g i))
       ∙ ap (turnOut settings (t .units)) (sym e)
 
-  module _ (a : Answer) (e : t .out ≡ Done a) where
-    by-few : (b : Bool) → b ≡ tooFew (settingsOf settings) (a .number) (a .rows) → (r : Turn)
-        → r ≡ endedFor (cond b (record { number = 14; mark = 0; rows = a .rows; entries = a .entries; loose = a .loose; bytes = 0; place = 0 }) a) (t .units) → r ≡ turnFor settings t
-    by-few b q r f =
-        f
-        ∙ ap (λ (c : Bool). endedFor (cond c (record { number = 14; mark = 0; rows = a .rows; entries = a .entries; loose = a .loose; bytes = 0; place = 0 }) a) (t .units)) q
-        ∙ ap (turnOut settings (t .units)) (sym e)
+  pub turn-done : (a : Answer) → t .out ≡ Done a → (b : Answer) → b ≡ unlessFew settings a → (r : Turn) → r ≡ endedFor b (t .units) → r ≡ turnFor settings t
+  turn-done a e b q r f = f ∙ ap (λ (c : Answer). endedFor c (t .units)) q ∙ ap (turnOut settings (t .units)) (sym e)
 
-    pub turn-short : true ≡ tooFew (settingsOf settings) (a .number) (a .rows) → (r : Turn)
-        → r ≡ endedFor (record { number = 14; mark = 0; rows = a .rows; entries = a .entries; loose = a .loose; bytes = 0; place = 0 }) (t .units) → r ≡ turnFor settings t
-    turn-short q r f = by-few true q r f
+-- 14 in the place of 0
+module _ (settings : DecodeSettings) (a : Answer) where
+  abbrev few : Answer
+  few = record { number = 14; mark = 0; rows = a .rows; entries = a .entries; loose = a .loose; bytes = 0; place = 0 }
 
-    pub turn-done : false ≡ tooFew (settingsOf settings) (a .number) (a .rows) → (r : Turn) → r ≡ endedFor a (t .units) → r ≡ turnFor settings t
-    turn-done q r f = by-few false q r f
+  pub few-short : true ≡ tooFew (settingsOf settings) (a .number) (a .rows) → few ≡ unlessFew settings a
+  few-short q = ap (λ (c : Bool). cond c few a) q
+
+  pub few-not : false ≡ tooFew (settingsOf settings) (a .number) (a .rows) → a ≡ unlessFew settings a
+  few-not q = ap (λ (c : Bool). cond c few a) q

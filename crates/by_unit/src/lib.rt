@@ -14,7 +14,7 @@ ghost use mathlib.Core.Path.{_≡_};
 ghost use Rattle.rules.specs.InSteps.{says};
 ghost use Rattle.rules.specs.ByUnit.{opened, savedStart};
 ghost use Rattle.by_unit.specs.Standing.{answerOf};
-ghost use Rattle.by_unit.specs.Reading.{readingOf, asReadFor, endFrom, answerFor, stillFor, endedFor, turnFor, TurnsOn, ReadsUnits};
+ghost use Rattle.by_unit.specs.Reading.{readingOf, asReadFor, endFrom, answerFor, stillFor, endedFor, unlessFew, turnFor, TurnsOn, ReadsUnits};
 
 // What comes next: an EOL or a line; a mode code; a code of a horizontal code's first run, or of its second.
 pub enum Phase {
@@ -179,7 +179,25 @@ fn ended(answer: Answer, units: usize) -> Turn
     }
 }
 
-// 15 while the page goes on; at its end 14 in place of 0 where an exact page has too few rows (A12).
+// 14 in place of 0 where an exact page has too few rows (A12).
+fn unless_few(settings: DecodeSettings, answer: Answer) -> Answer
+    ensures { λ r. ⌜ r ≡ unlessFew settings answer ⌝ }
+{
+    if settings::is_short(settings, answer.number, answer.rows) {
+        return Answer {
+            number: answer::TOO_FEW_ROWS,
+            mark: 0,
+            rows: answer.rows,
+            entries: answer.entries,
+            loose: answer.loose,
+            bytes: 0,
+            place: 0,
+        };
+    }
+    answer
+}
+
+// 15 while the page goes on, or its end.
 fn turn_of(settings: DecodeSettings, taken: Taken) -> Turn
     ensures { λ r. ⌜ r ≡ turnFor settings taken ⌝ }
 {
@@ -190,23 +208,7 @@ fn turn_of(settings: DecodeSettings, taken: Taken) -> Turn
             units: taken.units,
             reading: Reading::Open(state::saved(kept, at)),
         },
-        Out::Done(answer) => {
-            if settings::is_short(settings, answer.number, answer.rows) {
-                return ended(
-                    Answer {
-                        number: answer::TOO_FEW_ROWS,
-                        mark: 0,
-                        rows: answer.rows,
-                        entries: answer.entries,
-                        loose: answer.loose,
-                        bytes: 0,
-                        place: 0,
-                    },
-                    taken.units,
-                );
-            }
-            ended(answer, taken.units)
-        }
+        Out::Done(answer) => ended(unless_few(settings, answer), taken.units),
     }
 }
 

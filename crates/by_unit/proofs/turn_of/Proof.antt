@@ -1,5 +1,4 @@
-use mathlib.Core.Path.{sym, _∙_}
-use Rattle.by_unit.proofs.Turning.{turn-more, turn-short, turn-done}
+use Rattle.by_unit.proofs.Turning.{turn-more, turn-done}
 use borrow.Author.Needs.{needs}
 use Rattle.by_unit.proofs.turn_of.Statement.{statement}
 use Rattle.by_unit.proofs.turn_of.Tie as tie
@@ -19,23 +18,17 @@ saved-requires c κs = search needs
 enum-known-out-2 : tie.Need-enum-known-out-2
 enum-known-out-2 c = search needs
 
-is-short-requires : tie.Need-is-short-requires
-is-short-requires c κs = search needs
+unless-few-requires : tie.Need-unless-few-requires
+unless-few-requires c κs = search needs
 
 ended-requires : tie.Need-ended-requires
 ended-requires c κs = search needs
 
 returns : tie.Need-returns
-returns c = turn-short (c .before .before .before .before .before .before .args .settings) (c .before .before .before .before .before .before .args .taken) _ (c .before .before .before .before .out2 .given .1) (sym (c .before .if1 .taken) ∙ c .before .before .is-short .ensures) _ (c .ended .ensures)
-
-ended-requires-2 : tie.Need-ended-requires-2
-ended-requires-2 c κs = search needs
+returns c = turn-more (c .before .before .before .before .before .before .args .settings) (c .before .before .before .before .before .before .args .taken) _ _ _ (c .before .before .before .before .out .given .1) _ (c .before .before .loose-of .ensures) _ (c .before .said .ensures) _ (c .saved .ensures)
 
 returns-2 : tie.Need-returns-2
-returns-2 c = turn-more (c .before .before .before .before .before .before .args .settings) (c .before .before .before .before .before .before .args .taken) _ _ _ (c .before .before .before .before .out .given .1) _ (c .before .before .loose-of .ensures) _ (c .before .said .ensures) _ (c .saved .ensures)
-
-returns-3 : tie.Need-returns-3
-returns-3 c = turn-done (c .before .before .before .before .before .before .args .settings) (c .before .before .before .before .before .before .args .taken) _ (c .before .before .before .before .out2 .given .1) (sym (c .before .if1 .left) ∙ c .before .before .is-short .ensures) _ (c .ended2 .ensures)
+returns-2 c = turn-done (c .before .before .before .before .before .args .settings) (c .before .before .before .before .before .args .taken) _ (c .before .before .before .out2 .given .1) _ (c .before .unless-few .ensures) _ (c .ended .ensures)
 
 pub turn-of-spec : {M : Type 1} → statement M
 turn-of-spec =
@@ -46,9 +39,7 @@ turn-of-spec =
     said-requires
     saved-requires
     enum-known-out-2
-    is-short-requires
+    unless-few-requires
     ended-requires
     returns
-    ended-requires-2
-    returns-2
-    returns-3)
+    returns-2)
