@@ -9,6 +9,8 @@ mod rows;
 mod units;
 mod writers;
 
+pub use crate::row::{Mark, Row};
+pub use crate::settings::Settings;
 pub use fault::Fault;
 pub use heads::{Heads, TickBox, heads};
 pub use line::{Line, read_line};
@@ -16,72 +18,8 @@ pub use rows::{OwnedRow, Rows};
 pub use units::{Turn, Units};
 pub use writers::{write_group3_1d, write_group3_2d, write_line, write_page};
 
-use crate::DecodeSettings;
 use crate::page::Memory;
 use crate::room::MOST;
-
-/// How a page is read: the crate's settings, and two more.
-#[derive(Copy, Clone, Debug)]
-pub struct Settings {
-    /// The crate's settings.
-    pub settings: DecodeSettings,
-    /// Whether to reject codes that move nothing, and a page with fewer rows than it is to have. It is stricter than `strict`, which it implies.
-    ///
-    /// A vertical move to the position that it starts from, other than the line's first code moving to 0, and a horizontal code with two zero runs are
-    /// [`InvalidCode`](crate::DecodeError::InvalidCode). A page that ends with fewer rows than `rows`, if that is not 0, is [`Fault::TooFewRows`]; its rows
-    /// are handed over all the same.
-    pub exact: bool,
-    /// Whether to read runs by an engine without a lookup, which compares one bit after another with the code tables. It is slower, and by proof
-    /// everything that it gives is the same.
-    pub plain: bool,
-}
-
-impl From<DecodeSettings> for Settings {
-    /// As the crate reads: not exactly, and by the lookup.
-    fn from(settings: DecodeSettings) -> Self {
-        Self { settings, exact: false, plain: false }
-    }
-}
-
-/// How a row was read.
-#[derive(Copy, Clone, Debug, PartialEq, Eq)]
-pub enum Mark {
-    /// As it was written.
-    Clean,
-    /// With more pixels than the page is wide, and cut to the width. Lenient reading alone does that.
-    Cut,
-    /// With a fault: it is white from there on. Lenient Group 3 reading alone does that, and goes on at the next end-of-line marker.
-    Recovered,
-}
-
-impl Mark {
-    /// Of the library's number.
-    pub(crate) fn of(number: u32) -> Self {
-        match number {
-            0 => Self::Clean,
-            1 => Self::Cut,
-            _ => Self::Recovered,
-        }
-    }
-
-    /// The library's number.
-    pub(crate) fn number(self) -> u8 {
-        match self {
-            Self::Clean => 0,
-            Self::Cut => 1,
-            Self::Recovered => 2,
-        }
-    }
-}
-
-/// A row as it is handed over.
-#[derive(Copy, Clone, Debug, PartialEq, Eq)]
-pub struct Row<'a> {
-    /// The positions at which the color changes, as [`Decoder::push_row`](crate::Decoder::push_row) has them.
-    pub changes: &'a [u32],
-    /// How it was read.
-    pub mark: Mark,
-}
 
 /// Reads a page, and hands over each of its rows with its mark. The bytes that have been read in total, or why it was not read to its end, and where.
 /// The rows before a fault have been handed over.

@@ -1,8 +1,8 @@
 //! A page a row at a time, into two line arrays that grow.
 
-use crate::beyond::Settings;
 use crate::library::{self, Answer};
 use crate::room::longer;
+use crate::settings::Settings;
 use alloc::vec::Vec;
 
 /// A page that is being read: the library's ten numbers, and the two line arrays.

@@ -1,6 +1,7 @@
+use crate::library::Answer;
 use crate::page::Memory;
 use crate::room::{MOST, Room};
-use crate::{DecodeSettings, Decoder, beyond::Settings, library::Answer};
+use crate::settings::{DecodeSettings, Settings};
 
 /// A reusable context for decoding CCITT images.
 pub struct DecoderContext {
@@ -52,8 +53,9 @@ impl DecoderContext {
         Self { room: Room { changes, rows }, ..Self::new(settings) }
     }
 
-    pub(crate) fn read(&mut self, data: &[u8], decoder: &mut impl Decoder) -> Answer {
+    /// Reads a page, and hands over the changes of each of its rows.
+    pub(crate) fn read(&mut self, data: &[u8], mut push: impl FnMut(&[u32])) -> Answer {
         let settings = Settings::from(self.settings);
-        self.memory.read(data, &settings, self.room, |row| decoder.push_row(row.changes))
+        self.memory.read(data, &settings, self.room, |row| push(row.changes))
     }
 }

@@ -75,9 +75,12 @@ mod error;
 mod library;
 mod page;
 mod room;
+mod row;
+mod settings;
 
 pub use context::DecoderContext;
 pub use error::{DecodeError, Result};
+pub use settings::{DecodeSettings, EncodingMode};
 
 /// Decode the given image using the provided decoder context and decoder.
 ///
@@ -92,7 +95,7 @@ pub fn decode(data: &[u8], decoder: &mut impl Decoder, ctx: &mut DecoderContext)
     if ctx.settings.columns == 0 {
         return Ok(0);
     }
-    let answer = ctx.read(data, decoder);
+    let answer = ctx.read(data, |changes| decoder.push_row(changes));
     match answer.number {
         0 => Ok(answer.bytes as usize),
         1 => Err(DecodeError::InvalidCode),
@@ -113,45 +116,4 @@ pub trait Decoder {
     /// black, those from `changes[2]` up to `changes[3]` again, and so on. If
     /// the number of changes is odd, the row ends black.
     fn push_row(&mut self, changes: &[u32]);
-}
-
-/// Settings to apply during decoding.
-#[derive(Copy, Clone, Debug)]
-pub struct DecodeSettings {
-    /// How many columns the image has (i.e. its width).
-    pub columns: u32,
-    /// How many rows the image has (i.e. its height).
-    ///
-    /// In case `end_of_block` has been set to true, decoding will run until
-    /// the given number of rows have been decoded, or the `end_of_block` marker
-    /// has been encountered, whichever occurs first.
-    ///
-    /// If set to 0, decoding runs until the end-of-block marker or the end of the data.
-    pub rows: u32,
-    /// Whether the stream _MAY_ contain an end-of-block marker
-    /// (It doesn't have to. In that case this is set to `true` but there are
-    /// no end-of-block markers, the value of `rows` will still be used
-    /// to determine when to stop decoding).
-    pub end_of_block: bool,
-    /// Whether the stream contains end-of-line markers.
-    pub end_of_line: bool,
-    /// Whether the data in the stream for each row is aligned to the byte
-    /// boundary.
-    pub rows_are_byte_aligned: bool,
-    /// The encoding mode used by the image.
-    pub encoding: EncodingMode,
-    /// Whether to reject data that violates the specification, instead of
-    /// decoding it as well as possible.
-    pub strict: bool,
-}
-
-/// The encoding mode for CCITT fax decoding.
-#[derive(Copy, Clone, Debug, PartialEq, Eq)]
-pub enum EncodingMode {
-    /// Group 4 (MMR).
-    Group4,
-    /// Group 3 1D (MH).
-    Group3_1D,
-    /// Group 3 2D (MR).
-    Group3_2D,
 }

@@ -5,8 +5,7 @@
 //! by page, as Rust's are, so that a stack which is too short ends the program at its guard page.
 #![allow(unsafe_code)]
 
-use crate::beyond::Settings;
-use crate::{DecodeSettings, EncodingMode};
+use crate::settings::{DecodeSettings, EncodingMode, Settings};
 use alloc::vec::Vec;
 
 // Its lengths and counts have 64 bits.

@@ -1,9 +1,10 @@
 //! A whole page, its rows handed over one after the other.
 
-use crate::beyond::{Mark, Row, Settings};
 use crate::by_row::ByRow;
 use crate::library::{self, Answer};
 use crate::room::{Room, changes_of, rows_of};
+use crate::row::{Mark, Row};
+use crate::settings::Settings;
 
 /// The memory of a reading, kept from page to page.
 #[derive(Default)]

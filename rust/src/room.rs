@@ -1,6 +1,6 @@
 //! Room for what is read: how much is lent at most, how much a page can need, and how it grows.
 
-use crate::beyond::Settings;
+use crate::settings::Settings;
 use alloc::vec::Vec;
 
 /// The most entries and rows that the page form is lent: 16 MiB and 576 KiB, of which a page takes what its rows have.

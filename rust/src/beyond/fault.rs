@@ -1,4 +1,4 @@
-use crate::DecodeError;
+use crate::error::DecodeError;
 use crate::library::Answer;
 use core::fmt::{self, Display, Formatter};
 

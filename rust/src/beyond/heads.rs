@@ -1,5 +1,6 @@
-use super::{Fault, Row};
+use super::fault::Fault;
 use crate::library::{self, Page};
+use crate::row::Row;
 use alloc::vec::Vec;
 
 /// A box of a form, by its edges in pixels, from 0 at the top left. The right and bottom edges are not included; a part outside the page is white.

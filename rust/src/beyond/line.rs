@@ -1,6 +1,7 @@
-use super::{Fault, Mark};
+use super::fault::Fault;
 use crate::library::{self, Answer};
 use crate::room::longer;
+use crate::row::Mark;
 use alloc::vec;
 use alloc::vec::Vec;
 

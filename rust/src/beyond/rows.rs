@@ -1,6 +1,8 @@
-use super::{Fault, Mark, Row, Settings};
+use super::fault::Fault;
 use crate::by_row::ByRow;
 use crate::library::Answer;
+use crate::row::{Mark, Row};
+use crate::settings::Settings;
 use alloc::vec::Vec;
 use core::iter::FusedIterator;
 

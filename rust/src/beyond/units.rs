@@ -1,6 +1,8 @@
-use super::{Fault, Mark, Row, Settings};
+use super::fault::Fault;
 use crate::library::{self, Answer};
 use crate::room::{MOST, changes_of, longer, rows_of};
+use crate::row::{Mark, Row};
+use crate::settings::Settings;
 use alloc::vec;
 use core::num::NonZeroU64;
 

@@ -1,6 +1,6 @@
 //! The writers: of T.6 a page and a line, of T.4 (Group 3 1D and 2D) a page.
 
-use super::Fault;
+use super::fault::Fault;
 use crate::library::{self, Answer, Layout, Page};
 use alloc::vec;
 use alloc::vec::Vec;
