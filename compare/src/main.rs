@@ -49,6 +49,7 @@ use checks::{
 };
 use ours::Ours;
 use settings::{ENCODINGS, Encoding};
+use std::io;
 use std::process::ExitCode;
 use std::time::Instant;
 
@@ -75,13 +76,13 @@ fn main() -> ExitCode {
 }
 
 /// Runs every check. True if all passed.
-fn compare(arguments: &Arguments) -> std::io::Result<bool> {
+fn compare(arguments: &Arguments) -> io::Result<bool> {
     println!("seed {}", arguments.seed);
     if cfg!(not(feature = "package")) {
         println!("the Rust package: skipped, the library is not linked in");
     }
     let workers = std::thread::available_parallelism().map_or(1, usize::from);
-    let mut ours = ours::open(workers)?;
+    let mut ours = (0..workers).map(|_| open()).collect::<io::Result<Vec<_>>>()?;
     let (mut passed, mut failed, mut all) = (0, 0, Tally::default());
     let mut count = |tally: Tally| {
         *(if tally.passed() { &mut passed } else { &mut failed }) += 1;
@@ -96,6 +97,17 @@ fn compare(arguments: &Arguments) -> std::io::Result<bool> {
     println!("{}; the line below counts checks", all.asked());
     println!("{passed} passed, {failed} failed");
     Ok(failed == 0)
+}
+
+/// Opens the library for one worker.
+#[cfg(feature = "linked")]
+fn open() -> io::Result<Box<dyn Ours>> {
+    Ok(Box::new(linked::Linked))
+}
+
+#[cfg(not(feature = "linked"))]
+fn open() -> io::Result<Box<dyn Ours>> {
+    Ok(Box::new(piped::Piped::start()?))
 }
 
 fn run_one(source: &dyn Source, seed: u64, ours: &mut [Box<dyn Ours>]) -> Tally {

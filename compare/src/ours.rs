@@ -11,18 +11,3 @@ pub trait Ours: Send {
     /// Whether it has the writers.
     fn writes(&self) -> bool;
 }
-
-/// Opens the library once for each worker.
-pub fn open(workers: usize) -> io::Result<Vec<Box<dyn Ours>>> {
-    (0..workers).map(|_| open_one()).collect()
-}
-
-#[cfg(feature = "linked")]
-fn open_one() -> io::Result<Box<dyn Ours>> {
-    Ok(Box::new(crate::linked::Linked))
-}
-
-#[cfg(not(feature = "linked"))]
-fn open_one() -> io::Result<Box<dyn Ours>> {
-    Ok(Box::new(crate::piped::Piped::start()?))
-}
