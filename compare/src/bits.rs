@@ -70,3 +70,7 @@ pub fn bit_at(bytes: &[u8], index: usize) -> bool {
 pub fn flip_bit(bytes: &mut [u8], index: usize) {
     bytes[index / 8] ^= 128 >> (index % 8);
 }
+
+pub fn hex(bytes: &[u8]) -> String {
+    bytes.iter().map(|byte| format!("{byte:02x}")).collect()
+}

@@ -1,108 +1,15 @@
 //! Runs one check: makes its inputs, asks the library, and compares everything that comes back.
 
+use crate::bits::hex;
 use crate::call::{Answer, Ask, BYTE_MARGIN, Call, Form, Replies, Reply, Room, Steps, pattern, pattern_byte};
+use crate::case::{Case, Plan, Source};
 use crate::ours::Ours;
 use crate::random::Random;
+use crate::tally::Tally;
 use crate::truth::Wanted;
 use std::fmt::Write as _;
 use std::sync::Mutex;
 use std::sync::atomic::{AtomicU64, Ordering};
-
-/// One input: what is asked, and for each room that is lent what must come back.
-pub struct Case {
-    pub ask: Ask,
-    pub plans: Vec<Plan>,
-    /// What is wrong before the library is asked: the crate itself is not what a check says it is.
-    pub complaint: Option<String>,
-}
-
-impl Case {
-    /// Asks the page by the plain engine too, in one of the ways in which the lookup is asked.
-    pub fn plainly(mut self, random: &mut Random) -> Self {
-        let plan = self.plans[random.index(self.plans.len())].clone();
-        self.plans.push(Plan { plain: true, ..plan });
-        self
-    }
-
-    /// Complains unless something holds.
-    pub fn require(mut self, holds: bool, complaint: impl FnOnce() -> String) -> Self {
-        if !holds && self.complaint.is_none() {
-            self.complaint = Some(complaint());
-        }
-        self
-    }
-}
-
-#[derive(Clone)]
-pub struct Plan {
-    /// Whether the page is to be read exactly (A12), whatever its settings say of strictness.
-    pub exact: bool,
-    /// Whether runs are to be read by the plain engine (A14). What must come back is the same.
-    pub plain: bool,
-    /// Whether the page is to be read in one call, a row at a time (A1) or a few units at a time (A9).
-    pub steps: Steps,
-    pub room: Room,
-    pub fill: u32,
-    pub wanted: Wanted,
-}
-
-/// Where the inputs of a check come from. An input is settled by its number and the run's seed.
-pub trait Source: Sync {
-    /// What the check is called; part of every input's seed.
-    fn name(&self) -> String;
-
-    fn count(&self) -> u64;
-
-    fn case(&self, index: u64, random: &mut Random) -> Case;
-
-    /// How many inputs are asked at a time.
-    fn batch(&self) -> u64 {
-        256
-    }
-}
-
-/// What a check found.
-#[derive(Default)]
-pub struct Tally {
-    pub inputs: u64,
-    pub calls: u64,
-    /// How many of the calls were the Rust package's.
-    pub by_package: u64,
-    pub differing: u64,
-    /// The smallest input that differs: its size and its description.
-    pub smallest: Option<(usize, String)>,
-}
-
-impl Tally {
-    pub fn passed(&self) -> bool {
-        self.differing == 0 && self.inputs > 0
-    }
-
-    /// What was asked.
-    pub fn asked(&self) -> String {
-        let by_package = if cfg!(feature = "package") { format!(", {} of them by the package", self.by_package) } else { String::new() };
-        format!("{} inputs, {} calls{by_package}", self.inputs, self.calls)
-    }
-
-    pub fn differs(&mut self, size: usize, text: impl FnOnce() -> String) {
-        self.differing += 1;
-        if self.smallest.as_ref().is_none_or(|&(smallest, _)| size < smallest) {
-            self.smallest = Some((size, text()));
-        }
-    }
-
-    pub fn add(&mut self, other: Tally) {
-        self.inputs += other.inputs;
-        self.calls += other.calls;
-        self.by_package += other.by_package;
-        self.differing += other.differing;
-        if let Some((size, text)) = other.smallest
-            && self.smallest.as_ref().is_none_or(|&(smallest, _)| size < smallest)
-        {
-            self.smallest = Some((size, text));
-        }
-    }
-}
 
 /// Runs a check, each worker taking the next batch of inputs until there are none left.
 pub fn run(source: &dyn Source, seed: u64, workers: &mut [Box<dyn Ours>]) -> Tally {
@@ -260,8 +167,4 @@ fn show(a: &Answer) -> String {
         "{}, mark {}, rows {}, entries {}, loose {}, bytes {}, place {}",
         a.number, a.mark, a.rows, a.entries, a.loose, a.bytes, a.place
     )
-}
-
-pub fn hex(bytes: &[u8]) -> String {
-    bytes.iter().map(|byte| format!("{byte:02x}")).collect()
 }

@@ -3,7 +3,7 @@
 
 use crate::bits::Bits;
 use crate::call::Layout;
-use crate::check::Case;
+use crate::case::Case;
 use crate::checks::group3_writers::page_case;
 use crate::checks::writers::{encoded, written_page};
 use crate::group3;

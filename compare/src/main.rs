@@ -10,6 +10,7 @@ mod by_row;
 #[cfg(any(feature = "linked", test))]
 mod by_unit;
 mod call;
+mod case;
 mod check;
 mod checks;
 mod codes;
@@ -36,11 +37,12 @@ mod settings;
 mod sha256;
 #[cfg(test)]
 mod standin;
+mod tally;
 mod truth;
 mod words;
 
 use arguments::{Arguments, Mode};
-use check::{Source, Tally};
+use case::Source;
 use checks::other_decoder::{self, OtherDecoder};
 use checks::random_pages::{Kind, RandomPages};
 use checks::{
@@ -52,6 +54,7 @@ use settings::{ENCODINGS, Encoding};
 use std::io;
 use std::process::ExitCode;
 use std::time::Instant;
+use tally::Tally;
 
 fn main() -> ExitCode {
     let Some(arguments) = arguments::parse(std::env::args().skip(1)) else {

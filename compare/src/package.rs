@@ -8,10 +8,12 @@ pub mod heads;
 #[cfg(test)]
 mod standin;
 
+use crate::bits::hex;
 use crate::call::{Answer, Ask, BYTE_MARGIN, Form, Layout, Room, Steps, pattern_byte};
-use crate::check::{Case, Plan, Source, Tally, hex};
+use crate::case::{Case, Plan, Source};
 use crate::random::Random;
 use crate::settings::{Encoding, Settings};
+use crate::tally::Tally;
 use crate::truth::Wanted;
 use std::num::NonZeroU64;
 

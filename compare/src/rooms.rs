@@ -2,7 +2,7 @@
 //! end short, one mark short, or anything less. Pages are read exactly (A12), by the plain engine (A14), a row at a time (A1) and a few units at a time (A9) besides.
 
 use crate::call::{Ask, Room, Steps};
-use crate::check::{Case, Plan};
+use crate::case::{Case, Plan};
 use crate::random::Random;
 use crate::settings::Encoding;
 use crate::truth::{Outcome, Wanted};

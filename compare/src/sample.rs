@@ -2,7 +2,7 @@
 //! goes into a file `stdin`, what the crate answered into a file `stdout`.
 
 use crate::call::{Ask, Form, Room, Steps};
-use crate::check::{Case, Plan, Source};
+use crate::case::{Case, Plan, Source};
 use crate::checks::limits::{LineLimits, PageLimits};
 use crate::checks::lines::Lines;
 use crate::checks::random_pages::{Kind, RandomPages};

@@ -533,7 +533,8 @@ fn slipped_line(ask: &Ask) -> Outcome {
 #[cfg(test)]
 mod tests {
     use super::{FAULTS, Fault, Standin};
-    use crate::check::{self, Source};
+    use crate::case::Source;
+    use crate::check;
     use crate::checks::random_pages::{Kind, RandomPages};
     use crate::checks::{
         bad_lines::BadLines, codes::Codes, group3_writers, limits, lines::Lines, listed_pages::ListedPages, long_runs::LongRuns,

@@ -5,7 +5,7 @@
 
 use crate::bits::Bits;
 use crate::call::{Ask, Layout};
-use crate::check::{Case, Source};
+use crate::case::{Case, Source};
 use crate::codes::EOL;
 use crate::group3::{put_end, put_line};
 use crate::random::Random;

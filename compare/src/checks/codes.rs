@@ -2,7 +2,7 @@
 
 use crate::bits::Bits;
 use crate::call::Ask;
-use crate::check::{Case, Source};
+use crate::case::{Case, Source};
 use crate::codes::{Colour, LONGEST, terminating, whole};
 use crate::random::Random;
 use crate::rooms::page_case;

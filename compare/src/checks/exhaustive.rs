@@ -1,7 +1,7 @@
 //! Every page of 0, 1 and 2 bytes, under every flag.
 
 use crate::call::Ask;
-use crate::check::{Case, Source};
+use crate::case::{Case, Source};
 use crate::random::Random;
 use crate::rooms::lookup_page_case;
 use crate::settings::{Encoding, Settings};

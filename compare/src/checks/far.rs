@@ -2,7 +2,7 @@
 //! 32 bits do not count.
 
 use crate::call::{Ask, Room, Steps};
-use crate::check::{Case, Plan, Source};
+use crate::case::{Case, Plan, Source};
 use crate::checks::writers::encoded;
 use crate::random::Random;
 use crate::rows::random_rows;

@@ -4,7 +4,7 @@
 
 use crate::bits::Bits;
 use crate::call::Ask;
-use crate::check::{Case, Source};
+use crate::case::{Case, Source};
 use crate::random::Random;
 use crate::rooms::quick_page_case;
 use crate::settings::{ENCODINGS, Settings};

@@ -3,7 +3,7 @@
 
 use crate::bits::Bits;
 use crate::call::{Ask, Layout, Room, Steps};
-use crate::check::{Case, Plan, Source};
+use crate::case::{Case, Plan, Source};
 use crate::checks::writers::{LONG, refused, written};
 use crate::group3::{allowed, encoded};
 use crate::random::Random;

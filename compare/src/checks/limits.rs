@@ -1,7 +1,7 @@
 //! The limits of the page form and of reading one line: 6, 7, 8, columns 0, and their order.
 
 use crate::call::Ask;
-use crate::check::{Case, Source};
+use crate::case::{Case, Source};
 use crate::random::Random;
 use crate::rooms::{line_case, page_case};
 use crate::settings::{ENCODINGS, Settings};

@@ -3,7 +3,7 @@
 
 use crate::bits::{Bits, bit_at};
 use crate::call::Ask;
-use crate::check::{Case, Source};
+use crate::case::{Case, Source};
 use crate::codes::{LONGEST, LONGEST_OWN};
 use crate::damage::damage;
 use crate::encoder::put_line_2d;

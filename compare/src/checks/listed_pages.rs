@@ -1,7 +1,7 @@
 //! Written pages, against what other fax programs read from them and write for their rows
 //! (recorded/written.txt, recorded/group3_1d.txt, recorded/group3_2d.txt).
 
-use crate::check::{Case, Source};
+use crate::case::{Case, Source};
 use crate::listed::{COUNT, LISTS, List, ListedPage};
 use crate::pixels::packed;
 use crate::random::Random;
@@ -67,9 +67,10 @@ impl Source for ListedPages {
 #[cfg(test)]
 mod tests {
     use super::ListedPages;
-    use crate::check::{self, Tally};
+    use crate::check;
     use crate::listed::{LISTS, List};
     use crate::standin::{Fault, Standin};
+    use crate::tally::Tally;
 
     fn tally(pages: &ListedPages, fault: Fault) -> Tally {
         check::run(pages, 7, &mut [Box::new(Standin(fault))])

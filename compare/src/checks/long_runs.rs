@@ -2,7 +2,7 @@
 
 use crate::bits::Bits;
 use crate::call::Ask;
-use crate::check::{Case, Source};
+use crate::case::{Case, Source};
 use crate::codes::{Colour, LONGEST, make_up, terminating};
 use crate::encoder::put_run;
 use crate::random::Random;

@@ -1,7 +1,7 @@
 //! Pages of text, against what two other fax decoders made of them (recorded/digests.txt).
 
 use crate::call::Ask;
-use crate::check::{Case, Source};
+use crate::case::{Case, Source};
 use crate::pixels::packed;
 use crate::random::Random;
 use crate::rooms::page_case;

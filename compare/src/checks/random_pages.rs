@@ -1,7 +1,7 @@
 //! Random pages: short ones of every length, words that occur in fax data, encoded pages, damaged ones.
 
 use crate::call::Ask;
-use crate::check::{Case, Source};
+use crate::case::{Case, Source};
 use crate::damage::damage;
 use crate::pages::{Page, random_page};
 use crate::random::Random;

@@ -2,7 +2,7 @@
 //! from the standard: their answers stand here as the documents have them, so the crate is held to them too.
 
 use crate::call::{Answer, Ask, Room, Steps};
-use crate::check::{Case, Plan, Source};
+use crate::case::{Case, Plan, Source};
 use crate::random::Random;
 use crate::rooms::line_room;
 use crate::settings::{Encoding, Settings};

@@ -3,7 +3,7 @@
 
 use crate::bits::Bits;
 use crate::call::{Answer, Ask, BYTE_MARGIN, Room, Steps, pattern_byte};
-use crate::check::{Case, Plan, Source};
+use crate::case::{Case, Plan, Source};
 use crate::checks::sheets;
 use crate::codes::{EOL, LONGEST};
 use crate::encoder::put_line_2d;

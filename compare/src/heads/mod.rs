@@ -7,8 +7,8 @@ pub mod plain;
 #[cfg(test)]
 mod standin;
 
-use crate::check::Tally;
 use crate::random::Random;
+use crate::tally::Tally;
 use plain::plain;
 use std::fmt::Write as _;
 

@@ -239,10 +239,11 @@ fn keep<T>(wanted: &mut Wanted, change: impl FnOnce(&mut Vec<Vec<u32>>) -> T) {
 
 mod tests {
     use super::{FAULTS, Fault, Standin};
-    use crate::check::{Case, Source, Tally};
+    use crate::case::{Case, Source};
     use crate::checks::random_pages::{Kind, RandomPages};
     use crate::checks::{group3_writers, limits, lines::Lines, sheets::Sheets, writers};
     use crate::random::Random;
+    use crate::tally::Tally;
 
     fn differing(fault: Fault, count: u64) -> u64 {
         let random = |kind| Box::new(RandomPages { kind, count }) as Box<dyn Source>;
