@@ -1,7 +1,7 @@
 //! Random forms on random pages: pages that the crate read and rows made up, boxes that hold a black run, and boxes that are empty, white,
 //! outside the page or anywhere, with edges at 0 and at 4,294,967,295.
 
-use super::Ask;
+use super::ask::Ask;
 use crate::pages::random_page;
 use crate::random::Random;
 use crate::rows::{WIDTHS, flattened, random_rows};

@@ -2,6 +2,7 @@
 //! Only a library that is linked in is asked.
 #![cfg_attr(not(feature = "linked"), allow(dead_code))]
 
+pub mod ask;
 pub mod forms;
 pub mod plain;
 #[cfg(test)]
@@ -9,29 +10,9 @@ mod standin;
 
 use crate::random::Random;
 use crate::tally::Tally;
+use ask::{Ask, HeadsAnswer};
 use plain::plain;
 use std::fmt::Write as _;
-
-/// What is asked: a store as the decoder left it, the eighty numbers of a form, and the caller's mark and quota.
-#[derive(Clone, Debug)]
-pub struct Ask {
-    pub columns: u32,
-    pub changes: Vec<u32>,
-    pub ends: Vec<u64>,
-    pub marks: Vec<u8>,
-    pub boxes: Vec<u32>,
-    pub least: u64,
-    pub quota: i32,
-}
-
-/// The answer as C has it.
-#[repr(C)]
-#[derive(Clone, Copy, Debug, Default, PartialEq, Eq)]
-pub struct HeadsAnswer {
-    pub number: u32,
-    pub heads: u32,
-    pub left: i32,
-}
 
 /// The library, the package over it, or who stands in for them.
 pub trait Reader {

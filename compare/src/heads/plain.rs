@@ -1,6 +1,6 @@
 //! What must come back, as A11 says it, pixel by pixel where there are not too many of them.
 
-use super::{Ask, HeadsAnswer};
+use super::ask::{Ask, HeadsAnswer};
 use crate::truth::ascends_below;
 
 /// A box, as it stands in four of the eighty numbers.

@@ -1,7 +1,8 @@
 //! A stand-in for the library's heads, for testing this check: it goes by runs, and a fault can be put into it; each must be caught.
 
+use super::ask::{Ask, HeadsAnswer};
 use super::plain::{Edges, rows_of};
-use super::{Ask, HeadsAnswer, Reader, run};
+use super::{Reader, run};
 
 #[derive(Clone, Copy, Debug, PartialEq, Eq)]
 enum Fault {

@@ -1,7 +1,8 @@
 //! The heads on a form, asked of the library that is linked in.
 
 use super::STACK;
-use crate::heads::{Ask, HeadsAnswer, Reader};
+use crate::heads::Reader;
+use crate::heads::ask::{Ask, HeadsAnswer};
 
 #[rustfmt::skip]
 unsafe extern "C" {

@@ -1,8 +1,9 @@
 //! The heads on a form, asked of the package.
 
 use super::called::told;
+use crate::heads::Reader;
+use crate::heads::ask::{Ask, HeadsAnswer};
 use crate::heads::plain::{Edges, split};
-use crate::heads::{Ask, HeadsAnswer, Reader};
 use drop_in::beyond::{Heads, Mark, Row, TickBox, heads};
 
 pub struct PackageHeads;
