@@ -10,6 +10,8 @@ mod canvas;
 mod drawn;
 #[cfg(feature = "linked")]
 mod fill;
+#[cfg(feature = "linked")]
+mod page;
 #[cfg(all(feature = "linked", feature = "writers"))]
 mod plain_writer;
 #[cfg(feature = "linked")]

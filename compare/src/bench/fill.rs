@@ -1,6 +1,6 @@
 //! Pages with long fill, and what a reader of zeros could be slow on.
 
-use super::readers::Page;
+use super::page::{Named, Page};
 use crate::bits::Bits;
 use crate::settings::{Encoding, Settings};
 
@@ -14,7 +14,7 @@ const SIZES: [(usize, &str); 3] = [(1 << 16, "64 KiB"), (1 << 20, "1 MiB"), (1 <
 /// Rows of a page whose every line has fill.
 const ROWS: usize = 20_000;
 
-pub fn pages() -> Vec<(String, Page)> {
+pub fn pages() -> Vec<Named> {
     let strict = settings(true);
     let lenient = settings(false);
     let mut pages = Vec::new();

@@ -2,42 +2,24 @@
 //! against the page form.
 
 use super::fill;
-#[cfg(feature = "writers")]
-use super::{drawn::{self, Drawn}, set};
+use super::page::{Named, Page};
 use super::timing::{RUNS, report};
+#[cfg(feature = "writers")]
+use super::{
+    drawn::{self, Drawn},
+    set,
+};
 use crate::by_row::{self, RowForm, STATE};
 use crate::by_unit::{self, UnitForm};
 use crate::checks::other_decoder::Text;
 use crate::linked::{self, Linked};
-use crate::settings::{Encoding, Settings};
-use crate::truth::Outcome;
+use crate::settings::Encoding;
 use std::time::{Duration, Instant};
 
 /// More than any of the pages needs; and how many of them are cleared for a page that needs no more.
 const CHANGES: usize = 1 << 22;
 const FEW: usize = 1 << 20;
 const ENDS: usize = 1 << 15;
-
-/// A page, and the answer and rows that both must give.
-pub struct Page {
-    settings: Settings,
-    src: Vec<u8>,
-    number: u32,
-    rows: usize,
-    entries: usize,
-}
-
-impl Page {
-    pub fn of(settings: Settings, src: Vec<u8>) -> Self {
-        let outcome = Outcome::of_page(&settings, &src, 0);
-        Page { settings, src, number: outcome.number, rows: outcome.ends.len(), entries: outcome.changes.len() }
-    }
-
-    #[cfg(feature = "writers")]
-    pub fn is_whole(&self, rows: usize) -> bool {
-        self.number == 0 && self.rows == rows
-    }
-}
 
 /// The arrays that both are given, cleared before each run.
 struct Store {
@@ -84,9 +66,6 @@ impl drop_in::Decoder for Sink<'_> {
         self.push(changes);
     }
 }
-
-/// A page, and what it is called where it is timed by itself.
-pub type Named = (String, Page);
 
 pub fn run(texts: &[Text]) {
     let mut store = Store { changes: vec![0; CHANGES], ends: vec![0; ENDS], marks: vec![0; ENDS] };
@@ -155,7 +134,8 @@ fn run_set(store: &mut Store) {
 fn by_encoding(pages: &[Named]) -> Vec<(String, Vec<&Page>)> {
     let all: Vec<&Page> = pages.iter().map(|(_, page)| page).collect();
     let of = |encoding: Encoding| -> Vec<&Page> { all.iter().copied().filter(|page| page.settings.encoding == encoding).collect() };
-    let each = [Encoding::Group4, Encoding::Group3OneD].map(|encoding| (format!("{} pages, {encoding:?}", of(encoding).len()), of(encoding)));
+    let each =
+        [Encoding::Group4, Encoding::Group3OneD].map(|encoding| (format!("{} pages, {encoding:?}", of(encoding).len()), of(encoding)));
     each.into_iter().chain([(format!("all {} pages", all.len()), all.clone())]).collect()
 }
 

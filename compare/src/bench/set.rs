@@ -2,7 +2,7 @@
 
 use super::canvas::{HEIGHT, WIDTH};
 use super::drawn::Drawn;
-use super::readers::{Named, Page};
+use super::page::{Named, Page};
 use crate::call::Layout;
 use crate::linked;
 use crate::settings::{Encoding, Settings};
@@ -35,7 +35,8 @@ fn page(rows: &[Vec<u32>], encoding: Encoding, strict: bool) -> Page {
     };
     assert_eq!(answer.number, 0, "the page is written");
     out.truncate(answer.bytes as usize);
-    let settings = Settings { encoding, end_of_block: true, end_of_line: encoding != Encoding::Group4, ..Settings::of_line(columns, strict) };
+    let settings =
+        Settings { encoding, end_of_block: true, end_of_line: encoding != Encoding::Group4, ..Settings::of_line(columns, strict) };
     let page = Page::of(settings, out);
     assert!(page.is_whole(HEIGHT), "the crate reads the page back");
     page
