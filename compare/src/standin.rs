@@ -1,7 +1,10 @@
 //! A stand-in for the library, for testing this package: it reads with a copy of the crate and writes
 //! with the encoder. A fault can be put into what it hands back; each must be caught.
 
+pub mod fault;
 mod rows;
+mod slipped;
+mod tests;
 mod units;
 
 use crate::bits::Bits;
@@ -13,158 +16,11 @@ use crate::codes::LONGEST;
 use crate::encoder::put_line_2d;
 use crate::group3;
 use crate::ours::Ours;
-use crate::settings::{Encoding, Settings};
-use crate::truth::{Idle, LIMIT, Outcome, Wanted, ascends_below};
-use hayro_ccitt_slipped as slipped;
+use crate::settings::Settings;
+use crate::truth::{LIMIT, Outcome, Wanted, ascends_below};
+use fault::Fault;
 use std::io;
 use std::ops::Range;
-
-/// What goes wrong.
-#[derive(Clone, Copy, Debug, PartialEq, Eq)]
-pub enum Fault {
-    None,
-    Number,
-    Rows,
-    Entries,
-    Loose,
-    Bytes,
-    Change,
-    LooseChange,
-    RowEnd,
-    BehindChanges,
-    BehindEnds,
-    BesideArrays,
-    BytesOfAFailure,
-    FourEarly,
-    FiveEarly,
-    FiveForFour,
-    NoSix,
-    NoSeven,
-    ZeroColumnsRefused,
-    LineEndsOnAByte,
-    NoEightForALine,
-    WrittenBit,
-    WrittenBehind,
-    UnusedBitsStay,
-    NineEarly,
-    NineWrites,
-    NineBeforeEight,
-    FallingEnds,
-    PlaceOfFour,
-    PlaceBehind,
-    Mark,
-    MarkLate,
-    BehindMarks,
-    MarkOfALine,
-    FiveForNoMark,
-    ExactUnasked,
-    ExactIsLenient,
-    ShortPasses,
-    WholeIsShort,
-    ZeroColumnsShort,
-    BytesOfAShortPage,
-    PlainChange,
-    PlainPlace,
-    PlainNumber,
-    SameArray,
-    RowTwice,
-    BehindARow,
-    ReferenceTouched,
-    LooseLost,
-    RepetitionWrites,
-    RepeatsOtherwise,
-    ForgedTaken,
-    PlainRow,
-    AllAtOnce,
-    OneUnitMore,
-    PlainUnit,
-    BehindAUnit,
-    UnitRepetitionWrites,
-    LateTaken,
-    TenLate,
-    OneTooMany,
-    EightBeforeTen,
-    NoRowsWritten,
-    FirstEolMissing,
-    FiveEols,
-    FillBeforeEach,
-    TagsExchanged,
-    KLines,
-    RowBeforeLast,
-    RtcWithoutOnes,
-}
-
-pub const FAULTS: [Fault; 69] = [
-    Fault::Number,
-    Fault::Rows,
-    Fault::Entries,
-    Fault::Loose,
-    Fault::Bytes,
-    Fault::Change,
-    Fault::LooseChange,
-    Fault::RowEnd,
-    Fault::BehindChanges,
-    Fault::BehindEnds,
-    Fault::BesideArrays,
-    Fault::BytesOfAFailure,
-    Fault::FourEarly,
-    Fault::FiveEarly,
-    Fault::FiveForFour,
-    Fault::NoSix,
-    Fault::NoSeven,
-    Fault::ZeroColumnsRefused,
-    Fault::LineEndsOnAByte,
-    Fault::NoEightForALine,
-    Fault::WrittenBit,
-    Fault::WrittenBehind,
-    Fault::UnusedBitsStay,
-    Fault::NineEarly,
-    Fault::NineWrites,
-    Fault::NineBeforeEight,
-    Fault::FallingEnds,
-    Fault::PlaceOfFour,
-    Fault::PlaceBehind,
-    Fault::Mark,
-    Fault::MarkLate,
-    Fault::BehindMarks,
-    Fault::MarkOfALine,
-    Fault::FiveForNoMark,
-    Fault::ExactUnasked,
-    Fault::ExactIsLenient,
-    Fault::ShortPasses,
-    Fault::WholeIsShort,
-    Fault::ZeroColumnsShort,
-    Fault::BytesOfAShortPage,
-    Fault::PlainChange,
-    Fault::PlainPlace,
-    Fault::PlainNumber,
-    Fault::SameArray,
-    Fault::RowTwice,
-    Fault::BehindARow,
-    Fault::ReferenceTouched,
-    Fault::LooseLost,
-    Fault::RepetitionWrites,
-    Fault::RepeatsOtherwise,
-    Fault::ForgedTaken,
-    Fault::PlainRow,
-    Fault::AllAtOnce,
-    Fault::OneUnitMore,
-    Fault::PlainUnit,
-    Fault::BehindAUnit,
-    Fault::UnitRepetitionWrites,
-    Fault::LateTaken,
-    Fault::TenLate,
-    Fault::OneTooMany,
-    Fault::EightBeforeTen,
-    Fault::NoRowsWritten,
-    Fault::FirstEolMissing,
-    Fault::FiveEols,
-    Fault::FillBeforeEach,
-    Fault::TagsExchanged,
-    Fault::KLines,
-    Fault::RowBeforeLast,
-    Fault::RtcWithoutOnes,
-];
 
 /// Whether the caller's number is the first that is refused.
 fn just_past(layout: Layout) -> bool {
@@ -273,7 +129,8 @@ impl Standin {
         }
         let strict = ask.settings.strict || call.exact && self.0 != Fault::ExactIsLenient;
         let settings = Settings { strict, ..ask.settings };
-        let outcome = if ask.lead == 0 && ask.tail == 0 { slipped_page(&settings, &ask.src) } else { slipped_page(&settings, &ask.data()) };
+        let outcome =
+            if ask.lead == 0 && ask.tail == 0 { slipped::page(&settings, &ask.src) } else { slipped::page(&settings, &ask.data()) };
         if call.exact { self.exactly(&settings, outcome) } else { self.inexactly(&settings, outcome) }
     }
 
@@ -298,7 +155,7 @@ impl Standin {
         }
         // the refusals are those of the truth; only the reading is the copy's own
         let truth = Outcome::of_line(s.columns, s.strict, &ask.src, ask.tail, ask.at, &ask.first);
-        if truth.number > 5 || ask.at > 8 * ask.src.len() as u64 { truth } else { slipped_line(ask) }
+        if truth.number > 5 || ask.at > 8 * ask.src.len() as u64 { truth } else { slipped::line(ask) }
     }
 
     fn spoil_words(&self, call: &Call, wanted: &Wanted, words: &mut [u32], changes: Range<usize>, ends: Range<usize>) {
@@ -462,145 +319,5 @@ impl Standin {
         let mut bits = Bits::default();
         put_line_2d(&mut bits, columns, &ask.first, &ask.second, LONGEST);
         bits
-    }
-}
-
-fn slipped_settings(s: &Settings) -> slipped::DecodeSettings {
-    slipped::DecodeSettings {
-        columns: s.columns,
-        rows: s.rows,
-        end_of_block: s.end_of_block,
-        end_of_line: s.end_of_line,
-        rows_are_byte_aligned: s.aligned,
-        encoding: match s.encoding {
-            Encoding::Group4 => slipped::EncodingMode::Group4,
-            Encoding::Group3OneD => slipped::EncodingMode::Group3_1D,
-            Encoding::Group3TwoD => slipped::EncodingMode::Group3_2D,
-        },
-        strict: s.strict,
-    }
-}
-
-#[derive(Default)]
-struct Sink {
-    changes: Vec<u32>,
-    ends: Vec<u32>,
-}
-
-impl slipped::Decoder for Sink {
-    fn push_row(&mut self, changes: &[u32]) {
-        self.changes.extend_from_slice(changes);
-        self.ends.push(self.changes.len() as u32);
-    }
-}
-
-fn slipped_number(error: slipped::DecodeError) -> u32 {
-    match error {
-        slipped::DecodeError::InvalidCode => 1,
-        slipped::DecodeError::UnexpectedEof => 2,
-        slipped::DecodeError::Overflow => 3,
-    }
-}
-
-fn slipped_page(settings: &Settings, src: &[u8]) -> Outcome {
-    let mut sink = Sink::default();
-    let mut context = slipped::DecoderContext::new(slipped_settings(settings));
-    slipped::place::take_units();
-    let result = slipped::decode(src, &mut sink, &mut context);
-    let (number, place, bytes) =
-        result.map_or_else(|error| (slipped_number(error), slipped::place::last() as u64, 0), |bytes| (0, 0, bytes as u64));
-    if number != 0 {
-        sink.changes.extend_from_slice(context.unfinished());
-    }
-    let idle = context.idle().map(Idle::of_open_crate);
-    let units = slipped::place::take_units();
-    Outcome { number, place, bytes, changes: sink.changes, ends: sink.ends, marks: context.marks().to_vec(), idle, units }
-}
-
-fn slipped_line(ask: &Ask) -> Outcome {
-    let mut context = slipped::DecoderContext::new(slipped_settings(&ask.settings));
-    let result = context.read_line(&ask.src, ask.at as usize, &ask.first);
-    let changes = context.unfinished().to_vec();
-    match result {
-        Ok(bit) => {
-            let (ends, marks) = (vec![changes.len() as u32], vec![context.mark()]);
-            Outcome { bytes: bit as u64, changes, ends, marks, ..Outcome::bare(0, 0) }
-        }
-        Err(error) => Outcome { changes, ..Outcome::bare(slipped_number(error), slipped::place::last() as u64) },
-    }
-}
-
-#[cfg(test)]
-mod tests {
-    use super::{FAULTS, Fault, Standin};
-    use crate::case::Source;
-    use crate::check;
-    use crate::checks::random_pages::{Kind, RandomPages};
-    use crate::checks::{
-        bad_lines::BadLines, codes::Codes, group3_writers, limits, lines::Lines, listed_pages::ListedPages, long_runs::LongRuns,
-        sheets::Sheets, writers,
-    };
-    use crate::ours::Ours;
-
-    /// Every check but the exhaustive one, with fewer inputs.
-    fn sources(count: u64) -> Vec<Box<dyn Source>> {
-        let random = |kind| Box::new(RandomPages { kind, count }) as Box<dyn Source>;
-        let mut list: Vec<Box<dyn Source>> = vec![
-            Box::new(Sheets),
-            Box::new(limits::PageLimits),
-            Box::new(limits::LineLimits),
-            Box::new(Codes),
-            random(Kind::Short),
-            random(Kind::Words),
-            random(Kind::Encoded),
-            random(Kind::Damaged),
-            Box::new(BadLines { count }),
-            Box::new(Lines { count }),
-            Box::new(writers::WriterLimits),
-            Box::new(writers::WrittenLines { count }),
-            Box::new(writers::WrittenPages { count }),
-            Box::new(group3_writers::Limits),
-            Box::new(group3_writers::Written { count }),
-        ];
-        list.extend(ListedPages::all());
-        list
-    }
-
-    /// The first check that a fault fails.
-    fn first_failing(fault: Fault, sources: &[Box<dyn Source>]) -> Option<String> {
-        let mut ours: Vec<Box<dyn Ours>> = vec![Box::new(Standin(fault))];
-        sources.iter().find_map(|source| {
-            let tally = check::run(source.as_ref(), 7, &mut ours);
-            let text = tally.smallest.as_ref().map_or("", |(_, text)| text);
-            (!tally.passed()).then(|| format!("{}:\n{text}", source.name()))
-        })
-    }
-
-    #[test]
-    fn the_crate_passes() {
-        assert_eq!(first_failing(Fault::None, &sources(10_000)), None);
-    }
-
-    #[test]
-    fn every_fault_is_caught() {
-        for fault in FAULTS {
-            assert!(first_failing(fault, &sources(500)).is_some(), "{fault:?} is not caught");
-        }
-    }
-
-    #[test]
-    fn a_check_without_inputs_does_not_pass() {
-        assert!(first_failing(Fault::None, &[Box::new(Lines { count: 0 })]).is_some());
-    }
-
-    /// Run by `compare/run test`, once for each slip in the copy.
-    #[test]
-    #[ignore = "there is no slip unless compare/run test puts one in"]
-    fn slip_is_caught() {
-        let mut sources = sources(20_000);
-        sources.push(Box::new(LongRuns));
-        let caught = first_failing(Fault::None, &sources);
-        println!("caught by {caught:?}");
-        assert!(caught.is_some());
     }
 }

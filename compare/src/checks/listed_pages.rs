@@ -69,7 +69,8 @@ mod tests {
     use super::ListedPages;
     use crate::check;
     use crate::listed::{LISTS, List};
-    use crate::standin::{Fault, Standin};
+    use crate::standin::Standin;
+    use crate::standin::fault::Fault;
     use crate::tally::Tally;
 
     fn tally(pages: &ListedPages, fault: Fault) -> Tally {

@@ -1,6 +1,6 @@
 //! The stand-in's row form: it gives the rows of an outcome, one a call.
 
-use super::Fault;
+use super::fault::Fault;
 use crate::by_row::{AT, END, ENTRIES, EOLS, HELD, PLACE, Page, ROWS, RowForm, SIDE, STATE};
 use crate::call::Answer;
 use crate::truth::{LIMIT, Outcome, ascends_below};

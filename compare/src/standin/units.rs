@@ -1,6 +1,6 @@
 //! The stand-in's unit form: what a page leaves in the store is handed out in as many parts as the page has units.
 
-use super::Fault;
+use super::fault::Fault;
 use crate::by_unit::{
     AT, BLACK, BLANK, BYTES, CUT, END, ENTRIES, EOLS, LOOSE, MODE_AT, PHASE, PLACE, POSITION, Page, ROWS, RUN, RUN_AT, STATE, Store, Turn,
     UnitForm,

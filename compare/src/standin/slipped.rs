@@ -1,0 +1,73 @@
+//! What the copy of the crate gives into which a slip goes.
+
+use crate::call::Ask;
+use crate::settings::{Encoding, Settings};
+use crate::truth::{Idle, Outcome};
+use hayro_ccitt_slipped as theirs;
+
+fn settings_of(s: &Settings) -> theirs::DecodeSettings {
+    theirs::DecodeSettings {
+        columns: s.columns,
+        rows: s.rows,
+        end_of_block: s.end_of_block,
+        end_of_line: s.end_of_line,
+        rows_are_byte_aligned: s.aligned,
+        encoding: match s.encoding {
+            Encoding::Group4 => theirs::EncodingMode::Group4,
+            Encoding::Group3OneD => theirs::EncodingMode::Group3_1D,
+            Encoding::Group3TwoD => theirs::EncodingMode::Group3_2D,
+        },
+        strict: s.strict,
+    }
+}
+
+#[derive(Default)]
+struct Sink {
+    changes: Vec<u32>,
+    ends: Vec<u32>,
+}
+
+impl theirs::Decoder for Sink {
+    fn push_row(&mut self, changes: &[u32]) {
+        self.changes.extend_from_slice(changes);
+        self.ends.push(self.changes.len() as u32);
+    }
+}
+
+fn number_of(error: theirs::DecodeError) -> u32 {
+    match error {
+        theirs::DecodeError::InvalidCode => 1,
+        theirs::DecodeError::UnexpectedEof => 2,
+        theirs::DecodeError::Overflow => 3,
+    }
+}
+
+/// A whole page.
+pub fn page(settings: &Settings, src: &[u8]) -> Outcome {
+    let mut sink = Sink::default();
+    let mut context = theirs::DecoderContext::new(settings_of(settings));
+    theirs::place::take_units();
+    let result = theirs::decode(src, &mut sink, &mut context);
+    let (number, place, bytes) =
+        result.map_or_else(|error| (number_of(error), theirs::place::last() as u64, 0), |bytes| (0, 0, bytes as u64));
+    if number != 0 {
+        sink.changes.extend_from_slice(context.unfinished());
+    }
+    let idle = context.idle().map(Idle::of_open_crate);
+    let units = theirs::place::take_units();
+    Outcome { number, place, bytes, changes: sink.changes, ends: sink.ends, marks: context.marks().to_vec(), idle, units }
+}
+
+/// One line.
+pub fn line(ask: &Ask) -> Outcome {
+    let mut context = theirs::DecoderContext::new(settings_of(&ask.settings));
+    let result = context.read_line(&ask.src, ask.at as usize, &ask.first);
+    let changes = context.unfinished().to_vec();
+    match result {
+        Ok(bit) => {
+            let (ends, marks) = (vec![changes.len() as u32], vec![context.mark()]);
+            Outcome { bytes: bit as u64, changes, ends, marks, ..Outcome::bare(0, 0) }
+        }
+        Err(error) => Outcome { changes, ..Outcome::bare(number_of(error), theirs::place::last() as u64) },
+    }
+}
