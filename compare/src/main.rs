@@ -16,6 +16,8 @@ mod checks;
 mod codes;
 mod damage;
 mod encoder;
+#[cfg(test)]
+mod faults;
 mod group3;
 mod heads;
 mod huge;

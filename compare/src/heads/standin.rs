@@ -3,64 +3,14 @@
 use super::ask::{Ask, HeadsAnswer};
 use super::plain::{Edges, rows_of};
 use super::{Reader, run};
+use crate::faults::faults;
 
-#[derive(Clone, Copy, Debug, PartialEq, Eq)]
-enum Fault {
-    None,
-    StartsBlack,
-    RightIncluded,
-    BottomIncluded,
-    BlackOutside,
-    NotCutLeft,
-    AboveTheMark,
-    DigitsSwapped,
-    UnitsBoxFirst,
-    FirstTickTaken,
-    CutIsClean,
-    EmptyBoxTouches,
-    BoxOutsideTouches,
-    TwelveBeforeThirteen,
-    ThirteenBeforeEleven,
-    ElevenBeforeEight,
-    AnyRow,
-    AnyMark,
-    EqualEdgesRefused,
-    OnlyFirstPair,
-    MarkOfZero,
-    QuotaShort,
-    QuotaFar,
-    NothingBelowZero,
-    EightyOne,
-    LeftAfterARefusal,
+faults! {
+    StartsBlack, RightIncluded, BottomIncluded, BlackOutside, NotCutLeft, AboveTheMark, DigitsSwapped,
+    UnitsBoxFirst, FirstTickTaken, CutIsClean, EmptyBoxTouches, BoxOutsideTouches, TwelveBeforeThirteen,
+    ThirteenBeforeEleven, ElevenBeforeEight, AnyRow, AnyMark, EqualEdgesRefused, OnlyFirstPair, MarkOfZero,
+    QuotaShort, QuotaFar, NothingBelowZero, EightyOne, LeftAfterARefusal,
 }
-
-const FAULTS: [Fault; 25] = [
-    Fault::StartsBlack,
-    Fault::RightIncluded,
-    Fault::BottomIncluded,
-    Fault::BlackOutside,
-    Fault::NotCutLeft,
-    Fault::AboveTheMark,
-    Fault::DigitsSwapped,
-    Fault::UnitsBoxFirst,
-    Fault::FirstTickTaken,
-    Fault::CutIsClean,
-    Fault::EmptyBoxTouches,
-    Fault::BoxOutsideTouches,
-    Fault::TwelveBeforeThirteen,
-    Fault::ThirteenBeforeEleven,
-    Fault::ElevenBeforeEight,
-    Fault::AnyRow,
-    Fault::AnyMark,
-    Fault::EqualEdgesRefused,
-    Fault::OnlyFirstPair,
-    Fault::MarkOfZero,
-    Fault::QuotaShort,
-    Fault::QuotaFar,
-    Fault::NothingBelowZero,
-    Fault::EightyOne,
-    Fault::LeftAfterARefusal,
-];
 
 struct Standin(Fault);
 
@@ -191,7 +141,7 @@ fn the_plain_reader_passes() {
 
 #[test]
 fn every_fault_in_heads_is_caught() {
-    for fault in FAULTS {
+    for &fault in FAULTS {
         assert!(!run(&Standin(fault), 7, 40_000).passed(), "{fault:?} is not caught");
     }
 }

@@ -6,74 +6,17 @@ use crate::call::{Answer, Ask, Layout, Room};
 use crate::checks::writers::encoded;
 use crate::codes::LONGEST;
 use crate::encoder::put_line_2d;
+use crate::faults::faults;
 use crate::group3;
 use crate::settings::Settings;
 use crate::truth::{Outcome, Wanted, ascends_below};
 
-/// What goes wrong.
-#[derive(Clone, Copy, Debug, PartialEq, Eq)]
-enum Fault {
-    None,
-    FirstRowLost,
-    LastRowTwice,
-    RowsOfAnErrorLost,
-    HeldAlone,
-    SecondUse,
-    UnfinishedRowPushed,
-    Bytes,
-    Error,
-    LimitIsDone,
-    Mark,
-    Place,
-    UnfinishedLost,
-    PlainPlace,
-    LentRow,
-    UnitMissed,
-    GrownRowLost,
-    ExactUnasked,
-    ShortIsDone,
-    EndOfALine,
-    LineCut,
-    WrittenBehind,
-    WrittenBit,
-    NotARowTaken,
-    LayoutTaken,
-    NoRowsTaken,
-    FillLost,
-    EolsUnasked,
-    NextOneD,
+faults! {
+    FirstRowLost, LastRowTwice, RowsOfAnErrorLost, HeldAlone, SecondUse, UnfinishedRowPushed, Bytes, Error,
+    LimitIsDone, Mark, Place, UnfinishedLost, PlainPlace, LentRow, UnitMissed, GrownRowLost, ExactUnasked,
+    ShortIsDone, EndOfALine, LineCut, WrittenBehind, WrittenBit, NotARowTaken, LayoutTaken, NoRowsTaken, FillLost,
+    EolsUnasked, NextOneD,
 }
-
-const FAULTS: [Fault; 28] = [
-    Fault::FirstRowLost,
-    Fault::LastRowTwice,
-    Fault::RowsOfAnErrorLost,
-    Fault::HeldAlone,
-    Fault::SecondUse,
-    Fault::UnfinishedRowPushed,
-    Fault::Bytes,
-    Fault::Error,
-    Fault::LimitIsDone,
-    Fault::Mark,
-    Fault::Place,
-    Fault::UnfinishedLost,
-    Fault::PlainPlace,
-    Fault::LentRow,
-    Fault::UnitMissed,
-    Fault::GrownRowLost,
-    Fault::ExactUnasked,
-    Fault::ShortIsDone,
-    Fault::EndOfALine,
-    Fault::LineCut,
-    Fault::WrittenBehind,
-    Fault::WrittenBit,
-    Fault::NotARowTaken,
-    Fault::LayoutTaken,
-    Fault::NoRowsTaken,
-    Fault::FillLost,
-    Fault::EolsUnasked,
-    Fault::NextOneD,
-];
 
 struct Standin(Fault);
 
@@ -280,7 +223,7 @@ mod tests {
 
     #[test]
     fn every_fault_is_caught() {
-        for fault in FAULTS {
+        for &fault in FAULTS {
             assert!(differing(fault, 300) > 0, "{fault:?} is not caught");
         }
     }

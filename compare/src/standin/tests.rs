@@ -52,7 +52,7 @@ fn the_crate_passes() {
 
 #[test]
 fn every_fault_is_caught() {
-    for fault in FAULTS {
+    for &fault in FAULTS {
         assert!(first_failing(fault, &sources(500)).is_some(), "{fault:?} is not caught");
     }
 }
