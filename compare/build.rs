@@ -1,26 +1,7 @@
-//! Says where the libraries are that are linked in.
-
-fn main() {
-    println!("cargo:rerun-if-env-changed=COMPARE_LIBRARY");
-    if std::env::var_os("CARGO_FEATURE_LINKED").is_none() {
-        return;
-    }
-    link_library();
-    link_libtiff();
-}
-
-fn link_library() {
-    if std::env::var_os("CARGO_FEATURE_PACKAGE").is_some() {
-        return;
-    }
-    let folder = std::env::var("COMPARE_LIBRARY").expect("COMPARE_LIBRARY names the folder of libexports.a");
-    println!("cargo:rerun-if-changed={folder}/libexports.a");
-    println!("cargo:rustc-link-search=native={folder}");
-    println!("cargo:rustc-link-lib=static=exports");
-}
+//! Says where libtiff's writer is, which is linked in for the bench. The library comes with the package over it.
 
 /// libtiff stands behind libtiff.c: a linker may leave out a library that nothing before it asks for.
-fn link_libtiff() {
+fn main() {
     println!("cargo:rerun-if-env-changed=COMPARE_LIBTIFF");
     if std::env::var_os("CARGO_FEATURE_LIBTIFF").is_none() {
         return;

@@ -26,15 +26,10 @@ struct Answer ccitt_decode_group3_2d(const u8 *src, u64 src_len, u32 columns, u3
     u32 *changes, u64 changes_len, u64 *ends, u64 ends_len, u8 *marks, u64 marks_len);
 struct Answer ccitt_read_line(const u8 *src, u64 src_len, u64 at, u32 columns, _Bool strict,
     const u32 *reference, u64 reference_len, u32 *changes, u64 changes_len);
-#ifdef WRITERS
 struct Answer ccitt_write_line(u32 columns, const u32 *reference, u64 reference_len, const u32 *row, u64 row_len, u8 *out, u64 out_len, u64 at);
 struct Answer ccitt_write_page(u32 columns, const u32 *changes, u64 changes_len, const u64 *ends, u64 ends_len, u8 *out, u64 out_len);
 struct Answer ccitt_write_group3_1d(u32 columns, const u32 *changes, u64 changes_len, const u64 *ends, u64 ends_len, _Bool eols, u32 fill, u8 *out, u64 out_len);
 struct Answer ccitt_write_group3_2d(u32 columns, const u32 *changes, u64 changes_len, const u64 *ends, u64 ends_len, u32 k, u8 *out, u64 out_len);
-#define HAS_WRITERS 1
-#else
-#define HAS_WRITERS 0
-#endif
 
 enum { MARGIN = 2, BYTE_MARGIN = 8 };
 
@@ -128,7 +123,6 @@ static struct Answer do_read(const struct Call *c, const u8 *src, const u32 *fir
 }
 
 static struct Answer write_to(const struct Call *c, const u32 *first, const u32 *second, u8 *out, u64 out_len) {
-#ifdef WRITERS
     if (c->form == 4) return ccitt_write_line(c->columns, first, c->first_len, second, c->second_len, out, out_len, c->at);
     u64 *ends = memory(8ul * c->second_len);
     for (u64 i = 0; i < c->second_len; i++) ends[i] = second[i];
@@ -140,10 +134,6 @@ static struct Answer write_to(const struct Call *c, const u32 *first, const u32 
     }
     free(ends);
     return answer;
-#else
-    (void)c, (void)first, (void)second, (void)out, (void)out_len;
-    return (struct Answer){ ~0u, 0, 0, 0, 0, 0, 0 };
-#endif
 }
 
 // A writer's call. A write into the tail shows as one into the margin.
@@ -179,8 +169,8 @@ static void one(const u8 **from, u8 **to) {
 }
 
 int main(void) {
-    u32 hello[2] = { 0x34544343, HAS_WRITERS };
-    write_all(hello, sizeof hello);
+    u32 hello = 0x34544343;
+    write_all(&hello, sizeof hello);
     for (;;) {
         struct Batch batch;
         read_all(&batch, sizeof batch);

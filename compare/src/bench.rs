@@ -4,38 +4,21 @@
 
 use std::io;
 
-#[cfg(all(feature = "linked", feature = "writers"))]
 mod canvas;
-#[cfg(all(feature = "linked", feature = "writers"))]
 mod drawn;
-#[cfg(feature = "linked")]
 mod fill;
-#[cfg(feature = "linked")]
 mod page;
-#[cfg(all(feature = "linked", feature = "writers"))]
 mod plain_writer;
-#[cfg(feature = "linked")]
 mod readers;
-#[cfg(all(feature = "linked", feature = "writers"))]
 mod set;
-#[cfg(feature = "linked")]
 mod timing;
-#[cfg(all(feature = "linked", feature = "writers"))]
 mod writers;
 
-#[cfg(not(feature = "linked"))]
-pub fn run() -> io::Result<bool> {
-    println!("bench: the library runs under an emulator here, and a time there says nothing; run it on x86-64");
-    Ok(true)
-}
-
-#[cfg(feature = "linked")]
 pub fn run() -> io::Result<bool> {
     let mut pages = crate::checks::other_decoder::texts().ok_or_else(|| io::Error::other("bench: the pages are not at hand"))?;
     // a page by two decoders is one page
     pages.dedup_by(|a, b| a.src == b.src);
     readers::run(&pages);
-    #[cfg(feature = "writers")]
     writers::run(&pages);
     Ok(true)
 }

@@ -37,7 +37,7 @@ fn work(source: &dyn Source, seed: u64, ours: &mut dyn Ours, next: &AtomicU64) -
         }
         let cases: Vec<Case> = (start..end).map(|index| source.case(index, &mut Random::of(seed, &name, index))).collect();
         compare(ours, start, &cases, &mut tally);
-        #[cfg(feature = "package")]
+        #[cfg(feature = "linked")]
         crate::package::compare(&mut crate::package::called::Called, source, seed, start, &cases, &mut tally);
     }
 }

@@ -3,9 +3,7 @@
 
 use crate::by_row::{self, Page, RowForm, Store};
 use crate::by_unit::{self, Turn, UnitForm};
-#[cfg(feature = "writers")]
-use crate::call::Layout;
-use crate::call::{Answer, BYTE_MARGIN, Call, Form, MARGIN, Replies, Room, Steps, with_zeros};
+use crate::call::{Answer, BYTE_MARGIN, Call, Form, Layout, MARGIN, Replies, Room, Steps, with_zeros};
 use crate::ours::Ours;
 use crate::settings::{Encoding, Settings};
 use repeated::Repeated;
@@ -32,16 +30,12 @@ unsafe extern "C" {
         strict: bool, exact: bool, plain: bool, state: *mut u64, state_len: usize, first: *mut u32, first_len: usize, second: *mut u32, second_len: usize) -> *mut Answer;
     fn ccitt_read_units(turn: *mut Turn, src: *const u8, src_len: usize, columns: u32, rows: u32, end_of_block: bool, rows_are_byte_aligned: bool, strict: bool, exact: bool, plain: bool,
         changes: *mut u32, changes_len: usize, ends: *mut u64, ends_len: usize, marks: *mut u8, marks_len: usize, state: *mut u64, state_len: usize, n: u64) -> *mut Turn;
-    #[cfg(feature = "writers")]
     fn ccitt_write_line(answer: *mut Answer, columns: u32, reference: *const u32, reference_len: usize, row: *const u32, row_len: usize,
         out: *mut u8, out_len: usize, at: u64) -> *mut Answer;
-    #[cfg(feature = "writers")]
     fn ccitt_write_page(answer: *mut Answer, columns: u32, changes: *const u32, changes_len: usize, ends: *const u64, ends_len: usize,
         out: *mut u8, out_len: usize) -> *mut Answer;
-    #[cfg(feature = "writers")]
     fn ccitt_write_group3_1d(answer: *mut Answer, columns: u32, changes: *const u32, changes_len: usize, ends: *const u64, ends_len: usize,
         eols: bool, fill: u32, out: *mut u8, out_len: usize) -> *mut Answer;
-    #[cfg(feature = "writers")]
     fn ccitt_write_group3_2d(answer: *mut Answer, columns: u32, changes: *const u32, changes_len: usize, ends: *const u64, ends_len: usize,
         k: u32, out: *mut u8, out_len: usize) -> *mut Answer;
 }
@@ -58,10 +52,6 @@ impl Ours for Linked {
             let thread = std::thread::Builder::new().stack_size(STACK).spawn_scoped(scope, || answer_all(calls))?;
             thread.join().map_err(|_| io::Error::other("a call ended in a panic"))
         })
-    }
-
-    fn writes(&self) -> bool {
-        cfg!(feature = "writers")
     }
 }
 
@@ -215,7 +205,6 @@ fn write(call: &Call, bytes: &mut [u8]) -> Answer {
     answer
 }
 
-#[cfg(feature = "writers")]
 #[rustfmt::skip]
 fn write_to(call: &Call, out: &mut [u8]) -> Answer {
     let ask = call.ask;
@@ -235,7 +224,6 @@ fn write_to(call: &Call, out: &mut [u8]) -> Answer {
 }
 
 /// The page writer.
-#[cfg(feature = "writers")]
 #[rustfmt::skip]
 pub fn write_page(columns: u32, changes: &[u32], ends: &[u64], out: &mut [u8]) -> Answer {
     let mut answer = Answer::default();
@@ -247,7 +235,6 @@ pub fn write_page(columns: u32, changes: &[u32], ends: &[u64], out: &mut [u8]) -
 }
 
 /// The Group 3 writers.
-#[cfg(feature = "writers")]
 #[rustfmt::skip]
 pub fn write_group3(layout: Layout, columns: u32, changes: &[u32], ends: &[u64], out: &mut [u8]) -> Answer {
     let mut answer = Answer::default();
@@ -261,9 +248,4 @@ pub fn write_group3(layout: Layout, columns: u32, changes: &[u32], ends: &[u64],
         }
     };
     answer
-}
-
-#[cfg(not(feature = "writers"))]
-fn write_to(_: &Call, _: &mut [u8]) -> Answer {
-    Answer::bare(u32::MAX)
 }

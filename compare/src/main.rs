@@ -3,6 +3,7 @@
 #![deny(unsafe_code)]
 
 mod arguments;
+#[cfg(feature = "linked")]
 mod bench;
 mod bits;
 #[cfg(any(feature = "linked", test))]
@@ -20,12 +21,13 @@ mod encoder;
 mod faults;
 mod group3;
 mod heads;
+#[cfg(feature = "linked")]
 mod huge;
 #[cfg(feature = "linked")]
 mod linked;
 mod listed;
 mod ours;
-#[cfg(any(feature = "package", test))]
+#[cfg(any(feature = "linked", test))]
 mod package;
 mod pages;
 #[cfg(not(feature = "linked"))]
@@ -65,8 +67,15 @@ fn main() -> ExitCode {
     };
     let done = match &arguments.mode {
         Mode::Compare => compare(&arguments),
+        #[cfg(feature = "linked")]
         Mode::Bench => bench::run(),
+        #[cfg(feature = "linked")]
         Mode::Huge => huge::run(),
+        #[cfg(not(feature = "linked"))]
+        Mode::Bench | Mode::Huge => {
+            println!("only for a library that is linked in: under an emulator a time says nothing, and what is huge takes hours");
+            Ok(true)
+        }
         Mode::Sample(folder) => sample::write(folder, arguments.seed).map(|()| true),
         Mode::Pages(folder) => listed::write(folder).map(|()| true),
     };
@@ -83,7 +92,7 @@ fn main() -> ExitCode {
 /// Runs every check. True if all passed.
 fn compare(arguments: &Arguments) -> io::Result<bool> {
     println!("seed {}", arguments.seed);
-    if cfg!(not(feature = "package")) {
+    if cfg!(not(feature = "linked")) {
         println!("the Rust package: skipped, the library is not linked in");
     }
     let workers = std::thread::available_parallelism().map_or(1, usize::from);
@@ -93,7 +102,7 @@ fn compare(arguments: &Arguments) -> io::Result<bool> {
         *(if tally.passed() { &mut passed } else { &mut failed }) += 1;
         all.add(tally);
     };
-    let mut sources = sources(arguments.more, ours[0].writes());
+    let mut sources = sources(arguments.more);
     sources.retain(|source| source.name().contains(&arguments.only));
     for source in sources {
         count(run_one(source.as_ref(), arguments.seed, &mut ours));
@@ -120,14 +129,10 @@ fn run_one(source: &dyn Source, seed: u64, ours: &mut [Box<dyn Ours>]) -> Tally 
     told(&source.name(), began, check::run(source, seed, ours))
 }
 
-/// The heads on the form, where the library is linked in, and where the package is.
+/// The heads on the form, by the library and by the package, where they are linked in.
 #[cfg(feature = "linked")]
 fn run_heads(arguments: &Arguments) -> Vec<Tally> {
-    let readers: &[&dyn heads::Reader] = &[
-        &linked::heads::LinkedHeads,
-        #[cfg(feature = "package")]
-        &package::heads::PackageHeads,
-    ];
+    let readers: [&dyn heads::Reader; 2] = [&linked::heads::LinkedHeads, &package::heads::PackageHeads];
     let asked = readers.iter().filter(|reader| reader.name().contains(&arguments.only));
     asked.map(|reader| told(reader.name(), Instant::now(), heads::run(*reader, arguments.seed, 300_000 * arguments.more))).collect()
 }
@@ -149,7 +154,7 @@ fn told(name: &str, began: Instant, tally: Tally) -> Tally {
 }
 
 /// The checks, in the order in which they are run.
-fn sources(more: u64, writes: bool) -> Vec<Box<dyn Source>> {
+fn sources(more: u64) -> Vec<Box<dyn Source>> {
     let random = |kind, count| RandomPages { kind, count: count * more };
     let mut list: Vec<Box<dyn Source>> = vec![
         Box::new(Sheets),
@@ -173,11 +178,7 @@ fn sources(more: u64, writes: bool) -> Vec<Box<dyn Source>> {
         Some(texts) => list.push(Box::new(OtherDecoder(texts))),
         None => println!("pages of text by other decoders: skipped, the pages are not at hand"),
     }
-    if writes {
-        list.extend(writer_sources(more));
-    } else {
-        println!("the writers: skipped, the library has none");
-    }
+    list.extend(writer_sources(more));
     list
 }
 

@@ -7,7 +7,4 @@ use std::io;
 pub trait Ours: Send {
     /// Answers every call, in order, each with arrays of its own.
     fn answer(&mut self, calls: &[Call]) -> io::Result<Replies>;
-
-    /// Whether it has the writers.
-    fn writes(&self) -> bool;
 }

@@ -1,9 +1,9 @@
 //! The Rust package over the library (`rust/`), called as its users call it, on the inputs of every check. What it hands over is held to what the
 //! crate gave for them: through the crate's own interface rows by callback, byte count and error, and through `beyond` marks, places and the rest.
 
-#[cfg(feature = "package")]
+#[cfg(feature = "linked")]
 pub mod called;
-#[cfg(feature = "package")]
+#[cfg(feature = "linked")]
 pub mod heads;
 #[cfg(test)]
 mod standin;

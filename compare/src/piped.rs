@@ -7,14 +7,13 @@ use crate::settings::Encoding;
 use std::io::{self, Read, Write};
 use std::process::{Child, ChildStdin, ChildStdout, Command, Stdio};
 
-/// The first word that the driver writes; the second is 1 where it has the writers.
+/// The word that the driver greets with.
 const HELLO: u32 = 0x3454_4343;
 
 pub struct Piped {
     child: Child,
     to: ChildStdin,
     from: ChildStdout,
-    writes: bool,
 }
 
 impl Piped {
@@ -25,12 +24,12 @@ impl Piped {
         let mut child = Command::new(command).stdin(Stdio::piped()).stdout(Stdio::piped()).spawn()?;
         let to = child.stdin.take().expect("it is piped");
         let mut from = child.stdout.take().expect("it is piped");
-        let mut hello = [0; 8];
+        let mut hello = [0; 4];
         from.read_exact(&mut hello)?;
         if word(&hello, 0) != HELLO {
             return Err(io::Error::other("the driver does not greet as it should"));
         }
-        Ok(Piped { child, to, from, writes: word(&hello, 4) == 1 })
+        Ok(Piped { child, to, from })
     }
 }
 
@@ -42,10 +41,6 @@ impl Ours for Piped {
             *self = Piped::start()?;
         }
         replies
-    }
-
-    fn writes(&self) -> bool {
-        self.writes
     }
 }
 

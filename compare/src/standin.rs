@@ -40,10 +40,6 @@ impl Ours for Standin {
         }
         Ok(replies)
     }
-
-    fn writes(&self) -> bool {
-        true
-    }
 }
 
 impl Standin {

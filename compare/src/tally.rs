@@ -19,7 +19,7 @@ impl Tally {
 
     /// What was asked.
     pub fn asked(&self) -> String {
-        let by_package = if cfg!(feature = "package") { format!(", {} of them by the package", self.by_package) } else { String::new() };
+        let by_package = if cfg!(feature = "linked") { format!(", {} of them by the package", self.by_package) } else { String::new() };
         format!("{} inputs, {} calls{by_package}", self.inputs, self.calls)
     }
 

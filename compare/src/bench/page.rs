@@ -21,7 +21,6 @@ impl Page {
         Page { settings, src, number: outcome.number, rows: outcome.ends.len(), entries: outcome.changes.len() }
     }
 
-    #[cfg(feature = "writers")]
     pub fn is_whole(&self, rows: usize) -> bool {
         self.number == 0 && self.rows == rows
     }

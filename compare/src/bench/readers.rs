@@ -4,7 +4,6 @@
 use super::fill;
 use super::page::{Named, Page};
 use super::timing::{RUNS, report};
-#[cfg(feature = "writers")]
 use super::{
     drawn::{self, Drawn},
     set,
@@ -60,7 +59,6 @@ impl hayro_ccitt::Decoder for Sink<'_> {
     }
 }
 
-#[cfg(feature = "package")]
 impl drop_in::Decoder for Sink<'_> {
     fn push_row(&mut self, changes: &[u32]) {
         self.push(changes);
@@ -70,7 +68,6 @@ impl drop_in::Decoder for Sink<'_> {
 pub fn run(texts: &[Text]) {
     let mut store = Store { changes: vec![0; CHANGES], ends: vec![0; ENDS], marks: vec![0; ENDS] };
     println!("median of {RUNS} runs, release builds, arrays cleared before each; the crate's sink copies rows into one array");
-    #[cfg(feature = "writers")]
     run_set(&mut store);
     println!("pages of rendered text");
     let pages: Vec<Named> = texts.iter().map(|text| (text.name.clone(), Page::of(text.settings, text.src.clone()))).collect();
@@ -78,12 +75,9 @@ pub fn run(texts: &[Text]) {
     for (name, some) in &sets {
         compare(name, some, &mut store);
     }
-    #[cfg(feature = "package")]
-    {
-        println!("the Rust package by callbacks against the crate by callbacks, likewise, with a new context for each page");
-        for (name, some) in &sets {
-            compare_packages(&format!("{name}, by callbacks"), some, &mut store);
-        }
+    println!("the Rust package by callbacks against the crate by callbacks, likewise, with a new context for each page");
+    for (name, some) in &sets {
+        compare_packages(&format!("{name}, by callbacks"), some, &mut store);
     }
     println!("the plain engine against the lookup, likewise");
     for (name, some) in &sets {
@@ -105,7 +99,6 @@ pub fn run(texts: &[Text]) {
 }
 
 /// The set of 02's A8: each page, each encoding, all of them; then what is beside it.
-#[cfg(feature = "writers")]
 fn run_set(store: &mut Store) {
     let drawn = drawn::pages();
     let in_both = |drawn: &[Drawn], strict: bool| -> Vec<Named> {
@@ -152,14 +145,12 @@ fn compare(name: &str, pages: &[&Page], store: &mut Store) {
 }
 
 /// The package against the crate: one program, and another line of Cargo.toml.
-#[cfg(feature = "package")]
 fn compare_packages(name: &str, pages: &[&Page], store: &mut Store) {
     let ours = |store: &mut Store| pages.iter().map(|page| time_package(page, store)).sum();
     let theirs = |store: &mut Store| pages.iter().map(|page| time_crate(page, store)).sum();
     report(name, store, ours, "the crate", theirs);
 }
 
-#[cfg(feature = "package")]
 fn time_package(page: &Page, store: &mut Store) -> Duration {
     let mut sink = Sink { store: store.cleared(page), entries: 0, rows: 0 };
     let mut context = drop_in::DecoderContext::new(crate::package::called::settings(&page.settings));
