@@ -210,8 +210,8 @@ fn write_to(call: &Call, out: &mut [u8]) -> Answer {
     let ask = call.ask;
     let ends = || -> Vec<u64> { ask.second.iter().copied().map(u64::from).collect() };
     match ask.form {
-        Form::WritePage => return write_page(ask.settings.columns, &ask.first, &ends(), out),
-        Form::WriteGroup3(layout) => return write_group3(layout, ask.settings.columns, &ask.first, &ends(), out),
+        Form::WritePage => return write_page(None, ask.settings.columns, &ask.first, &ends(), out),
+        Form::WriteGroup3(layout) => return write_page(Some(layout), ask.settings.columns, &ask.first, &ends(), out),
         _ => {}
     }
     let mut answer = Answer::default();
@@ -223,27 +223,17 @@ fn write_to(call: &Call, out: &mut [u8]) -> Answer {
     answer
 }
 
-/// The page writer.
+/// The page writers: of Group 4, and of Group 3 in some layout.
 #[rustfmt::skip]
-pub fn write_page(columns: u32, changes: &[u32], ends: &[u64], out: &mut [u8]) -> Answer {
-    let mut answer = Answer::default();
-    // SAFETY: each pointer stands with the length of its slice, and the answer is apart.
-    unsafe {
-        ccitt_write_page(&mut answer, columns, changes.as_ptr(), changes.len(), ends.as_ptr(), ends.len(), out.as_mut_ptr(), out.len())
-    };
-    answer
-}
-
-/// The Group 3 writers.
-#[rustfmt::skip]
-pub fn write_group3(layout: Layout, columns: u32, changes: &[u32], ends: &[u64], out: &mut [u8]) -> Answer {
+pub fn write_page(layout: Option<Layout>, columns: u32, changes: &[u32], ends: &[u64], out: &mut [u8]) -> Answer {
     let mut answer = Answer::default();
     // SAFETY: each pointer stands with the length of its slice, and the answer is apart.
     unsafe {
         match layout {
-            Layout::OneD { eols, fill } => ccitt_write_group3_1d(&mut answer, columns, changes.as_ptr(), changes.len(), ends.as_ptr(), ends.len(),
+            None => ccitt_write_page(&mut answer, columns, changes.as_ptr(), changes.len(), ends.as_ptr(), ends.len(), out.as_mut_ptr(), out.len()),
+            Some(Layout::OneD { eols, fill }) => ccitt_write_group3_1d(&mut answer, columns, changes.as_ptr(), changes.len(), ends.as_ptr(), ends.len(),
                 eols, fill, out.as_mut_ptr(), out.len()),
-            Layout::TwoD { k } => ccitt_write_group3_2d(&mut answer, columns, changes.as_ptr(), changes.len(), ends.as_ptr(), ends.len(),
+            Some(Layout::TwoD { k }) => ccitt_write_group3_2d(&mut answer, columns, changes.as_ptr(), changes.len(), ends.as_ptr(), ends.len(),
                 k, out.as_mut_ptr(), out.len()),
         }
     };

@@ -28,11 +28,12 @@ fn page(rows: &[Vec<u32>], encoding: Encoding, strict: bool) -> Page {
         })
         .collect();
     let mut out = vec![0; ROOM];
-    let answer = match encoding {
-        Encoding::Group4 => linked::write_page(columns, &changes, &ends, &mut out),
-        Encoding::Group3OneD => linked::write_group3(Layout::OneD { eols: true, fill: 0 }, columns, &changes, &ends, &mut out),
-        Encoding::Group3TwoD => linked::write_group3(Layout::TwoD { k: K }, columns, &changes, &ends, &mut out),
+    let layout = match encoding {
+        Encoding::Group4 => None,
+        Encoding::Group3OneD => Some(Layout::OneD { eols: true, fill: 0 }),
+        Encoding::Group3TwoD => Some(Layout::TwoD { k: K }),
     };
+    let answer = linked::write_page(layout, columns, &changes, &ends, &mut out);
     assert_eq!(answer.number, 0, "the page is written");
     out.truncate(answer.bytes as usize);
     let settings =

@@ -2,51 +2,25 @@
 
 use super::plain_writer::{self, Codes};
 use super::timing::report;
-use crate::call::{Answer, Layout};
+use crate::call::Layout;
 use crate::checks::other_decoder::Text;
 use crate::linked;
 #[cfg(feature = "libtiff")]
-use crate::linked::libtiff;
+use crate::linked::libtiff::{self, Scheme};
 #[cfg(feature = "libtiff")]
 use crate::pixels::packed;
 use crate::settings::{Encoding, Settings};
 use crate::truth::Outcome;
 use std::time::{Duration, Instant};
 
-/// What is written.
-#[derive(Clone, Copy)]
-enum Kind {
-    Group4,
-    /// With EOLs, and no fill, or with K = 2, as libtiff writes it. It leaves out the EOLs at the end.
-    Group3(Layout),
-}
-
-impl Kind {
-    fn ours(self, columns: u32, changes: &[u32], ends: &[u64], out: &mut [u8]) -> Answer {
-        match self {
-            Kind::Group4 => linked::write_page(columns, changes, ends, out),
-            Kind::Group3(layout) => linked::write_group3(layout, columns, changes, ends, out),
-        }
-    }
-
-    #[cfg(feature = "libtiff")]
-    fn scheme(self) -> libtiff::Scheme {
-        match self {
-            Kind::Group4 => libtiff::Scheme::Group4,
-            Kind::Group3(Layout::OneD { .. }) => libtiff::Scheme::Group3OneD,
-            Kind::Group3(Layout::TwoD { .. }) => libtiff::Scheme::Group3TwoD,
-        }
-    }
-
-    /// How the page of so many rows is read back, with its end or without.
-    fn settings(self, columns: u32, rows: u32, end_of_block: bool) -> Settings {
-        let encoding = match self {
-            Kind::Group4 => Encoding::Group4,
-            Kind::Group3(Layout::OneD { .. }) => Encoding::Group3OneD,
-            Kind::Group3(Layout::TwoD { .. }) => Encoding::Group3TwoD,
-        };
-        Settings { encoding, columns, rows, end_of_block, end_of_line: encoding != Encoding::Group4, aligned: false, strict: true }
-    }
+/// How a page of so many rows is read back, with its end or without: of Group 4, or of Group 3 with EOLs.
+fn settings(layout: Option<Layout>, columns: u32, rows: u32, end_of_block: bool) -> Settings {
+    let encoding = match layout {
+        None => Encoding::Group4,
+        Some(Layout::OneD { .. }) => Encoding::Group3OneD,
+        Some(Layout::TwoD { .. }) => Encoding::Group3TwoD,
+    };
+    Settings { encoding, columns, rows, end_of_block, end_of_line: layout.is_some(), aligned: false, strict: true }
 }
 
 /// A page as each writer takes it: changes and row ends, and packed rows.
@@ -76,8 +50,8 @@ impl Page {
     }
 
     /// Whether a strip holds the page's rows: otherwise the two writers did not do the same work.
-    fn is_read_from(&self, kind: Kind, strip: &[u8], end_of_block: bool) -> bool {
-        let read = Outcome::of_page(&kind.settings(self.columns, self.ends.len() as u32, end_of_block), strip, 0);
+    fn is_read_from(&self, layout: Option<Layout>, strip: &[u8], end_of_block: bool) -> bool {
+        let read = Outcome::of_page(&settings(layout, self.columns, self.ends.len() as u32, end_of_block), strip, 0);
         read.number == 0 && read.changes == self.rows.changes && read.ends == self.rows.ends
     }
 }
@@ -98,9 +72,9 @@ fn against_plain(pages: &[Page], out: &mut Vec<u8>) {
     let sizes: Vec<usize> = pages.iter().map(|page| plainly(&codes, page).len()).collect();
     println!("writing, likewise, against a plain writer, which tests nothing");
     let theirs = |_: &mut Vec<u8>| pages.iter().map(|page| time_plain(&codes, page)).sum();
-    let roomy = |out: &mut Vec<u8>| pages.iter().map(|page| time_ours(page, Kind::Group4, &mut out[..page.bitmap()])).sum();
+    let roomy = |out: &mut Vec<u8>| pages.iter().map(|page| time_ours(page, None, &mut out[..page.bitmap()])).sum();
     report(&format!("{} pages, written as Group 4", pages.len()), out, roomy, "a plain writer", theirs);
-    let exact = |out: &mut Vec<u8>| pages.iter().zip(&sizes).map(|(page, size)| time_ours(page, Kind::Group4, &mut out[..*size])).sum();
+    let exact = |out: &mut Vec<u8>| pages.iter().zip(&sizes).map(|(page, size)| time_ours(page, None, &mut out[..*size])).sum();
     report(&format!("{} pages, written as Group 4 into no more room than they need", pages.len()), out, exact, "a plain writer", theirs);
 }
 
@@ -115,7 +89,7 @@ fn time_plain(codes: &Codes, page: &Page) -> Duration {
     let began = Instant::now();
     plain_writer::write_page(codes, page.columns, &page.rows.changes, &page.ends, &mut out);
     let took = began.elapsed();
-    assert!(page.is_read_from(Kind::Group4, &out, true), "the plain writer's page is read back");
+    assert!(page.is_read_from(None, &out, true), "the plain writer's page is read back");
     took
 }
 
@@ -125,34 +99,36 @@ fn against_libtiff(pages: &[Page], out: &mut Vec<u8>) {
         "writing, likewise: ours is given changes and row ends, libtiff packed rows, made before the clock starts; \
          libtiff's time is from open to close in memory"
     );
+    // with EOLs and no fill, or with K = 2, as libtiff writes it
     let kinds = [
-        ("Group 4", Kind::Group4),
-        ("Group 3 1D", Kind::Group3(Layout::OneD { eols: true, fill: 0 })),
-        ("Group 3 2D", Kind::Group3(Layout::TwoD { k: 2 })),
+        ("Group 4", None, Scheme::Group4),
+        ("Group 3 1D", Some(Layout::OneD { eols: true, fill: 0 }), Scheme::Group3OneD),
+        ("Group 3 2D", Some(Layout::TwoD { k: 2 }), Scheme::Group3TwoD),
     ];
-    for (name, kind) in kinds {
-        let ours = |out: &mut Vec<u8>| pages.iter().map(|page| time_ours(page, kind, out)).sum();
-        let theirs = |out: &mut Vec<u8>| pages.iter().map(|page| time_libtiff(page, kind, out)).sum();
+    for (name, layout, scheme) in kinds {
+        let ours = |out: &mut Vec<u8>| pages.iter().map(|page| time_ours(page, layout, out)).sum();
+        let theirs = |out: &mut Vec<u8>| pages.iter().map(|page| time_libtiff(page, layout, scheme, out)).sum();
         report(&format!("{} pages, written as {name}", pages.len()), out, ours, "libtiff", theirs);
     }
 }
 
-fn time_ours(page: &Page, kind: Kind, out: &mut [u8]) -> Duration {
+fn time_ours(page: &Page, layout: Option<Layout>, out: &mut [u8]) -> Duration {
     out.fill(0);
     let began = Instant::now();
-    let answer = kind.ours(page.columns, &page.rows.changes, &page.ends, out);
+    let answer = linked::write_page(layout, page.columns, &page.rows.changes, &page.ends, out);
     let took = began.elapsed();
-    assert!(answer.number == 0 && page.is_read_from(kind, &out[..answer.bytes as usize], true), "our page is read back");
+    assert!(answer.number == 0 && page.is_read_from(layout, &out[..answer.bytes as usize], true), "our page is read back");
     took
 }
 
 #[cfg(feature = "libtiff")]
-fn time_libtiff(page: &Page, kind: Kind, out: &mut [u8]) -> Duration {
+fn time_libtiff(page: &Page, layout: Option<Layout>, scheme: Scheme, out: &mut [u8]) -> Duration {
     out.fill(0);
     let began = Instant::now();
-    let strip = libtiff::write_page(kind.scheme(), page.columns, page.rows.ends.len() as u32, &page.packed, out);
+    let strip = libtiff::write_page(scheme, page.columns, page.rows.ends.len() as u32, &page.packed, out);
     let took = began.elapsed();
-    let ended = matches!(kind, Kind::Group4);
-    assert!(strip.is_some_and(|strip| page.is_read_from(kind, &out[strip], ended)), "libtiff's page is read back");
+    // it leaves out the EOLs at the end of a Group 3 page
+    let ended = layout.is_none();
+    assert!(strip.is_some_and(|strip| page.is_read_from(layout, &out[strip], ended)), "libtiff's page is read back");
     took
 }
