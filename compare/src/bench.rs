@@ -15,9 +15,7 @@ mod timing;
 mod writers;
 
 pub fn run() -> io::Result<bool> {
-    let mut pages = crate::checks::other_decoder::texts().ok_or_else(|| io::Error::other("bench: the pages are not at hand"))?;
-    // a page by two decoders is one page
-    pages.dedup_by(|a, b| a.src == b.src);
+    let pages = crate::checks::other_decoder::texts().ok_or_else(|| io::Error::other("bench: the pages are not at hand"))?;
     readers::run(&pages);
     writers::run(&pages);
     Ok(true)

@@ -70,7 +70,7 @@ pub fn run(texts: &[Text]) {
     println!("median of {RUNS} runs, release builds, arrays cleared before each; the crate's sink copies rows into one array");
     run_set(&mut store);
     println!("pages of rendered text");
-    let pages: Vec<Named> = texts.iter().map(|text| (text.name.clone(), Page::of(text.settings, text.src.clone()))).collect();
+    let pages: Vec<Named> = texts.iter().map(|text| (text.name.to_string(), Page::of(text.settings, text.src.clone()))).collect();
     let sets = by_encoding(&pages);
     for (name, some) in &sets {
         compare(name, some, &mut store);
