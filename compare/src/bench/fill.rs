@@ -2,9 +2,9 @@
 
 use super::page::{Named, Page};
 use crate::bits::Bits;
+use crate::codes::EOL;
 use crate::settings::{Encoding, Settings};
 
-const EOL: &str = "000000000001";
 const COLUMNS: u32 = 1728;
 /// A white row of that width: a make-up code of 1728, and a run of 0.
 const ROW: &str = "01001101100110101";

@@ -5,13 +5,13 @@
 use crate::bits::Bits;
 use crate::call::Ask;
 use crate::case::{Case, Source};
+use crate::codes::EOL;
 use crate::random::Random;
 use crate::rooms::quick_page_case;
 use crate::settings::{ENCODINGS, Settings};
 
 const LONGEST: u64 = 200;
 const WORD: u64 = 64;
-const EOL: &str = "000000000001";
 
 /// What stands before the fill.
 #[derive(Clone, Copy)]
