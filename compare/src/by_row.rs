@@ -2,8 +2,9 @@
 //! lays them, so that they are compared as a page is.
 
 use crate::call::{Answer, MARGIN, pattern};
+use crate::complaint::Complaint;
 use crate::settings::{Encoding, Settings};
-use crate::truth::LIMIT;
+use crate::truth::refusal_of_a_state;
 
 /// The state's numbers, and what they are.
 pub const STATE: usize = 10;
@@ -51,43 +52,6 @@ const ENDS: [[u64; STATE - END]; 10] = [
 /// The row form, however it is reached.
 pub trait RowForm {
     fn read_row(&mut self, page: &Page, state: &mut [u64], first: &mut [u32], second: &mut [u32]) -> Answer;
-}
-
-/// What is wrong with a call, in place of an answer.
-#[derive(Clone, Copy, Debug)]
-pub enum Complaint {
-    WrongArray,
-    WritesBeside,
-    WrongCounts,
-    TooManyRows,
-    RefusalChanges,
-    NotRepeated,
-    ForgedTaken,
-}
-
-const COMPLAINTS: [(Complaint, &str); 7] = [
-    (Complaint::WrongArray, "a row is not in the array whose turn it is"),
-    (Complaint::WritesBeside, "a call writes beside the changes that it speaks of"),
-    (Complaint::WrongCounts, "a row's answer or state has other counts than the rows so far"),
-    (Complaint::TooManyRows, "it gives more rows, or more changes, than the page has"),
-    (Complaint::RefusalChanges, "a refusal changes the state or an array"),
-    (Complaint::NotRepeated, "a call after the end does not repeat it, or writes"),
-    (Complaint::ForgedTaken, "a state that no call left, or another encoding, is not refused, or something is changed"),
-];
-
-/// Above every number of the list.
-const FIRST: u32 = 1_000_000;
-
-impl Complaint {
-    fn answer(self) -> Answer {
-        Answer::bare(FIRST + self as u32)
-    }
-
-    /// What an answer complains of, if it does.
-    pub fn of(answer: &Answer) -> Option<&'static str> {
-        let index = answer.number.checked_sub(FIRST)?;
-        COMPLAINTS.get(index as usize).map(|&(_, text)| text)
-    }
 }
 
 /// The arrays of a page, into which the rows are gathered.
@@ -270,16 +234,10 @@ impl Reading<'_> {
         }
         let (before, lent) = (state.clone(), lines.clone());
         let answer = lines.call(self.form, &page, &mut state);
-        if answer == Answer::bare(refusal(&page)) && state == before && lines == lent { Ok(()) } else { Err(Complaint::ForgedTaken) }
-    }
-}
-
-fn refusal(page: &Page) -> u32 {
-    if page.settings.columns == u32::MAX {
-        6
-    } else if page.src.len() > LIMIT {
-        7
-    } else {
-        8
+        if answer == Answer::bare(refusal_of_a_state(page.settings, page.src)) && state == before && lines == lent {
+            Ok(())
+        } else {
+            Err(Complaint::ForgedTaken)
+        }
     }
 }

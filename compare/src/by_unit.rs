@@ -2,9 +2,10 @@
 //! what is in them at the end is compared as a page is.
 
 use crate::call::Answer;
+use crate::complaint::Complaint;
 use crate::random::Random;
 use crate::settings::Settings;
-use crate::truth::LIMIT;
+use crate::truth::refusal_of_a_state;
 use std::ops::Range;
 
 /// The state's numbers, and what they are.
@@ -97,49 +98,6 @@ impl Held {
 /// Whether two lists agree outside a range of theirs.
 fn apart<T: PartialEq>(before: &[T], after: &[T], range: Range<usize>) -> bool {
     range.end <= before.len() && before[..range.start] == after[..range.start] && before[range.end..] == after[range.end..]
-}
-
-/// What is wrong with a call, in place of an answer.
-#[derive(Clone, Copy, Debug)]
-pub enum Complaint {
-    WrongUnits,
-    WrongTotal,
-    WritesBeside,
-    WrongCounts,
-    RefusalChanges,
-    NotRepeated,
-    NotTen,
-    ForgedTaken,
-    OddRefused,
-    Endless,
-}
-
-const COMPLAINTS: [(Complaint, &str); 10] = [
-    (Complaint::WrongUnits, "a call takes more units than it may, or fewer and goes on"),
-    (Complaint::WrongTotal, "its units are not those of the page, or not those that one call takes, or it ends otherwise"),
-    (Complaint::WritesBeside, "a call writes into rows that were kept, or behind what it has read"),
-    (Complaint::WrongCounts, "an answer or a state has other counts than what was read so far"),
-    (Complaint::RefusalChanges, "a refusal changes the state or an array"),
-    (Complaint::NotRepeated, "a call after the end does not repeat it, takes units, or writes"),
-    (Complaint::NotTen, "a call of no units is not refused before all else, or something is changed"),
-    (Complaint::ForgedTaken, "a state that no call left is not refused, or something is changed"),
-    (Complaint::OddRefused, "a state that passes the tests is refused"),
-    (Complaint::Endless, "it does not end"),
-];
-
-/// Above every number of the list, and those of the row form's complaints.
-const FIRST: u32 = 2_000_000;
-
-impl Complaint {
-    fn answer(self) -> Answer {
-        Answer::bare(FIRST + self as u32)
-    }
-
-    /// What an answer complains of, if it does.
-    pub fn of(answer: &Answer) -> Option<&'static str> {
-        let index = answer.number.checked_sub(FIRST)?;
-        COMPLAINTS.get(index as usize).map(|&(_, text)| text)
-    }
 }
 
 /// Reads a page in calls of a few units. `total` says how many it has, if that is known; `fill`, how many each call may take, and which forged states are tried.
@@ -260,7 +218,7 @@ impl Reading<'_> {
         let (mut state, mut held) = if self.random.below(4) == 0 { self.forged_end() } else { self.forged_state() };
         let (before, lent) = (state.clone(), held.clone());
         let turn = self.form.read_units(self.page, held.store(), &mut state, 1);
-        let same = turn == Turn { answer: Answer::bare(refusal(self.page)), units: 0 } && state == before && held == lent;
+        let same = turn == Turn { answer: Answer::bare(refusal_of_a_state(self.page.settings, self.page.src)), units: 0 } && state == before && held == lent;
         if same { Ok(()) } else { Err(Complaint::ForgedTaken) }
     }
 
@@ -337,7 +295,7 @@ impl Reading<'_> {
 
     /// A state that no call leaves and that passes the tests: it is read on, and nothing is written but what it speaks of.
     fn odd(&mut self) -> Result<(), Complaint> {
-        if refusal(self.page) != 8 || self.page.settings.columns == 0 {
+        if refusal_of_a_state(self.page.settings, self.page.src) != 8 || self.page.settings.columns == 0 {
             return Ok(());
         }
         let bits = 8 * self.page.src.len() as u64;
@@ -389,14 +347,4 @@ fn looked_at(turn: &Turn, n: u64, state: (&[u64; STATE], &[u64; STATE]), before:
         return Err(Complaint::WritesBeside);
     }
     Ok(())
-}
-
-fn refusal(page: &Page) -> u32 {
-    if page.settings.columns == u32::MAX {
-        6
-    } else if page.src.len() > LIMIT {
-        7
-    } else {
-        8
-    }
 }

@@ -89,7 +89,7 @@ fn compare_replies(start: u64, cases: &[Case], replies: &Replies, tally: &mut Ta
 /// everywhere else.
 fn difference_of(plan: &Plan, reply: &Reply) -> Option<String> {
     #[cfg(any(feature = "linked", test))]
-    if let Some(complaint) = crate::by_row::Complaint::of(&reply.answer).or_else(|| crate::by_unit::Complaint::of(&reply.answer)) {
+    if let Some(complaint) = crate::complaint::Complaint::of(&reply.answer) {
         return Some(complaint.to_string());
     }
     if reply.answer != plan.wanted.answer {

@@ -15,6 +15,8 @@ mod case;
 mod check;
 mod checks;
 mod codes;
+#[cfg(any(feature = "linked", test))]
+mod complaint;
 mod damage;
 mod encoder;
 #[cfg(test)]

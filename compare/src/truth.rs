@@ -246,6 +246,18 @@ impl Outcome {
     }
 }
 
+/// What a state is answered that no call left (A1, A9): 8, behind 6 and 7.
+#[cfg(any(feature = "linked", test))]
+pub fn refusal_of_a_state(settings: &Settings, src: &[u8]) -> u32 {
+    if settings.columns == u32::MAX {
+        6
+    } else if src.len() > LIMIT {
+        7
+    } else {
+        8
+    }
+}
+
 /// Whether a list ascends strictly and stays below the width.
 pub fn ascends_below(list: &[u32], width: u32) -> bool {
     list.windows(2).all(|two| two[0] < two[1]) && list.last().is_none_or(|&last| last < width)
