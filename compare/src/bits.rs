@@ -57,6 +57,15 @@ impl Bits {
         }
     }
 
+    /// Puts the bits over those of `out` from bit `at` on, and zeros behind them up to bit `end`.
+    pub fn put_into(&self, out: &mut [u8], at: usize, end: usize) {
+        for index in at..end {
+            let mask = 128 >> (index % 8);
+            let set = index - at < self.length && self.at(index - at);
+            out[index / 8] = if set { out[index / 8] | mask } else { out[index / 8] & !mask };
+        }
+    }
+
     /// The bytes, the last one filled with zeros.
     pub fn into_bytes(self) -> Vec<u8> {
         self.bytes

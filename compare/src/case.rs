@@ -42,6 +42,13 @@ pub struct Plan {
     pub wanted: Wanted,
 }
 
+impl Plan {
+    /// One call, not exactly, and by the lookup.
+    pub fn whole(room: Room, fill: u32, wanted: Wanted) -> Self {
+        Plan { exact: false, plain: false, steps: Steps::Whole, room, fill, wanted }
+    }
+}
+
 /// Where the inputs of a check come from. An input is settled by its number and the run's seed.
 pub trait Source: Sync {
     /// What the check is called; part of every input's seed.

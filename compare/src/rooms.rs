@@ -151,8 +151,5 @@ pub fn line_room(changes: usize) -> Room {
 }
 
 fn planned(rooms: Vec<Room>, random: &mut Random, wanted: impl Fn(Room) -> Wanted) -> Vec<Plan> {
-    rooms
-        .into_iter()
-        .map(|room| Plan { exact: false, plain: false, steps: Steps::Whole, room, fill: random.next() as u32, wanted: wanted(room) })
-        .collect()
+    rooms.into_iter().map(|room| Plan::whole(room, random.next() as u32, wanted(room))).collect()
 }

@@ -215,11 +215,7 @@ impl Standin {
         }
         let end = ask.at as usize + bits.len();
         let padded = if self.0 == Fault::UnusedBitsStay { end } else { end.div_ceil(8) * 8 };
-        for index in ask.at as usize..padded {
-            let mask = 128 >> (index % 8);
-            let set = index < end && bits.at(index - ask.at as usize);
-            out[index / 8] = if set { out[index / 8] | mask } else { out[index / 8] & !mask };
-        }
+        bits.put_into(out, ask.at as usize, padded);
         match self.0 {
             Fault::WrittenBit if end > 40 => out[4] ^= 1,
             Fault::WrittenBehind if end.div_ceil(8) < length => out[length - 1] ^= 1,

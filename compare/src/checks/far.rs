@@ -1,7 +1,7 @@
 //! A page far behind: its first EOL has so much fill that every row lies beyond the old limit 7 of 268,435,456 bytes, at a bit that
 //! 32 bits do not count.
 
-use crate::call::{Ask, Room, Steps};
+use crate::call::{Ask, Room};
 use crate::case::{Case, Plan, Source};
 use crate::checks::writers::encoded;
 use crate::random::Random;
@@ -33,14 +33,7 @@ impl Source for Far {
         let outcome = Outcome::of_page(&settings, &ask.data(), 0);
         let agrees = outcome.number == 0 && outcome.idle.is_none() && outcome.rows().eq(rows.iter().map(Vec::as_slice));
         let room = Room::Rows { changes: outcome.changes.len() + 3, ends: rows.len() + 3, marks: rows.len() + 3 };
-        let plan = |(exact, plain)| Plan {
-            exact,
-            plain,
-            steps: Steps::Whole,
-            room,
-            fill: random.next() as u32,
-            wanted: outcome.page_within(room),
-        };
+        let plan = |(exact, plain)| Plan { exact, plain, ..Plan::whole(room, random.next() as u32, outcome.page_within(room)) };
         Case { ask, plans: [(false, false), (true, false), (false, true)].map(plan).into(), complaint: None }
             .require(agrees, || "the crate does not read the rows back".to_string())
     }

@@ -2,9 +2,9 @@
 //! writes is read back by the crate.
 
 use crate::bits::Bits;
-use crate::call::{Ask, Layout, Room, Steps};
+use crate::call::{Ask, Layout, Room};
 use crate::case::{Case, Plan, Source};
-use crate::checks::writers::{LONG, refused, written};
+use crate::checks::writers::{LONG, plans, refused};
 use crate::group3::{allowed, encoded};
 use crate::random::Random;
 use crate::rows::{WIDTHS, flattened, random_rows};
@@ -52,26 +52,13 @@ pub fn page_case(random: &mut Random, layout: Layout, columns: u32, rows: &[Vec<
     let ask = Ask::write_group3(layout, columns, changes, ends);
     if !allowed(layout) || rows.is_empty() {
         let number = if allowed(layout) { 8 } else { 10 };
-        let plan = Plan {
-            exact: false,
-            plain: false,
-            steps: Steps::Whole,
-            room: Room::Bytes(random.index(200)),
-            fill: random.next() as u32,
-            wanted: refused(number),
-        };
+        let plan = Plan::whole(Room::Bytes(random.index(200)), random.next() as u32, refused(number));
         return Case { ask, plans: vec![plan], complaint: None };
     }
     let page = encoded(layout, columns, rows);
-    let bytes = page.len() / 8;
-    let lengths = [bytes + random.range(1, 5) as usize, bytes, bytes - 1, random.index(bytes)];
-    let plans = lengths.map(|length| {
-        let fill = random.next() as u32;
-        let wanted = if length < bytes { refused(9) } else { written(&page, 0, length, fill, bytes as u64) };
-        Plan { exact: false, plain: false, steps: Steps::Whole, room: Room::Bytes(length), fill, wanted }
-    });
+    let plans = plans(random, &page, 0, page.len() as u64 / 8);
     let complaint = misread(random, layout, columns, rows, &page);
-    Case { ask, plans: plans.into(), complaint }
+    Case { ask, plans, complaint }
 }
 
 /// A3 and A10 on the crate: the page gives back its rows, all clean, and its length, with nothing but zeros behind it.
@@ -155,14 +142,7 @@ impl Source for Limits {
         let (number, columns, tail, layout, changes, ends) = REFUSALS[index as usize];
         let mut ask = Ask::write_group3(layout, columns, changes.to_vec(), ends.to_vec());
         ask.tail = tail;
-        let plans = vec![Plan {
-            exact: false,
-            plain: false,
-            steps: Steps::Whole,
-            room: Room::Bytes(4),
-            fill: random.next() as u32,
-            wanted: refused(number),
-        }];
+        let plans = vec![Plan::whole(Room::Bytes(4), random.next() as u32, refused(number))];
         Case { ask, plans, complaint: None }
     }
 

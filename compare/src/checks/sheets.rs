@@ -1,7 +1,7 @@
 //! The sheets of document 01 that can be read, and the inputs of docs/DIFFERENCES.md where the crate parts
 //! from the standard: their answers stand here as the documents have them, so the crate is held to them too.
 
-use crate::call::{Answer, Ask, Room, Steps};
+use crate::call::{Answer, Ask, Room};
 use crate::case::{Case, Plan, Source};
 use crate::random::Random;
 use crate::rooms::line_room;
@@ -278,7 +278,7 @@ fn page_sheet(sheet: &Sheet, fill: u32) -> Case {
     let wanted = Wanted { answer: sheet.answer, changes, ends, marks, out: None };
     let of_crate = if sheet.exact { Outcome::of_exact_page } else { Outcome::of_page }(&sheet.settings, sheet.src, 0);
     let agrees = of_crate.page_within(sheet.room) == wanted;
-    let plan = Plan { exact: sheet.exact, plain: false, steps: Steps::Whole, room: sheet.room, fill, wanted };
+    let plan = Plan { exact: sheet.exact, ..Plan::whole(sheet.room, fill, wanted) };
     let plans = vec![Plan { plain: true, ..plan.clone() }, plan];
     Case { ask: Ask::page(sheet.settings, sheet.src.to_vec()), plans, complaint: None }
         .require(agrees, || "the crate does not give what the sheet says".to_string())
@@ -292,7 +292,7 @@ fn line_sheet(index: usize, fill: u32) -> Case {
     let src = bits.into_bytes();
     let of_crate = Outcome::of_line(columns, true, &src, 0, 0, reference).line_within(PLENTY);
     let agrees = of_crate == wanted;
-    let plans = vec![Plan { exact: false, plain: false, steps: Steps::Whole, room: line_room(row.len() + 1), fill, wanted }];
+    let plans = vec![Plan::whole(line_room(row.len() + 1), fill, wanted)];
     Case { ask: Ask::read_line(columns, true, src, 0, reference.to_vec()), plans, complaint: None }
         .require(agrees, || "the crate does not give what the sheet says".to_string())
 }

@@ -2,7 +2,7 @@
 //! their refusals. What the encoder writes is read back by the crate.
 
 use crate::bits::Bits;
-use crate::call::{Answer, Ask, BYTE_MARGIN, Room, Steps, pattern_byte};
+use crate::call::{Answer, Ask, BYTE_MARGIN, Room, pattern_byte};
 use crate::case::{Case, Plan, Source};
 use crate::checks::sheets;
 use crate::codes::{EOL, LONGEST};
@@ -45,29 +45,30 @@ impl Source for WrittenLines {
 /// A line from some bit on, into more than enough bytes, just enough, and too few.
 fn line_case(random: &mut Random, columns: u32, reference: Vec<u32>, row: Vec<u32>, line: &Bits) -> Case {
     let at = random.index(40);
-    let exact = (at + line.len()).div_ceil(8);
     let read = Outcome::of_line(columns, true, &line.clone().into_bytes(), 0, 0, &reference);
-    let lengths = [exact + random.range(1, 5) as usize, exact, exact - 1, random.index(exact)];
-    let plans = lengths.map(|length| {
-        let fill = random.next() as u32;
-        let wanted = if length < exact { refused(9) } else { written(line, at, length, fill, (at + line.len()) as u64) };
-        Plan { exact: false, plain: false, steps: Steps::Whole, room: Room::Bytes(length), fill, wanted }
-    });
+    let plans = plans(random, line, at, (at + line.len()) as u64);
     let agrees = read.number == 0 && read.changes == row && read.bytes == line.len() as u64;
     let ask = Ask::write_line(columns, reference, row, at as u64);
-    Case { ask, plans: plans.into(), complaint: None }.require(agrees, || "the crate does not read back the line".to_string())
+    Case { ask, plans, complaint: None }.require(agrees, || "the crate does not read back the line".to_string())
+}
+
+/// Bits from bit `at` on, into more than enough bytes, just enough, and too few; `place` is what is answered where they fit.
+pub(super) fn plans(random: &mut Random, bits: &Bits, at: usize, place: u64) -> Vec<Plan> {
+    let exact = (at + bits.len()).div_ceil(8);
+    let lengths = [exact + random.range(1, 5) as usize, exact, exact - 1, random.index(exact)];
+    let plan = |length| {
+        let fill = random.next() as u32;
+        let wanted = if length < exact { refused(9) } else { written(bits, at, length, fill, place) };
+        Plan::whole(Room::Bytes(length), fill, wanted)
+    };
+    lengths.map(plan).into()
 }
 
 /// What an output holds once bits were written from bit `at` on: the bits before them stay, the rest of
 /// their last byte is zero, the bytes behind it stay.
-pub(super) fn written(bits: &Bits, at: usize, length: usize, fill: u32, place: u64) -> Wanted {
+fn written(bits: &Bits, at: usize, length: usize, fill: u32, place: u64) -> Wanted {
     let mut out: Vec<u8> = (0..length).map(|index| pattern_byte(fill, BYTE_MARGIN + index)).collect();
-    let end = at + bits.len();
-    for index in at..end.div_ceil(8) * 8 {
-        let set = index < end && bits.at(index - at);
-        let mask = 128 >> (index % 8);
-        out[index / 8] = if set { out[index / 8] | mask } else { out[index / 8] & !mask };
-    }
+    bits.put_into(&mut out, at, (at + bits.len()).div_ceil(8) * 8);
     Wanted { out: Some(out), ..Wanted::untouched(Answer { bytes: place, ..Answer::default() }) }
 }
 
@@ -111,14 +112,8 @@ pub fn written_page(random: &mut Random, columns: u32, rows: &[Vec<u32>]) -> Cas
     if random.chance(30) {
         changes.extend([9, 3, u32::MAX]);
     }
-    let bytes = page.len() / 8;
-    let lengths = [bytes + random.range(1, 5) as usize, bytes, bytes - 1, random.index(bytes)];
-    let plans = lengths.map(|length| {
-        let fill = random.next() as u32;
-        let wanted = if length < bytes { refused(9) } else { written(&page, 0, length, fill, bytes as u64) };
-        Plan { exact: false, plain: false, steps: Steps::Whole, room: Room::Bytes(length), fill, wanted }
-    });
-    Case { ask: Ask::write_page(columns, changes, ends), plans: plans.into(), complaint }
+    let plans = plans(random, &page, 0, page.len() as u64 / 8);
+    Case { ask: Ask::write_page(columns, changes, ends), plans, complaint }
 }
 
 /// A page as document 01 has it: lines from a white reference, EOFB, zeros to a byte.
@@ -221,14 +216,7 @@ impl Source for WriterLimits {
             Ask::write_page(columns, first.to_vec(), second.to_vec())
         };
         ask.tail = tail;
-        let plans = vec![Plan {
-            exact: false,
-            plain: false,
-            steps: Steps::Whole,
-            room: Room::Bytes(4),
-            fill: random.next() as u32,
-            wanted: refused(number),
-        }];
+        let plans = vec![Plan::whole(Room::Bytes(4), random.next() as u32, refused(number))];
         Case { ask, plans, complaint: None }
     }
 

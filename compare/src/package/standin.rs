@@ -69,11 +69,7 @@ impl Package for Standin {
         put_line_2d(&mut bits, columns, &ask.first, &ask.second, LONGEST);
         let (at, end) = (ask.at as usize, ask.at as usize + bits.len());
         out.resize(out.len().max(end.div_ceil(8)) + usize::from(self.0 == Fault::WrittenBehind), 0);
-        for index in at..end.div_ceil(8) * 8 {
-            let mask = 128 >> (index % 8);
-            let set = index < end && bits.at(index - at);
-            out[index / 8] = if set { out[index / 8] | mask } else { out[index / 8] & !mask };
-        }
+        bits.put_into(&mut out, at, end.div_ceil(8) * 8);
         Wanted { out: Some(out), ..Wanted::untouched(Answer { bytes: end as u64, ..Answer::default() }) }
     }
 
