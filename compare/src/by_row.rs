@@ -3,7 +3,7 @@
 
 use crate::call::{Answer, MARGIN, pattern};
 use crate::complaint::Complaint;
-use crate::settings::{Encoding, Settings};
+use crate::settings::Settings;
 use crate::truth::refusal_of_a_state;
 
 /// The state's numbers, and what they are.
@@ -25,14 +25,6 @@ pub struct Page<'a> {
     pub plain: bool,
     pub src: &'a [u8],
     pub encoding: u32,
-}
-
-pub fn encoding_number(encoding: Encoding) -> u32 {
-    match encoding {
-        Encoding::Group4 => 0,
-        Encoding::Group3OneD => 1,
-        Encoding::Group3TwoD => 2,
-    }
 }
 
 /// Ends that no page has: one more than a number of the list, and a place, bytes or loose entries that it never has.

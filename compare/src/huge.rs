@@ -1,6 +1,7 @@
 //! Pages whose rows, or whose changes, are more than 32 bits count, read by both. It takes minutes and is part of no gate:
 //! docs/DIFFERENCES.md says what it gave.
 
+use crate::copies::settings_of;
 use crate::linked::{self, repeated::Repeated};
 use crate::settings::{Encoding, Settings};
 use std::io;
@@ -66,7 +67,7 @@ fn compare(settings: &Settings, src: &[u8], of_crate: Counted, of_ours: Counted)
 
 fn by_crate(settings: &Settings, src: &[u8]) -> io::Result<Counted> {
     let (began, mut sink) = (Instant::now(), Sink::default());
-    let mut context = hayro_ccitt::DecoderContext::new(settings.for_crate());
+    let mut context = hayro_ccitt::DecoderContext::new(settings_of!(hayro_ccitt, settings));
     let bytes = hayro_ccitt::decode(src, &mut sink, &mut context).map_err(|error| io::Error::other(format!("the crate: {error:?}")))?;
     Ok(told("the crate", began, Counted { rows: sink.rows, last_end: sink.changes, bytes: bytes as u64 }))
 }

@@ -109,7 +109,7 @@ fn read_from(call: &Call, src: &[u8], changes: &mut [u32], ends: &mut [u64], mar
         (Form::ReadLine, _) => read_line(call, src, changes),
         (_, Steps::Whole) => page(settings, exact, plain, src, changes, ends, marks),
         (_, Steps::Rows(first, second)) => {
-            let page = Page { settings, exact, plain, src, encoding: by_row::encoding_number(settings.encoding) };
+            let page = Page { settings, exact, plain, src, encoding: settings.encoding.number() };
             by_row::read(&mut Linked, &page, (first, second), call.fill, Store::new(changes, ends, marks))
         }
         (_, Steps::Units(total)) => {

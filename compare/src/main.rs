@@ -17,6 +17,7 @@ mod checks;
 mod codes;
 #[cfg(any(feature = "linked", test))]
 mod complaint;
+mod copies;
 mod damage;
 mod encoder;
 #[cfg(test)]

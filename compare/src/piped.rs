@@ -3,7 +3,6 @@
 
 use crate::call::{Answer, Call, Form, Layout, Replies, Room};
 use crate::ours::Ours;
-use crate::settings::Encoding;
 use std::io::{self, Read, Write};
 use std::process::{Child, ChildStdin, ChildStdout, Command, Stdio};
 
@@ -127,9 +126,7 @@ fn put_words(out: &mut Vec<u8>, words: &[u32]) {
 
 fn form_number(form: Form) -> u32 {
     match form {
-        Form::Page(Encoding::Group4) => 0,
-        Form::Page(Encoding::Group3OneD) => 1,
-        Form::Page(Encoding::Group3TwoD) => 2,
+        Form::Page(encoding) => encoding.number(),
         Form::ReadLine => 3,
         Form::WriteLine => 4,
         Form::WritePage => 5,

@@ -8,7 +8,6 @@ use crate::checks::lines::Lines;
 use crate::checks::random_pages::{Kind, RandomPages};
 use crate::checks::sheets::Sheets;
 use crate::random::Random;
-use crate::settings::Encoding;
 use std::collections::BTreeMap;
 use std::fmt::Write as _;
 use std::io;
@@ -143,12 +142,8 @@ fn entries(words: &[u32], room: usize) -> String {
 
 fn form_number(form: Form) -> u32 {
     match form {
-        Form::Page(Encoding::Group4) => 0,
-        Form::Page(Encoding::Group3OneD) => 1,
-        Form::Page(Encoding::Group3TwoD) => 2,
+        Form::Page(encoding) => encoding.number(),
         Form::ReadLine => 3,
-        Form::WriteLine => 4,
-        Form::WritePage => 5,
-        Form::WriteGroup3(_) => 6,
+        Form::WriteLine | Form::WritePage | Form::WriteGroup3(_) => unreachable!("readers only"),
     }
 }

@@ -1,4 +1,4 @@
-//! The settings of a page, and how the crate writes them.
+//! The settings of a page.
 
 use std::fmt;
 
@@ -7,6 +7,17 @@ pub enum Encoding {
     Group4,
     Group3OneD,
     Group3TwoD,
+}
+
+impl Encoding {
+    /// The library's number for it, which the driver and the replayed sample have too.
+    pub fn number(self) -> u32 {
+        match self {
+            Encoding::Group4 => 0,
+            Encoding::Group3OneD => 1,
+            Encoding::Group3TwoD => 2,
+        }
+    }
 }
 
 pub const ENCODINGS: [Encoding; 3] = [Encoding::Group4, Encoding::Group3OneD, Encoding::Group3TwoD];
@@ -26,39 +37,6 @@ impl Settings {
     /// Of one line, or of a writer: only the width and strictness are read.
     pub fn of_line(columns: u32, strict: bool) -> Self {
         Settings { encoding: Encoding::Group4, columns, rows: 0, end_of_block: false, end_of_line: false, aligned: false, strict }
-    }
-
-    pub fn for_crate(&self) -> hayro_ccitt::DecodeSettings {
-        hayro_ccitt::DecodeSettings {
-            columns: self.columns,
-            rows: self.rows,
-            end_of_block: self.end_of_block,
-            end_of_line: self.end_of_line,
-            rows_are_byte_aligned: self.aligned,
-            encoding: match self.encoding {
-                Encoding::Group4 => hayro_ccitt::EncodingMode::Group4,
-                Encoding::Group3OneD => hayro_ccitt::EncodingMode::Group3_1D,
-                Encoding::Group3TwoD => hayro_ccitt::EncodingMode::Group3_2D,
-            },
-            strict: self.strict,
-        }
-    }
-
-    /// The same for the copy with added functions: to Rust its types are others.
-    pub fn for_open_crate(&self) -> hayro_ccitt_open::DecodeSettings {
-        hayro_ccitt_open::DecodeSettings {
-            columns: self.columns,
-            rows: self.rows,
-            end_of_block: self.end_of_block,
-            end_of_line: self.end_of_line,
-            rows_are_byte_aligned: self.aligned,
-            encoding: match self.encoding {
-                Encoding::Group4 => hayro_ccitt_open::EncodingMode::Group4,
-                Encoding::Group3OneD => hayro_ccitt_open::EncodingMode::Group3_1D,
-                Encoding::Group3TwoD => hayro_ccitt_open::EncodingMode::Group3_2D,
-            },
-            strict: self.strict,
-        }
     }
 }
 

@@ -70,7 +70,7 @@ impl Standin {
         let (changes, ends) = call.room.places();
         let outcome = self.page(call);
         let (src, settings) = (call.ask.data(), &call.ask.settings);
-        let page = Page { settings, exact: call.exact, plain: call.plain, src: &src, encoding: by_row::encoding_number(settings.encoding) };
+        let page = Page { settings, exact: call.exact, plain: call.plain, src: &src, encoding: settings.encoding.number() };
         let mut wide: Vec<u64> = words[ends.clone()].iter().copied().map(u64::from).collect();
         let end = bytes.len() - BYTE_MARGIN;
         let store = Store::new(&mut words[changes], &mut wide, &mut bytes[BYTE_MARGIN..end]);

@@ -1,6 +1,7 @@
 //! What the answer must be: what the crate gives, under document 01's rules of the row store.
 
 use crate::call::{Answer, Room, with_zeros};
+use crate::copies::{number_of, settings_of};
 use crate::settings::Settings;
 use std::iter::once;
 
@@ -108,9 +109,9 @@ impl Outcome {
 
     fn of_crate(settings: &Settings, src: &[u8]) -> Self {
         let mut sink = Sink::default();
-        let mut context = hayro_ccitt::DecoderContext::new(settings.for_crate());
+        let mut context = hayro_ccitt::DecoderContext::new(settings_of!(hayro_ccitt, settings));
         let (number, bytes) =
-            hayro_ccitt::decode(src, &mut sink, &mut context).map_or_else(|error| (crate_number(error), 0), |bytes| (0, bytes));
+            hayro_ccitt::decode(src, &mut sink, &mut context).map_or_else(|error| (number_of!(hayro_ccitt, error), 0), |bytes| (0, bytes));
         Self::of_open_crate(settings, src, number, bytes, sink)
     }
 
@@ -118,10 +119,10 @@ impl Outcome {
     /// agree with the crate in everything else.
     fn of_open_crate(settings: &Settings, src: &[u8], number: u32, bytes: usize, sink: Sink) -> Self {
         let mut again = Sink::default();
-        let mut context = hayro_ccitt_open::DecoderContext::new(settings.for_open_crate());
+        let mut context = hayro_ccitt_open::DecoderContext::new(settings_of!(hayro_ccitt_open, settings));
         hayro_ccitt_open::place::take_units();
-        let told =
-            hayro_ccitt_open::decode(src, &mut again, &mut context).map_or_else(|error| (open_crate_number(error), 0), |bytes| (0, bytes));
+        let told = hayro_ccitt_open::decode(src, &mut again, &mut context)
+            .map_or_else(|error| (number_of!(hayro_ccitt_open, error), 0), |bytes| (0, bytes));
         assert!(told == (number, bytes) && again == sink, "the opened copy is not the crate");
         let mut changes = sink.changes;
         let mut place = 0;
@@ -153,7 +154,7 @@ impl Outcome {
         if tail > 0 {
             return Self::of_line(columns, strict, &with_zeros(0, src, tail), 0, at, reference);
         }
-        let mut context = hayro_ccitt_open::DecoderContext::new(Settings::of_line(columns, strict).for_open_crate());
+        let mut context = hayro_ccitt_open::DecoderContext::new(settings_of!(hayro_ccitt_open, Settings::of_line(columns, strict)));
         let result = context.read_line(src, at as usize, reference);
         let (changes, idle) = (context.unfinished().to_vec(), context.idle().map(Idle::of_open_crate));
         match result {
@@ -161,7 +162,9 @@ impl Outcome {
                 let (ends, marks) = (vec![changes.len() as u32], vec![context.mark()]);
                 Outcome { number: 0, place: 0, bytes: bit as u64, changes, ends, marks, idle, units: 0 }
             }
-            Err(error) => Outcome { changes, idle, ..Self::bare(open_crate_number(error), hayro_ccitt_open::place::last() as u64) },
+            Err(error) => {
+                Outcome { changes, idle, ..Self::bare(number_of!(hayro_ccitt_open, error), hayro_ccitt_open::place::last() as u64) }
+            }
         }
     }
 
@@ -286,21 +289,5 @@ impl hayro_ccitt::Decoder for Sink {
 impl hayro_ccitt_open::Decoder for Sink {
     fn push_row(&mut self, changes: &[u32]) {
         self.push(changes);
-    }
-}
-
-fn crate_number(error: hayro_ccitt::DecodeError) -> u32 {
-    match error {
-        hayro_ccitt::DecodeError::InvalidCode => 1,
-        hayro_ccitt::DecodeError::UnexpectedEof => 2,
-        hayro_ccitt::DecodeError::Overflow => 3,
-    }
-}
-
-fn open_crate_number(error: hayro_ccitt_open::DecodeError) -> u32 {
-    match error {
-        hayro_ccitt_open::DecodeError::InvalidCode => 1,
-        hayro_ccitt_open::DecodeError::UnexpectedEof => 2,
-        hayro_ccitt_open::DecodeError::Overflow => 3,
     }
 }

@@ -11,6 +11,7 @@ use super::{
 use crate::by_row::{self, RowForm, STATE};
 use crate::by_unit::{self, UnitForm};
 use crate::checks::other_decoder::Text;
+use crate::copies::settings_of;
 use crate::linked::{self, Linked};
 use crate::settings::Encoding;
 use std::time::{Duration, Instant};
@@ -153,7 +154,7 @@ fn compare_packages(name: &str, pages: &[&Page], store: &mut Store) {
 
 fn time_package(page: &Page, store: &mut Store) -> Duration {
     let mut sink = Sink { store: store.cleared(page), entries: 0, rows: 0 };
-    let mut context = drop_in::DecoderContext::new(crate::package::called::settings(&page.settings));
+    let mut context = drop_in::DecoderContext::new(settings_of!(drop_in, page.settings));
     let began = Instant::now();
     let bytes = drop_in::decode(&page.src, &mut sink, &mut context);
     let took = began.elapsed();
@@ -178,13 +179,8 @@ fn compare_forms(name: &str, pages: &[&Page], store: &mut Store) {
 fn time_by_row(page: &Page, store: &mut Store) -> Duration {
     let (first, second) = store.cleared(page).changes.split_at_mut(CHANGES / 2);
     let columns = page.settings.columns as usize;
-    let call = by_row::Page {
-        settings: &page.settings,
-        exact: false,
-        plain: false,
-        src: &page.src,
-        encoding: by_row::encoding_number(page.settings.encoding),
-    };
+    let call =
+        by_row::Page { settings: &page.settings, exact: false, plain: false, src: &page.src, encoding: page.settings.encoding.number() };
     let mut state = [0; STATE];
     let began = Instant::now();
     let answer = loop {
@@ -249,7 +245,7 @@ fn time_ours(page: &Page, plain: bool, store: &mut Store) -> Duration {
 
 fn time_crate(page: &Page, store: &mut Store) -> Duration {
     let mut sink = Sink { store: store.cleared(page), entries: 0, rows: 0 };
-    let mut context = hayro_ccitt::DecoderContext::new(page.settings.for_crate());
+    let mut context = hayro_ccitt::DecoderContext::new(settings_of!(hayro_ccitt, page.settings));
     let began = Instant::now();
     let bytes = hayro_ccitt::decode(&page.src, &mut sink, &mut context);
     let took = began.elapsed();

@@ -2,29 +2,14 @@
 
 use super::{Package, Way};
 use crate::call::{Answer, Ask, Layout};
-use crate::settings::{Encoding, Settings};
+use crate::copies::settings_of;
+use crate::settings::Settings;
 use crate::truth::Wanted;
 use drop_in::beyond::{self, Fault, Mark, Row};
-use drop_in::{DecodeError, DecodeSettings, Decoder, DecoderContext, EncodingMode};
+use drop_in::{DecodeError, DecodeSettings, Decoder, DecoderContext};
 use std::num::NonZeroU64;
 
 pub struct Called;
-
-pub fn settings(s: &Settings) -> DecodeSettings {
-    DecodeSettings {
-        columns: s.columns,
-        rows: s.rows,
-        end_of_block: s.end_of_block,
-        end_of_line: s.end_of_line,
-        rows_are_byte_aligned: s.aligned,
-        encoding: match s.encoding {
-            Encoding::Group4 => EncodingMode::Group4,
-            Encoding::Group3OneD => EncodingMode::Group3_1D,
-            Encoding::Group3TwoD => EncodingMode::Group3_2D,
-        },
-        strict: s.strict,
-    }
-}
 
 /// The rows that were handed over.
 #[derive(Default, PartialEq, Eq)]
@@ -61,7 +46,7 @@ impl Decoder for Sink {
 
 impl Package for Called {
     fn page(&mut self, way: Way, s: &Settings, src: &[u8]) -> Wanted {
-        let s = settings(s);
+        let s = settings_of!(drop_in, s);
         match way {
             Way::Callback { room, again } => by_callback(s, src, room, again),
             Way::Marked { exact, plain } => {

@@ -1,25 +1,10 @@
 //! What the copy of the crate gives into which a slip goes.
 
 use crate::call::Ask;
-use crate::settings::{Encoding, Settings};
+use crate::copies::{number_of, settings_of};
+use crate::settings::Settings;
 use crate::truth::{Idle, Outcome};
 use hayro_ccitt_slipped as theirs;
-
-fn settings_of(s: &Settings) -> theirs::DecodeSettings {
-    theirs::DecodeSettings {
-        columns: s.columns,
-        rows: s.rows,
-        end_of_block: s.end_of_block,
-        end_of_line: s.end_of_line,
-        rows_are_byte_aligned: s.aligned,
-        encoding: match s.encoding {
-            Encoding::Group4 => theirs::EncodingMode::Group4,
-            Encoding::Group3OneD => theirs::EncodingMode::Group3_1D,
-            Encoding::Group3TwoD => theirs::EncodingMode::Group3_2D,
-        },
-        strict: s.strict,
-    }
-}
 
 #[derive(Default)]
 struct Sink {
@@ -34,22 +19,14 @@ impl theirs::Decoder for Sink {
     }
 }
 
-fn number_of(error: theirs::DecodeError) -> u32 {
-    match error {
-        theirs::DecodeError::InvalidCode => 1,
-        theirs::DecodeError::UnexpectedEof => 2,
-        theirs::DecodeError::Overflow => 3,
-    }
-}
-
 /// A whole page.
 pub fn page(settings: &Settings, src: &[u8]) -> Outcome {
     let mut sink = Sink::default();
-    let mut context = theirs::DecoderContext::new(settings_of(settings));
+    let mut context = theirs::DecoderContext::new(settings_of!(theirs, settings));
     theirs::place::take_units();
     let result = theirs::decode(src, &mut sink, &mut context);
     let (number, place, bytes) =
-        result.map_or_else(|error| (number_of(error), theirs::place::last() as u64, 0), |bytes| (0, 0, bytes as u64));
+        result.map_or_else(|error| (number_of!(theirs, error), theirs::place::last() as u64, 0), |bytes| (0, 0, bytes as u64));
     if number != 0 {
         sink.changes.extend_from_slice(context.unfinished());
     }
@@ -60,7 +37,7 @@ pub fn page(settings: &Settings, src: &[u8]) -> Outcome {
 
 /// One line.
 pub fn line(ask: &Ask) -> Outcome {
-    let mut context = theirs::DecoderContext::new(settings_of(&ask.settings));
+    let mut context = theirs::DecoderContext::new(settings_of!(theirs, &ask.settings));
     let result = context.read_line(&ask.src, ask.at as usize, &ask.first);
     let changes = context.unfinished().to_vec();
     match result {
@@ -68,6 +45,6 @@ pub fn line(ask: &Ask) -> Outcome {
             let (ends, marks) = (vec![changes.len() as u32], vec![context.mark()]);
             Outcome { bytes: bit as u64, changes, ends, marks, ..Outcome::bare(0, 0) }
         }
-        Err(error) => Outcome { changes, ..Outcome::bare(number_of(error), theirs::place::last() as u64) },
+        Err(error) => Outcome { changes, ..Outcome::bare(number_of!(theirs, error), theirs::place::last() as u64) },
     }
 }
