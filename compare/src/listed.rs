@@ -1,12 +1,11 @@
 //! Lists of written pages that are the same in every run, so that what other decoders read from them
 //! can be recorded.
 
-use crate::bits::Bits;
 use crate::call::Layout;
 use crate::case::Case;
 use crate::checks::group3_writers::page_case;
-use crate::checks::writers::{encoded, written_page};
-use crate::group3;
+use crate::checks::writers::written_page;
+use crate::layouts::{encoded, lines};
 use crate::random::Random;
 use crate::rows::{WIDTHS, random_rows};
 use std::io;
@@ -85,15 +84,8 @@ impl ListedPage {
         ListedPage { list, number, columns, rows, layout: list.layout(&mut random) }
     }
 
-    fn bits(&self) -> Bits {
-        match self.layout {
-            None => encoded(self.columns, &self.rows),
-            Some(layout) => group3::encoded(layout, self.columns, &self.rows),
-        }
-    }
-
     pub fn bytes(&self) -> Vec<u8> {
-        self.bits().into_bytes()
+        encoded(self.layout, self.columns, &self.rows).into_bytes()
     }
 
     /// What libtiff's encoder is to write for the rows: the page; of Group 3 without fill, with K = 2, and without
@@ -101,7 +93,7 @@ impl ListedPage {
     pub fn by_libtiff(&self) -> Vec<u8> {
         match self.layout {
             None => self.bytes(),
-            Some(layout) => group3::lines(layout.as_libtiff(), self.columns, &self.rows).into_bytes(),
+            Some(layout) => lines(layout.as_libtiff(), self.columns, &self.rows).into_bytes(),
         }
     }
 

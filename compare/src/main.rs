@@ -22,10 +22,10 @@ mod damage;
 mod encoder;
 #[cfg(test)]
 mod faults;
-mod group3;
 mod heads;
 #[cfg(feature = "linked")]
 mod huge;
+mod layouts;
 #[cfg(feature = "linked")]
 mod linked;
 mod listed;

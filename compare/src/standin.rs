@@ -11,10 +11,9 @@ use crate::bits::Bits;
 use crate::by_row::{self, Page, Store};
 use crate::by_unit;
 use crate::call::{Answer, Ask, BYTE_MARGIN, Call, Form, Layout, Replies, Room, Steps};
-use crate::checks::writers::encoded;
 use crate::codes::LONGEST;
 use crate::encoder::put_line_2d;
-use crate::group3;
+use crate::layouts;
 use crate::ours::Ours;
 use crate::settings::Settings;
 use crate::truth::{LIMIT, Outcome, Wanted, ascends_below};
@@ -250,7 +249,7 @@ impl Standin {
     /// What a Group 3 writer tests besides: the caller's number before the rows, and that there are rows.
     fn group3_refusal(&self, ask: &Ask, layout: Layout) -> u32 {
         let rows = !ask.second.is_empty() || self.0 == Fault::NoRowsWritten;
-        match (group3::allowed(layout) || self.0 == Fault::OneTooMany && just_past(layout), rows) {
+        match (layouts::allowed(layout) || self.0 == Fault::OneTooMany && just_past(layout), rows) {
             (false, false) if self.0 == Fault::EightBeforeTen => 8,
             (false, _) => 10,
             (true, false) => 8,
@@ -267,19 +266,19 @@ impl Standin {
         let mut bits = Bits::default();
         for (index, row) in rows.iter().enumerate() {
             if index > 0 || self.0 != Fault::FirstEolMissing {
-                group3::put_ahead(&mut bits, layout, group3::is_1d(layout, index) != (self.0 == Fault::TagsExchanged));
+                layouts::put_ahead(&mut bits, layout, layouts::is_1d(layout, index) != (self.0 == Fault::TagsExchanged));
             }
-            let reference = group3::reference(layout, rows, index).map(|above| match (self.0, index) {
+            let reference = layouts::reference(layout, rows, index).map(|above| match (self.0, index) {
                 (Fault::RowBeforeLast, 2..) => rows[index - 2].as_slice(),
                 _ => above,
             });
-            group3::put_line(&mut bits, columns, reference, row);
+            layouts::put_line(&mut bits, columns, reference, row);
         }
         match (self.0, layout) {
-            (Fault::FiveEols, _) => group3::put_end(&mut bits, layout, 5),
-            (Fault::FillBeforeEach, _) => (0..6).for_each(|_| group3::put_ahead(&mut bits, layout, true)),
-            (Fault::RtcWithoutOnes, Layout::TwoD { .. }) => group3::put_end(&mut bits, Layout::OneD { eols: true, fill: 0 }, 6),
-            _ => group3::put_end(&mut bits, layout, 6),
+            (Fault::FiveEols, _) => layouts::put_end(&mut bits, layout, 5),
+            (Fault::FillBeforeEach, _) => (0..6).for_each(|_| layouts::put_ahead(&mut bits, layout, true)),
+            (Fault::RtcWithoutOnes, Layout::TwoD { .. }) => layouts::put_end(&mut bits, Layout::OneD { eols: true, fill: 0 }, 6),
+            _ => layouts::put_end(&mut bits, layout, 6),
         }
         bits.align();
         bits
@@ -304,7 +303,7 @@ impl Standin {
         let columns = ask.settings.columns;
         let rows = || self.rows(ask).expect("it was not refused");
         match ask.form {
-            Form::WritePage => return encoded(columns, &rows()),
+            Form::WritePage => return layouts::encoded(None, columns, &rows()),
             Form::WriteGroup3(layout) => return self.group3_page(layout, columns, &rows()),
             _ => {}
         }

@@ -268,13 +268,13 @@ pub fn ascends_below(list: &[u32], width: u32) -> bool {
 
 /// The crate's rows, one after the other.
 #[derive(Default, PartialEq, Eq)]
-struct Sink {
-    changes: Vec<u32>,
-    ends: Vec<u32>,
+pub struct Sink {
+    pub changes: Vec<u32>,
+    pub ends: Vec<u32>,
 }
 
 impl Sink {
-    fn push(&mut self, row: &[u32]) {
+    pub fn push(&mut self, row: &[u32]) {
         self.changes.extend_from_slice(row);
         self.ends.push(self.changes.len() as u32);
     }

@@ -7,7 +7,7 @@ use crate::bits::Bits;
 use crate::call::{Ask, Layout};
 use crate::case::{Case, Source};
 use crate::codes::EOL;
-use crate::group3::{put_end, put_line};
+use crate::layouts::{put_end, put_line};
 use crate::random::Random;
 use crate::rooms::page_case;
 use crate::rows::{WIDTHS, random_rows};

@@ -3,7 +3,7 @@
 
 use crate::call::{Ask, Room};
 use crate::case::{Case, Plan, Source};
-use crate::checks::writers::encoded;
+use crate::layouts::encoded;
 use crate::random::Random;
 use crate::rows::random_rows;
 use crate::settings::Settings;
@@ -28,7 +28,7 @@ impl Source for Far {
     fn case(&self, _: u64, random: &mut Random) -> Case {
         let rows = random_rows(random, COLUMNS, 12);
         let settings = Settings { end_of_block: true, ..Settings::of_line(COLUMNS, true) };
-        let mut ask = Ask::page(settings, [vec![1], encoded(COLUMNS, &rows).into_bytes()].concat());
+        let mut ask = Ask::page(settings, [vec![1], encoded(None, COLUMNS, &rows).into_bytes()].concat());
         ask.lead = FILL;
         let outcome = Outcome::of_page(&settings, &ask.data(), 0);
         let agrees = outcome.number == 0 && outcome.idle.is_none() && outcome.rows().eq(rows.iter().map(Vec::as_slice));

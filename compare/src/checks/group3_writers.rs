@@ -5,7 +5,7 @@ use crate::bits::Bits;
 use crate::call::{Ask, Layout, Room};
 use crate::case::{Case, Plan, Source};
 use crate::checks::writers::{LONG, plans, refused};
-use crate::group3::{allowed, encoded};
+use crate::layouts::{allowed, encoded};
 use crate::random::Random;
 use crate::rows::{WIDTHS, flattened, random_rows};
 use crate::settings::{Encoding, Settings};
@@ -55,7 +55,7 @@ pub fn page_case(random: &mut Random, layout: Layout, columns: u32, rows: &[Vec<
         let plan = Plan::whole(Room::Bytes(random.index(200)), random.next() as u32, refused(number));
         return Case { ask, plans: vec![plan], complaint: None };
     }
-    let page = encoded(layout, columns, rows);
+    let page = encoded(Some(layout), columns, rows);
     let plans = plans(random, &page, 0, page.len() as u64 / 8);
     let complaint = misread(random, layout, columns, rows, &page);
     Case { ask, plans, complaint }

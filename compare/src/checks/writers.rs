@@ -5,8 +5,9 @@ use crate::bits::Bits;
 use crate::call::{Answer, Ask, BYTE_MARGIN, Room, pattern_byte};
 use crate::case::{Case, Plan, Source};
 use crate::checks::sheets;
-use crate::codes::{EOL, LONGEST};
+use crate::codes::LONGEST;
 use crate::encoder::put_line_2d;
+use crate::layouts::encoded;
 use crate::random::Random;
 use crate::rows::{WIDTHS, flattened, random_row, random_rows};
 use crate::settings::Settings;
@@ -106,7 +107,7 @@ impl Source for WrittenPages {
 
 /// A page of rows, and of entries behind its last row end that are not its own.
 pub fn written_page(random: &mut Random, columns: u32, rows: &[Vec<u32>]) -> Case {
-    let page = encoded(columns, rows);
+    let page = encoded(None, columns, rows);
     let complaint = misread(random, columns, rows, &page);
     let (mut changes, ends) = flattened(rows);
     if random.chance(30) {
@@ -114,20 +115,6 @@ pub fn written_page(random: &mut Random, columns: u32, rows: &[Vec<u32>]) -> Cas
     }
     let plans = plans(random, &page, 0, page.len() as u64 / 8);
     Case { ask: Ask::write_page(columns, changes, ends), plans, complaint }
-}
-
-/// A page as document 01 has it: lines from a white reference, EOFB, zeros to a byte.
-pub fn encoded(columns: u32, rows: &[Vec<u32>]) -> Bits {
-    let mut bits = Bits::default();
-    let mut reference: &[u32] = &[];
-    for row in rows {
-        put_line_2d(&mut bits, columns, reference, row, LONGEST);
-        reference = row;
-    }
-    bits.code(EOL);
-    bits.code(EOL);
-    bits.align();
-    bits
 }
 
 /// Demand 3 on the crate: the page gives back its rows and its length, whatever bytes follow, and cut
@@ -241,7 +228,7 @@ impl Source for WrittenTexts {
         let text = &self.0[index as usize];
         let outcome = Outcome::of_page(&text.settings, &text.src, 0);
         let rows: Vec<Vec<u32>> = outcome.rows().map(<[u32]>::to_vec).collect();
-        let page = encoded(text.settings.columns, &rows).into_bytes();
+        let page = encoded(None, text.settings.columns, &rows).into_bytes();
         written_page(random, text.settings.columns, &rows)
             .require(page == text.src, || format!("{}: the page's own encoder wrote other bytes", text.name))
     }

@@ -3,11 +3,10 @@
 use super::{Package, Way};
 use crate::bits::Bits;
 use crate::call::{Answer, Ask, Layout, Room};
-use crate::checks::writers::encoded;
 use crate::codes::LONGEST;
 use crate::encoder::put_line_2d;
 use crate::faults::faults;
-use crate::group3;
+use crate::layouts::{allowed, encoded};
 use crate::settings::Settings;
 use crate::truth::{Outcome, Wanted, ascends_below};
 
@@ -77,7 +76,7 @@ impl Package for Standin {
         if columns == 0 || columns == u32::MAX {
             return Wanted::untouched(Answer::bare(6));
         }
-        if layout.is_some_and(|layout| !group3::allowed(layout) && self.0 != Fault::LayoutTaken) {
+        if layout.is_some_and(|layout| !allowed(layout) && self.0 != Fault::LayoutTaken) {
             return Wanted::untouched(Answer::bare(10));
         }
         if layout.is_some() && rows.is_empty() && self.0 != Fault::NoRowsTaken {
@@ -87,11 +86,7 @@ impl Package for Standin {
             return Wanted::untouched(Answer::bare(8));
         }
         let rows: Vec<Vec<u32>> = rows.iter().map(|row| row.to_vec()).collect();
-        let mut page = match layout {
-            None => encoded(columns, &rows),
-            Some(layout) => group3::encoded(self.spoil_layout(layout), columns, &rows),
-        }
-        .into_bytes();
+        let mut page = encoded(layout.map(|layout| self.spoil_layout(layout)), columns, &rows).into_bytes();
         if self.0 == Fault::WrittenBit && rows.len() > 3 {
             page[1] ^= 1;
         }

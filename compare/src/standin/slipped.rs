@@ -3,19 +3,12 @@
 use crate::call::Ask;
 use crate::copies::{number_of, settings_of};
 use crate::settings::Settings;
-use crate::truth::{Idle, Outcome};
+use crate::truth::{Idle, Outcome, Sink};
 use hayro_ccitt_slipped as theirs;
-
-#[derive(Default)]
-struct Sink {
-    changes: Vec<u32>,
-    ends: Vec<u32>,
-}
 
 impl theirs::Decoder for Sink {
     fn push_row(&mut self, changes: &[u32]) {
-        self.changes.extend_from_slice(changes);
-        self.ends.push(self.changes.len() as u32);
+        self.push(changes);
     }
 }
 

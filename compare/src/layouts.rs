@@ -1,4 +1,4 @@
-//! Group 3 pages as document 02 has them written (A3, A10), by the encoder of this package.
+//! Pages as documents 01 (T.6) and 02 (Group 3: A3, A10) have them written, by the encoder of this package.
 
 use crate::bits::Bits;
 use crate::call::Layout;
@@ -13,15 +13,34 @@ pub fn allowed(layout: Layout) -> bool {
     }
 }
 
-/// A page of rows, and zeros to a byte.
-pub fn encoded(layout: Layout, columns: u32, rows: &[Vec<u32>]) -> Bits {
-    let mut bits = lines(layout, columns, rows);
-    put_end(&mut bits, layout, 6);
+/// A page of rows, of T.6 or of Group 3 in some layout, and zeros to a byte.
+pub fn encoded(layout: Option<Layout>, columns: u32, rows: &[Vec<u32>]) -> Bits {
+    let mut bits = match layout {
+        None => group4(columns, rows),
+        Some(layout) => {
+            let mut bits = lines(layout, columns, rows);
+            put_end(&mut bits, layout, 6);
+            bits
+        }
+    };
     bits.align();
     bits
 }
 
-/// Lines, each with what stands before it.
+/// Lines from a white reference, and EOFB.
+fn group4(columns: u32, rows: &[Vec<u32>]) -> Bits {
+    let mut bits = Bits::default();
+    let mut reference: &[u32] = &[];
+    for row in rows {
+        put_line_2d(&mut bits, columns, reference, row, LONGEST);
+        reference = row;
+    }
+    bits.code(EOL);
+    bits.code(EOL);
+    bits
+}
+
+/// Group 3 lines, each with what stands before it.
 pub fn lines(layout: Layout, columns: u32, rows: &[Vec<u32>]) -> Bits {
     let mut bits = Bits::default();
     for (index, row) in rows.iter().enumerate() {
