@@ -188,11 +188,11 @@ impl Reading<'_> {
         if repeated == *answer && state == self.state && after == lines { Ok(()) } else { Err(Complaint::NotRepeated) }
     }
 
-    /// One of the states that no call leaves, by its number; it is 8, behind 6 and 7.
-    fn forge(&mut self, which: usize) -> Result<(), Complaint> {
+    /// Numbers of the state, and what none of them can be.
+    fn forged_numbers(&self) -> [(usize, u64); 15] {
         let bits = 8 * self.page.src.len() as u64;
         let held = self.lines.array(self.state[SIDE]).len() as u64;
-        let numbers = [
+        [
             (AT, bits + 1),
             (AT, u64::MAX),
             (ROWS, bits + 2),
@@ -208,7 +208,12 @@ impl Reading<'_> {
             (PLACE, 1),
             (PLACE + 1, 1),
             (PLACE + 2, 1),
-        ];
+        ]
+    }
+
+    /// One of the states that no call leaves, by its number; it is 8, behind 6 and 7.
+    fn forge(&mut self, which: usize) -> Result<(), Complaint> {
+        let numbers = self.forged_numbers();
         let (mut state, mut lines, mut page) = (self.state.to_vec(), self.lines.clone(), *self.page);
         match which % (4 + numbers.len() + ENDS.len()) {
             0 => state.push(0),

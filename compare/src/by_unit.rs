@@ -243,12 +243,12 @@ impl Reading<'_> {
         (state, Held::of(&self.store))
     }
 
-    /// A page that goes on, from a state with one number, or over arrays with one entry, that none has.
-    fn forged_state(&mut self) -> (Vec<u64>, Held) {
+    /// Numbers of the state, and what none of them can be.
+    fn forged_numbers(&self) -> [(usize, u64); 23] {
         let bits = 8 * self.page.src.len() as u64;
         let places = self.store.ends.len().min(self.store.marks.len()) as u64;
         let room = self.store.changes.len() as u64;
-        let numbers = [
+        [
             (PHASE, 4),
             (PHASE, u64::MAX),
             (AT, bits + 1),
@@ -272,7 +272,14 @@ impl Reading<'_> {
             (ENTRIES, 1),
             (BYTES, 1),
             (PLACE, 1),
-        ];
+        ]
+    }
+
+    /// A page that goes on, from a state with one number, or over arrays with one entry, that none has.
+    fn forged_state(&mut self) -> (Vec<u64>, Held) {
+        let bits = 8 * self.page.src.len() as u64;
+        let room = self.store.changes.len() as u64;
+        let numbers = self.forged_numbers();
         let (mut state, mut held) = (self.state.to_vec(), Held::of(&self.store));
         let rows = self.state[ROWS] as usize;
         let (start, base) = (held.base(rows.saturating_sub(1)), held.base(rows));
