@@ -26,7 +26,7 @@ static uint32_t first[ROOM], second[ROOM];
 static struct page page, again;
 
 static void show(const ccitt_answer *a) {
-    if (a->number == 0)
+    if (a->number == CCITT_COMPLETE)
         printf("done: %llu rows, %llu changes, %llu bytes\n", (unsigned long long)a->rows, (unsigned long long)a->entries, (unsigned long long)a->bytes);
     else
         printf("answer %u at bit %llu, behind %llu rows\n", (unsigned)a->number, (unsigned long long)a->place, (unsigned long long)a->rows);
@@ -36,7 +36,7 @@ static void show(const ccitt_answer *a) {
 static ccitt_answer by_row(size_t length, uint32_t columns, uint64_t shown) {
     uint64_t state[CCITT_ROW_STATE] = {0};
     ccitt_answer a;
-    while ((a = ccitt_read_row(data, length, columns, 0, true, false, false, 0, true, false, false, state, CCITT_ROW_STATE, first, ROOM, second, ROOM)).number == 15) {
+    while ((a = ccitt_read_row(data, length, columns, 0, true, false, false, CCITT_GROUP4, true, false, false, state, CCITT_ROW_STATE, first, ROOM, second, ROOM)).number == CCITT_MORE_TO_COME) {
         const uint32_t *row = CCITT_ROW(state, first, second);
         if (a.rows != shown) continue;
         printf("row %llu, mark %u:", (unsigned long long)a.rows, (unsigned)a.mark);
@@ -60,7 +60,7 @@ static void by_unit(size_t length) {
     do {
         u = ccitt_read_units(data, length, page.columns, 0, true, false, true, false, false, again.changes, ROOM, again.ends, ROOM, again.marks, ROOM, state, CCITT_UNIT_STATE, 256);
         units += u.units;
-    } while (u.answer.number == 15);
+    } while (u.answer.number == CCITT_MORE_TO_COME);
     again.answer = u.answer;
     printf("in %llu units: answer %u, %s\n", (unsigned long long)units, (unsigned)u.answer.number, which_rows());
 }
@@ -75,13 +75,13 @@ static void one_line(uint64_t shown) {
     size_t above_len = (size_t)(row - above), row_len = start(shown) - start(shown - 1);
     ccitt_answer w = ccitt_write_line(page.columns, above, above_len, row, row_len, written, LONGEST, 0);
     ccitt_answer r = ccitt_read_line(written, (size_t)(w.bytes + 7) / 8, 0, page.columns, true, above, above_len, first, ROOM);
-    bool same = r.number == 0 && r.bytes == w.bytes && r.entries == row_len && memcmp(first, row, row_len * sizeof *row) == 0;
+    bool same = r.number == CCITT_COMPLETE && r.bytes == w.bytes && r.entries == row_len && memcmp(first, row, row_len * sizeof *row) == 0;
     printf("its line: answer %u, %llu bits, read again as %s\n", (unsigned)w.number, (unsigned long long)w.bytes, same ? "the same row" : "another");
 }
 
 /* What a writer wrote, read again: all of it? */
 static void compare(const char *encoding, const ccitt_answer *a) {
-    bool whole = again.answer.number == 0 && again.answer.bytes == a->bytes;
+    bool whole = again.answer.number == CCITT_COMPLETE && again.answer.bytes == a->bytes;
     printf("written in %s: answer %u, %llu bytes, read again as %s\n", encoding, (unsigned)a->number, (unsigned long long)a->bytes, whole ? which_rows() : "another page");
 }
 
@@ -111,7 +111,7 @@ static void count_heads(void) {
             memcpy(boxes[digit][column], edges, sizeof edges);
         }
     ccitt_heads_answer h = ccitt_heads(page.columns, page.changes, (size_t)page.answer.entries, page.ends, (size_t)page.answer.rows, page.marks, (size_t)page.answer.rows, &boxes[0][0][0], 80, 20, 39);
-    if (h.number == 0)
+    if (h.number == CCITT_COMPLETE)
         printf("heads: %lu, %ld left\n", (unsigned long)h.heads, (long)h.left);
     else
         printf("heads: answer %u\n", (unsigned)h.number);

@@ -13,14 +13,40 @@
 extern "C" {
 #endif
 
-/* number: 0 done; 1 invalid code; 2 unexpected end of the data; 3 overflow; 4 no entry left for a change; 5 no place left for a row's end with
-           its mark;
-           6 columns 4294967295 (for one line or a writer also 0); 7 data or output above 4294967296 bytes;
-           8 a row or reference that does not ascend strictly below the columns, or row ends that fall or pass the array, or a Group 3 page of no
-           rows to write; 9 the bits do not fit; 10 fill above 64, a K of 0 or above 65535, or no units to take;
-           14 an exact page that ends with fewer rows than it is to have; 15 a row, or the units that were asked for, were read, and there may be more.
-           Refusals are tested in the order 6, 7, 10, 8, 9; by the unit form 10 before them all.
-   mark:    for a form that gives one row its mark: 0 clean, 1 cut to the width, 2 recovered; else 0.
+/* The numbers of an answer. Refusals, 6 to 13, leave every array as it was; they are tested in the order 6, 7, 10, 8, 9, by the unit form 10 before them all,
+   and for the heads 8, 11, 13, 12. */
+enum {
+    CCITT_COMPLETE = 0,
+    CCITT_INVALID_CODE = 1,
+    CCITT_UNEXPECTED_EOF = 2, /* the data ends first */
+    CCITT_OVERFLOW = 3,       /* a run above 4294967295 pixels, or a move off the line */
+    CCITT_NO_ENTRY = 4,       /* no entry is left for a change */
+    CCITT_NO_ROW_END = 5,     /* no place is left for a row's end with its mark */
+    CCITT_BAD_WIDTH = 6,      /* columns 4294967295; for one line or a writer also 0 */
+    CCITT_TOO_LONG = 7,       /* data or output above 4294967296 bytes */
+    CCITT_BAD_ROWS = 8,       /* a row or reference that does not ascend strictly below the columns, row ends that fall or pass the array, a Group 3 page
+                                 of no rows to write, a state that no call left; for the heads also a row without a mark */
+    CCITT_NO_FIT = 9,         /* the bits do not fit the output */
+    CCITT_BAD_NUMBER = 10,    /* fill above 64, a K of 0 or above 65535, or no units to take */
+    CCITT_BAD_FORM = 11,      /* an edge pair out of order, a least of 0, a quota outside -1000000 to 1000000, or not eighty numbers for the boxes */
+    CCITT_NOT_ONE_TICK = 12,  /* not exactly one tick in a column */
+    CCITT_MENDED_ROW = 13,    /* a box holds a pixel of a row that was not read clean */
+    CCITT_TOO_FEW_ROWS = 14,  /* an exact page that ends with fewer rows than it is to have */
+    CCITT_MORE_TO_COME = 15   /* a row, or the units that were asked for, were read, and there may be more */
+};
+
+/* A row's mark. */
+enum {
+    CCITT_CLEAN = 0,
+    CCITT_CUT = 1,      /* cut to the width: a lenient count was shortened in it */
+    CCITT_RECOVERED = 2 /* a damaged line, white from the fault on */
+};
+
+/* The encodings, for the row form. */
+enum { CCITT_GROUP4 = 0, CCITT_GROUP3_1D = 1, CCITT_GROUP3_2D = 2 };
+
+/* number:  one of the list above.
+   mark:    for a form that gives one row its mark; else 0.
    rows:    rows kept. Row n's changes lie in `changes` from ends[n - 1] (0 for the first) to ends[n].
    entries: entries in kept rows.
    loose:   entries behind them that belong to an unfinished row.
@@ -37,8 +63,7 @@ typedef struct {
     uint64_t place;
 } ccitt_answer;
 
-/* A page of the given encoding. rows 0: to the end of block or of the data. marks[n] is the mark of row n, beside its end: 0 read clean, 1 cut to
-   the width (a lenient count was shortened in it), 2 recovered (a damaged line, white from the fault on).
+/* A page of the given encoding. rows 0: to the end of block or of the data. marks[n] is the mark of row n, beside its end.
    exact: stricter than strict, which it implies. A vertical move to the position that it starts from, other than the line's first code moving to 0,
    and a horizontal code with two zero runs answer 1, at their mode code; a page that ends with fewer rows than `rows`, if that is not 0, answers 14
    and keeps its rows.
@@ -63,7 +88,7 @@ ccitt_answer ccitt_read_line(const uint8_t *src, size_t src_len, uint64_t at, ui
                              const uint32_t *reference, size_t reference_len, uint32_t *changes, size_t changes_len);
 
 /* A page a row at a time: one row a call, into one of two line arrays, without a store for the page. Lend the same two arrays and the same ten numbers
-   of state at each call, and leave them as they were left; before the page's first call the numbers are all 0. encoding: 0 Group 4, 1 Group 3 1D, 2 Group 3 2D.
+   of state at each call, and leave them as they were left; before the page's first call the numbers are all 0.
    number: 15 a row was read, and there may be more: CCITT_ROW(state, first, second) points at its changes, CCITT_ROW_LENGTH(state) says how many they are, mark
            is its mark, and rows and entries count what was given so far. 0 to 4 and 14 are the page's end: 0 to 3 and 14 as of a page, 4 where the row has
            more changes than the array it goes to holds. The entries of an unfinished row, if any, are the first `loose` of CCITT_LOOSE(state, first, second).
@@ -126,9 +151,7 @@ ccitt_answer ccitt_write_group3_1d(uint32_t columns, const uint32_t *changes, si
 ccitt_answer ccitt_write_group3_2d(uint32_t columns, const uint32_t *changes, size_t changes_len, const uint64_t *ends, size_t ends_len,
                                    uint32_t k, uint8_t *out, size_t out_len);
 
-/* number: 0 done; 8 a row that does not ascend strictly below the columns, row ends that fall or pass the array, or a row without a mark of 0, 1 or 2;
-           11 an edge pair out of order, a least of 0, a quota outside -1000000 to 1000000, or not eighty numbers for the boxes;
-           13 a box holds a pixel of a row that was not read clean; 12 not exactly one tick in a column. They are tested in this order.
+/* number: 0, 8, 11, 12 or 13 of the list above.
    heads:  after 0 ten times the ticked tens digit and the ticked units digit; else 0.
    left:   after 0 the quota less the heads, which may be below zero; else 0. */
 typedef struct {

@@ -24,15 +24,28 @@ pub(crate) struct Answer {
     pub(crate) place: u64,
 }
 
+/// The numbers of an answer, as include/ccitt.h names them.
 impl Answer {
+    pub(crate) const COMPLETE: u32 = 0;
+    pub(crate) const INVALID_CODE: u32 = 1;
+    pub(crate) const UNEXPECTED_EOF: u32 = 2;
+    pub(crate) const OVERFLOW: u32 = 3;
     /// No entry left for a change.
     pub(crate) const NO_ENTRY: u32 = 4;
     /// No place left for a row's end with its mark.
-    pub(crate) const NO_PLACE: u32 = 5;
+    pub(crate) const NO_ROW_END: u32 = 5;
+    pub(crate) const BAD_WIDTH: u32 = 6;
+    pub(crate) const TOO_LONG: u32 = 7;
+    pub(crate) const BAD_ROWS: u32 = 8;
     /// The bits do not fit.
-    pub(crate) const NO_ROOM: u32 = 9;
+    pub(crate) const NO_FIT: u32 = 9;
+    pub(crate) const BAD_NUMBER: u32 = 10;
+    pub(crate) const BAD_FORM: u32 = 11;
+    pub(crate) const NOT_ONE_TICK: u32 = 12;
+    pub(crate) const MENDED_ROW: u32 = 13;
+    pub(crate) const TOO_FEW_ROWS: u32 = 14;
     /// A row, or the units that were asked for, were read, and there may be more.
-    pub(crate) const MORE: u32 = 15;
+    pub(crate) const MORE_TO_COME: u32 = 15;
 }
 
 /// An answer of the unit form, as C has it.
@@ -84,6 +97,11 @@ unsafe extern "C" {
     fn ccitt_heads(columns: u32, changes: *const u32, changes_len: usize, ends: *const u64, ends_len: usize, marks: *const u8, marks_len: usize,
         boxes: *const u32, boxes_len: usize, least: u64, quota: i32) -> HeadsAnswer;
 }
+
+// The encodings, for the row form.
+const GROUP4: u32 = 0;
+const GROUP3_1D: u32 = 1;
+const GROUP3_2D: u32 = 2;
 
 /// A page's rows: row n's changes lie from `ends[n - 1]`, or 0, to `ends[n]`, and `marks[n]` says how it was read.
 #[derive(Default)]
@@ -143,9 +161,9 @@ unsafe fn page_into(data: &[u8], settings: &Settings, rows: &mut Rows, changes: 
 pub(crate) fn read_row(data: &[u8], settings: &Settings, state: &mut [u64; 10], first: &mut [u32], second: &mut [u32]) -> Answer {
     let DecodeSettings { columns, rows, end_of_block, end_of_line, rows_are_byte_aligned, encoding, strict } = settings.settings;
     let encoding = match encoding {
-        EncodingMode::Group4 => 0,
-        EncodingMode::Group3_1D => 1,
-        EncodingMode::Group3_2D => 2,
+        EncodingMode::Group4 => GROUP4,
+        EncodingMode::Group3_1D => GROUP3_1D,
+        EncodingMode::Group3_2D => GROUP3_2D,
     };
     // SAFETY: each pointer stands with the length of its slice, and the three lent arrays and the answer are apart.
     told(|answer| unsafe {

@@ -31,7 +31,7 @@ impl Memory {
             start = end;
         }
         match answer.number {
-            Answer::NO_ENTRY | Answer::NO_PLACE => self.read_on(data, settings, answer.rows, push),
+            Answer::NO_ENTRY | Answer::NO_ROW_END => self.read_on(data, settings, answer.rows, push),
             _ => answer,
         }
     }
@@ -41,7 +41,7 @@ impl Memory {
         self.by_row.begin();
         loop {
             let answer = self.by_row.read(data, settings);
-            if answer.number != Answer::MORE {
+            if answer.number != Answer::MORE_TO_COME {
                 return answer;
             }
             if answer.rows > pushed {

@@ -45,18 +45,18 @@ impl Fault {
     pub(crate) fn of(number: u32, place: u64) -> Option<Self> {
         let code = |error| Self::Code { error, bit: place };
         Some(match number {
-            0 => return None,
-            1 => code(DecodeError::InvalidCode),
-            2 => code(DecodeError::UnexpectedEof),
-            3 => code(DecodeError::Overflow),
-            6 => Self::Columns,
-            7 => Self::TooLong,
-            8 => Self::NotARow,
-            10 => Self::Layout,
-            11 => Self::Form,
-            12 => Self::Ticks,
-            13 => Self::Mended,
-            14 => Self::TooFewRows,
+            Answer::COMPLETE => return None,
+            Answer::INVALID_CODE => code(DecodeError::InvalidCode),
+            Answer::UNEXPECTED_EOF => code(DecodeError::UnexpectedEof),
+            Answer::OVERFLOW => code(DecodeError::Overflow),
+            Answer::BAD_WIDTH => Self::Columns,
+            Answer::TOO_LONG => Self::TooLong,
+            Answer::BAD_ROWS => Self::NotARow,
+            Answer::BAD_NUMBER => Self::Layout,
+            Answer::BAD_FORM => Self::Form,
+            Answer::NOT_ONE_TICK => Self::Ticks,
+            Answer::MENDED_ROW => Self::Mended,
+            Answer::TOO_FEW_ROWS => Self::TooFewRows,
             _ => unreachable!("the library answers {number}"),
         })
     }

@@ -98,7 +98,7 @@ impl<'a> Rows<'a> {
             return end.map(|_| None);
         }
         let answer = self.by_row.read(self.data, &self.settings);
-        if answer.number == Answer::MORE {
+        if answer.number == Answer::MORE_TO_COME {
             return Ok(Some(Row { changes: self.by_row.row(), mark: Mark::of(answer.mark) }));
         }
         let end = Fault::unless_done(&answer).map(|()| answer.bytes as usize);

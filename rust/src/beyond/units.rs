@@ -82,7 +82,7 @@ impl<'a> Units<'a> {
         }
         let library::UnitAnswer { answer, units } = self.take(n.get());
         self.kept = (answer.rows as usize, answer.entries as usize, answer.loose as usize);
-        let more = answer.number == Answer::MORE;
+        let more = answer.number == Answer::MORE_TO_COME;
         self.end = (!more).then(|| Fault::unless_done(&answer).map(|()| answer.bytes as usize));
         Turn { units, more }
     }
@@ -103,7 +103,7 @@ impl<'a> Units<'a> {
     fn grown(&mut self, answer: &Answer) -> bool {
         match answer.number {
             Answer::NO_ENTRY => longer(&mut self.store.changes),
-            Answer::NO_PLACE => {
+            Answer::NO_ROW_END => {
                 longer(&mut self.store.ends);
                 longer(&mut self.store.marks);
             }

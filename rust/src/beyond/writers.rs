@@ -161,7 +161,7 @@ fn enough(columns: u32, changes: usize, rows: usize) -> Option<usize> {
 fn write(out: &mut Vec<u8>, at: u64, mut more: usize, mut write: impl FnMut(&mut [u8]) -> Answer) -> Result<Answer, Fault> {
     loop {
         let answer = write(out);
-        if answer.number != Answer::NO_ROOM {
+        if answer.number != Answer::NO_FIT {
             return Fault::unless_done(&answer).map(|()| answer);
         }
         if at > 8 * out.len() as u64 {
