@@ -1,25 +1,17 @@
-// Runs the two lent forms by their functions with plain parameters: a reader in a local that is lent to `consume`, `align` and
-// `peek_u32`, and a line in a local that is lent to `push_pixels`.
+// The two lent forms (01), by their functions with plain parameters: a reader in a local that is lent to `consume`, `align` and `peek_u32`, and a
+// line in a local that is lent to `push_pixels`.
+use libc::STDOUT_FILENO;
 use reader::cursor;
-
-fn wide(x: u32) -> u64 {
-    x as u64
-}
-
-fn cell(value: u64) {
-    io::write_all(1, b"\t");
-    io::print_decimal(1, value);
-}
 
 // The bits taken, the answer, and the word behind them.
 fn show_word(src: &[u8], n: usize) {
     let word = reader::word_after(src, n);
     let answer = word.answer;
-    io::write_all(1, b"word");
-    cell(n as u64);
-    cell(wide(cursor::number(answer)));
-    cell(wide(word.bits));
-    io::write_all(1, b"\n");
+    io::write_all(STDOUT_FILENO, b"word");
+    crate::field(n as u64);
+    crate::field(cursor::number(answer) as u64);
+    crate::field(word.bits as u64);
+    io::write_all(STDOUT_FILENO, b"\n");
 }
 
 // The number, the line's five fields, and the first entry.
@@ -27,18 +19,18 @@ fn show_run(width: u32, colour: u32, count: u32, strict: bool) {
     let mut changes = [99u32; 1];
     let pushed = lent::first_run(width, colour, &mut changes, count, strict);
     let line = pushed.line;
-    io::write_all(1, b"run");
-    cell(wide(pushed.number));
-    cell(wide(line.width));
-    cell(wide(line.position));
-    cell(line.changes as u64);
-    cell(wide(line.colour));
-    cell(wide(line.cut));
-    cell(wide(changes[0]));
-    io::write_all(1, b"\n");
+    io::write_all(STDOUT_FILENO, b"run");
+    crate::field(pushed.number as u64);
+    crate::field(line.width as u64);
+    crate::field(line.position as u64);
+    crate::field(line.changes as u64);
+    crate::field(line.colour as u64);
+    crate::field(line.cut as u64);
+    crate::field(changes[0] as u64);
+    io::write_all(STDOUT_FILENO, b"\n");
 }
 
-fn main() {
+pub(crate) fn forms() {
     let data = b"\x12\x34\x56\x78\x9a\xbc\xde\xf0";
     show_word(data, 0);
     show_word(data, 3);
