@@ -1,5 +1,5 @@
-// The row form (02, A1): one row a call, into one of two lent line arrays, under the row that the call before it left in the other. The same
-// two arrays are lent in the same order at each call, and the state is handed back as left.
+// The row form (02, A1): one row a call, into one of two lent line arrays, under the row that the call before it left in the other.
+// The same two arrays are lent in the same order at each call, and the state is handed back as left.
 use answer::Answer;
 use context::reference;
 use context::reference::Reference;

@@ -1,5 +1,6 @@
-// A Group 4 page a little at a time (02, A9): at most so many units a call. A unit is one mode code, one make-up code, one terminating code or
-// one EOL, and a code that fails is one too. The same arrays are lent at each call, and they and the state are handed back as left.
+// A Group 4 page a little at a time (02, A9): at most so many units a call. A unit is one mode code, one make-up code, one
+// terminating code or one EOL, and a code that fails is one too. The same arrays are lent at each call, and they and the state are
+// handed back as left.
 mod stand;
 mod state;
 mod take;
@@ -24,9 +25,9 @@ pub enum Phase {
     Second,
 }
 
-// An open page's state: what comes next and its bit; the EOLs read before the next line; the rows kept, whose entries the last row end counts; the
-// line's position, colour, changes so far and cut flag; the run's sum so far and its first bit; the mode code's bit; and whether the first run
-// moved nothing. What a phase does not need is 0.
+// An open page's state: what comes next and its bit; the EOLs read before the next line; the rows kept, whose entries the last row
+// end counts; the line's position, colour, changes so far and cut flag; the run's sum so far and its first bit; the mode code's
+// bit; and whether the first run moved nothing. What a phase does not need is 0.
 pub struct Saved {
     pub phase: Phase,
     pub at: usize,
@@ -42,8 +43,8 @@ pub struct Saved {
     pub blank: bool,
 }
 
-// How a page ended: with a number of the list, 0 to 5 or 14, and with what that number may have beside it, so that no other end can be repeated:
-// 0 its bytes; 1, 2 and 3 the bit at fault and the loose entries; 4 and 5 the loose entries; 14 nothing.
+// How a page ended: with a number of the list, 0 to 5 or 14, and with what that number may have beside it, so that no other end can
+// be repeated: 0 its bytes; 1, 2 and 3 the bit at fault and the loose entries; 4 and 5 the loose entries; 14 nothing.
 pub enum End {
     Done(u64),
     InvalidCode(u64, u64),

@@ -20,8 +20,8 @@ pub(crate) enum Half {
     Second(usize, bool),
 }
 
-// Between rows, with the EOLs read so far; in a line, before the mode code at a bit; or in a run, with the line as it was before it, the run's
-// first bit, its sum so far, and its next bit.
+// Between rows, with the EOLs read so far; in a line, before the mode code at a bit; or in a run, with the line as it was before
+// it, the run's first bit, its sum so far, and its next bit.
 pub(crate) enum Stand {
     Between(Eols),
     InLine(Line, usize),

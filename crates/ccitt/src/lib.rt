@@ -11,7 +11,8 @@ ghost use Rattle.tables.specs.Pairs.{pairTable};
 ghost use Rattle.settings.specs.Between.{RowFrom, Rowed};
 ghost use Rattle.ccitt.specs.Decode.{counted, behindRow, Behind, PageFrom, Reads, shortFor, Decodes};
 
-// What one row does, by the encoding. The reference lies in the store, so none is lent. Each call has no other of its kind, and is so compiled in place.
+// What one row does, by the encoding. The reference lies in the store, so none is lent. Each call has no other of its kind, and is
+// so compiled in place.
 fn row<'a>(
     white: &'a [u16; 8192],
     black: &'a [u16; 8192],

@@ -11,7 +11,8 @@ ghost use Rattle.bit_reader.specs.Cursor.{Taking};
 ghost use Rattle.bit_reader.specs.Loaded.{Loading};
 ghost use Rattle.codes.specs.Modes.{kindOf, modeOf};
 
-// Each mode with the bit after its code, or the error with the bit at which the failing code began. The offset of a vertical mode is positive to the right.
+// Each mode with the bit after its code, or the error with the bit at which the failing code began. The offset of a vertical mode
+// is positive to the right.
 pub enum Mode {
     Pass(usize),
     Horizontal(usize),

@@ -82,14 +82,16 @@ pub fn read_run<'a>(
     Run::Length(total, b)
 }
 
-// One code of a run, with the sum so far: the last code, or a make-up code, each with the bit after it; or the error, and the code's first bit.
+// One code of a run, with the sum so far: the last code, or a make-up code, each with the bit after it; or the error, and the
+// code's first bit.
 pub enum Code {
     Last(u32, usize),
     More(u32, usize),
     Bad(DecodeError, usize),
 }
 
-// The code of a colour that begins at a bit, by its lookup table. The zeros that are seen past the end never complete a code: its bits must all be there.
+// The code of a colour that begins at a bit, by its lookup table. The zeros that are seen past the end never complete a code: its
+// bits must all be there.
 pub fn look_up<'a>(
     white: &'a [u16; 8192],
     black: &'a [u16; 8192],

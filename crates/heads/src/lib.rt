@@ -59,7 +59,8 @@ pub(crate) fn on_page(
     reading::heads_in(table, least, quota)
 }
 
-// A page as the decoder left it in its store, a form of ten rows of a tens box and a units box, the count from which a cell is ticked, and a quota.
+// A page as the decoder left it in its store, a form of ten rows of a tens box and a units box, the count from which a cell is
+// ticked, and a quota.
 pub fn heads(
     columns: u32,
     changes: &[u32],

@@ -1,4 +1,5 @@
-// A form as eighty numbers in one array, as C lends it: for each digit from 0 to 9 its tens box, then its units box, each as left, right, top and bottom.
+// A form as eighty numbers in one array, as C lends it: for each digit from 0 to 9 its tens box, then its units box, each as left,
+// right, top and bottom.
 use crate::Box;
 use crate::HeadsAnswer;
 use crate::store;

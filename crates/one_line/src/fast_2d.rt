@@ -59,8 +59,8 @@ fn stand_at(reference: &[u32], place: usize, line: Line, at: usize) -> Stand
     }
 }
 
-// A code by the full rules, as `line_2d::code_2d`: with this caller too that one would no longer be compiled in place in the loop of a line whose
-// reference is lent, which feels it.
+// A code by the full rules, as `line_2d::code_2d`: with this caller too that one would no longer be compiled in place in the loop
+// of a line whose reference is lent, which feels it.
 fn full_code<'a>(
     white: &'a [u16; 8192],
     black: &'a [u16; 8192],

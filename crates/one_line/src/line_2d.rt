@@ -39,7 +39,8 @@ pub(crate) fn after_push(push: Push, at: usize, next: usize, turns: bool) -> Ste
     }
 }
 
-// A vertical move of nothing turns the colour. An exact line refuses it as idle, other than its first code, which is read at position 0 in white.
+// A vertical move of nothing turns the colour. An exact line refuses it as idle, other than its first code, which is read at
+// position 0 in white.
 pub(crate) fn unmoved(line: Line, at: usize, next: usize, exact: bool) -> Step
     requires { ⌜ line .colour ≤ 1 ⌝ }
     ensures { λ r. ⌜ r ≡ unmovedFor line at next exact ⌝ }
@@ -205,8 +206,8 @@ fn swiftly(place: Reference, plain: bool) -> Reference
     place
 }
 
-// A line whose changes go into `changes` from `base` on. Where the reference is lent no code is swift. Each loop has one call alone, so that its answer
-// is made where the caller wants it.
+// A line whose changes go into `changes` from `base` on. Where the reference is lent no code is swift. Each loop has one call
+// alone, so that its answer is made where the caller wants it.
 pub fn decode_2d_line<'a>(
     white: &'a [u16; 8192],
     black: &'a [u16; 8192],

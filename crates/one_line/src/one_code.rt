@@ -96,8 +96,8 @@ pub fn end_run(
     line_2d::after_push(pushed, from, next, true)
 }
 
-// What the second run of the horizontal code at `at` makes of the line: where the first moved nothing, an exact line refuses a second that does
-// not either.
+// What the second run of the horizontal code at `at` makes of the line: where the first moved nothing, an exact line refuses a
+// second that does not either.
 pub fn unless_unmoved(step: Step, line: Line, at: usize, blank: bool, exact: bool) -> Step
     ensures { λ r. ⌜ r ≡ unlessIdleFor step line at (blank && exact) ⌝ }
 {

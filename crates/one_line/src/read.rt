@@ -9,7 +9,8 @@ use context::step::Step;
 ghost use mathlib.Core.Path.{_≡_};
 ghost use Rattle.one_line.specs.OneLine.{Answers, pastAt, ReadOne};
 
-// The bit after the line stands in place of bytes. A line read whole counts as one row, whose mark is the line's flag: nothing is recovered here.
+// The bit after the line stands in place of bytes. A line read whole counts as one row, whose mark is the line's flag: nothing is
+// recovered here.
 fn answer(step: Step) -> Answer
     ensures { λ r. ⌜ Answers step r ⌝ }
 {

@@ -30,8 +30,8 @@ pub struct DecodeSettings {
     pub plain: bool,
 }
 
-// The next bit, the rows kept, and where the reference lies: it is lent, or it lies in the store right before `base`. The next row is written from `base` on.
-// `eols` says whether EOLs are expected, in Group 3 alone.
+// The next bit, the rows kept, and where the reference lies: it is lent, or it lies in the store right before `base`. The next row
+// is written from `base` on. `eols` says whether EOLs are expected, in Group 3 alone.
 pub struct State {
     pub at: usize,
     pub rows: usize,

@@ -1,5 +1,5 @@
-// The pairs of a 1D line, a black run and a white one behind it, from its first run on: all bits in the data, no run of 0, one make-up code in a run at
-// most, and no more pixels than the line has left. What is left of the line goes to `runs`.
+// The pairs of a 1D line, a black run and a white one behind it, from its first run on: all bits in the data, no run of 0, one
+// make-up code in a run at most, and no more pixels than the line has left. What is left of the line goes to `runs`.
 use codes::front;
 use context::line::Line;
 ghost use mathlib.Core.Path.{_≡_};
@@ -10,8 +10,8 @@ ghost use Rattle.rules.specs.Pages.{mostBytes};
 ghost use Rattle.tables.specs.Pairs.{pairTable};
 ghost use Rattle.swift_loops.specs.Pairs.{haltLine, startAt, paceOf, entryPair, Paired, Leaping, Leapt, Putting, Puts, Stepping, PacedTo, Pacing, Ran, Beginning, Begins, Fit, Pairing};
 
-// Where a line stands before a black run, which begins with a change: the next bit, the position, the changes it has, an even count, and the next
-// bits, 13 of them at least.
+// Where a line stands before a black run, which begins with a change: the next bit, the position, the changes it has, an even
+// count, and the next bits, 13 of them at least.
 pub struct Pace {
     pub at: usize,
     pub position: u32,
@@ -104,7 +104,8 @@ fn pair_at<'a>(
     by_entry(entry)
 }
 
-// The bits behind a pair of `size` bits at `at`. They are loaded anew where two make-up codes leave fewer than 13, and the data has 64 there.
+// The bits behind a pair of `size` bits at `at`. They are loaded anew where two make-up codes leave fewer than 13, and the data has
+// 64 there.
 fn bits_behind(src: &[u8], last: usize, at: usize, size: usize, window: u64) -> u64
     requires { ⌜ Leaping (now src) last at size ⌝ }
     ensures { λ r. ⌜ Leapt (now (src .entry)) at size window r ⌝ }
@@ -143,7 +144,8 @@ fn put(row: &mut [u32], width: u32, s: Pace, pair: Pair, bits: u64) -> Paced
     })
 }
 
-// One pair. The window is loaded while the bits of the pair before it still tell the first code: so no load stands between one code and the next.
+// One pair. The window is loaded while the bits of the pair before it still tell the first code: so no load stands between one code
+// and the next.
 fn step<'a>(
     white: &'a [u16; 8192],
     black: &'a [u16; 8192],

@@ -1,5 +1,5 @@
-// The swift codes of a 2D line under the row before it: those whose bits are all in the data, whose pixels fit the line, and whose runs are short.
-// Any other code is left to `line_2d::code_2d`.
+// The swift codes of a 2D line under the row before it: those whose bits are all in the data, whose pixels fit the line, and whose
+// runs are short. Any other code is left to `line_2d::code_2d`.
 use codes::front;
 use context::line;
 use context::reference;
@@ -117,8 +117,8 @@ fn vertical(
     })
 }
 
-// V0 codes, as long as `ones` begins with a one and the reference has a change. Behind one of them the next pixels begin with a change, right of
-// the position, so nothing is tested.
+// V0 codes, as long as `ones` begins with a one and the reference has a change. Behind one of them the next pixels begin with a
+// change, right of the position, so nothing is tested.
 fn to_each(
     changes: &mut [u32],
     start: usize,
@@ -251,8 +251,8 @@ fn bit_of(bits: u64, k: usize) -> usize
     ((bits >> k) % 2) as usize
 }
 
-// One code, by its leading zeros. `two_runs` picks its tables itself, so that it has one call alone and is compiled in place: otherwise the stand
-// would go through memory at every code.
+// One code, by its leading zeros. `two_runs` picks its tables itself, so that it has one call alone and is compiled in place:
+// otherwise the stand would go through memory at every code.
 fn code<'a>(
     white: &'a [u16; 8192],
     black: &'a [u16; 8192],

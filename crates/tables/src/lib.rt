@@ -1,5 +1,6 @@
-// The code tables of T.4 and T.6, the table of pairs made of them, and the readers of all tables (tables.rs). The two lookup tables have a crate of their own, `lookups`.
-// A constant is built anew on the stack wherever it is used, so a decoder or a writer makes each table once, and lends it.
+// The code tables of T.4 and T.6, the table of pairs made of them, and the readers of all tables (tables.rs). The two lookup tables
+// have a crate of their own, `lookups`. A constant is built anew on the stack wherever it is used, so a decoder or a writer makes
+// each table once, and lends it.
 ghost use mathlib.Core.Path.{_≡_};
 ghost use Prim.Native.Nat.{_-_, _≤_, _<_};
 ghost use Rattle.rules.specs.Bits.{bitsFor};

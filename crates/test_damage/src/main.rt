@@ -1,6 +1,7 @@
-// Damaged copies of the booking forms of examples/, whose bytes are the standard input, one behind the other: how often the heads are right, how often the page is
-// refused, and by what, and each damage after which other heads are read without a refusal. A line has the page, strict or lenient, the damage, how many copies
-// there were, how many gave the heads that were ticked, how many were refused by the reading (1, 2 or 3), as 13 and as 12, and how many gave other heads.
+// Damaged copies of the booking forms of examples/, whose bytes are the standard input, one behind the other: how often the heads
+// are right, how often the page is refused, and by what, and each damage after which other heads are read without a refusal. A line
+// has the page, strict or lenient, the damage, how many copies there were, how many gave the heads that were ticked, how many were
+// refused by the reading (1, 2 or 3), as 13 and as 12, and how many gave other heads.
 mod copies;
 mod form;
 

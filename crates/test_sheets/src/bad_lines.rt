@@ -1,5 +1,6 @@
-// A13: two white rows of one column by the 1D writer with EOLs, the first line's code bits being others. Two zeros of fill before each EOL are too few: the bit 1 and the zeros
-// behind it are read as white 3, ten zeros are left, which is no EOL, and the second row is lost. With three it is kept. And a bad line that is marked clean: white 1, and a one.
+// A13: two white rows of one column by the 1D writer with EOLs, the first line's code bits being others. Two zeros of fill before
+// each EOL are too few: the bit 1 and the zeros behind it are read as white 3, ten zeros are left, which is no EOL, and the second
+// row is lost. With three it is kept. And a bad line that is marked clean: white 1, and a one.
 use settings::DecodeSettings;
 use settings::EncodingMode;
 
@@ -29,8 +30,9 @@ pub(crate) fn pages() {
     );
 }
 
-// The same with tag bits, three zeros of fill before each EOL: a tag bit 1 alone stands between two EOLs as in an RTC, and its row is lost; with a one behind it it is kept. A tag bit 0 and ten
-// zeros before a one are an EOL, and a row is lost; with nine none is.
+// The same with tag bits, three zeros of fill before each EOL: a tag bit 1 alone stands between two EOLs as in an RTC, and its row
+// is lost; with a one behind it it is kept. A tag bit 0 and ten zeros before a one are an EOL, and a row is lost; with nine none
+// is.
 pub(crate) fn with_tags() {
     let lenient = leniently(EncodingMode::Group3_2D);
     crate::parting(
@@ -55,7 +57,8 @@ pub(crate) fn with_tags() {
     );
 }
 
-// Two white rows of two columns by the 1D writer with EOLs, without fill, cut right behind the first line: 0, and one clean row; read exactly it is 14.
+// Two white rows of two columns by the 1D writer with EOLs, without fill, cut right behind the first line: 0, and one clean row;
+// read exactly it is 14.
 pub(crate) fn cut_between() {
     let mut settings = crate::strictly(EncodingMode::Group3_1D, 2, 2, true, false);
     settings.end_of_line = true;

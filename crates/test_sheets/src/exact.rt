@@ -16,7 +16,8 @@ fn group3(rows: u32, end_of_block: bool) -> DecodeSettings {
     crate::strictly(EncodingMode::Group3_1D, 8, rows, end_of_block, false)
 }
 
-// Two zero runs, and one; vertical moves that stay, further on and at 0, in black and as the line's first code; and a zero run of a 1D line.
+// Two zero runs, and one; vertical moves that stay, further on and at 0, in black and as the line's first code; and a zero run of a
+// 1D line.
 pub(crate) fn idle_codes() {
     let one = group4(8, 1, false);
     exactly(b"two runs of nothing, exact", b"\x26\xA1\xBC", one);

@@ -1,5 +1,5 @@
-// What lenient reading does that the standard has not (docs/DIFFERENCES.md): pixels are cut to the width, a line that fails is kept and turned white,
-// and bits before the next EOL are skipped.
+// What lenient reading does that the standard has not (docs/DIFFERENCES.md): pixels are cut to the width, a line that fails is kept
+// and turned white, and bits before the next EOL are skipped.
 use settings::DecodeSettings;
 use settings::EncodingMode;
 
@@ -17,8 +17,8 @@ fn two_d(rows: u32, end_of_block: bool) -> DecodeSettings {
     settings
 }
 
-// A line that fails where no EOL is left is read once more from its start, and its reference is then the row that was kept of it. Of an RTC alone the
-// first EOL is taken for the page's, and the five that are left are no RTC.
+// A line that fails where no EOL is left is read once more from its start, and its reference is then the row that was kept of it.
+// Of an RTC alone the first EOL is taken for the page's, and the five that are left are no RTC.
 pub(crate) fn with_tags() {
     crate::parting(
         b"read again under another row",

@@ -1,5 +1,5 @@
-// The two lent forms (01), by their functions with plain parameters: a reader in a local that is lent to `consume`, `align` and `peek_u32`, and a
-// line in a local that is lent to `push_pixels`.
+// The two lent forms (01), by their functions with plain parameters: a reader in a local that is lent to `consume`, `align` and
+// `peek_u32`, and a line in a local that is lent to `push_pixels`.
 use libc::STDOUT_FILENO;
 use reader::cursor;
 

@@ -1,8 +1,9 @@
-// The sheets on the wall that are run (the others are proved), the inputs where the crate, and so this work, parts from the standard
-// (docs/DIFFERENCES.md; lenient.rt has those of lenient reading), and one input for each clause of A7 (places.rt) and of A12 (exact.rt), pages by both
-// engines (engines.rt), and pages with a bad line or cut (bad_lines.rt): what reading each of them answers. A line has the sheet's name;
-// number, rows, entries, loose entries, bytes and place; the mark of the first row, or 3 where none was stored; and the changes, those of
-// kept rows first. Behind them the booking forms of examples/ (parties.rt), and the forms that take a reference (lent_forms.rt).
+// The sheets on the wall that are run (the others are proved), the inputs where the crate, and so this work, parts from the
+// standard (docs/DIFFERENCES.md; lenient.rt has those of lenient reading), and one input for each clause of A7 (places.rt) and of
+// A12 (exact.rt), pages by both engines (engines.rt), and pages with a bad line or cut (bad_lines.rt): what reading each of them
+// answers. A line has the sheet's name; number, rows, entries, loose entries, bytes and place; the mark of the first row, or 3
+// where none was stored; and the changes, those of kept rows first. Behind them the booking forms of examples/ (parties.rt), and
+// the forms that take a reference (lent_forms.rt).
 mod bad_lines;
 mod engines;
 mod exact;

@@ -1,5 +1,5 @@
-// The booking forms of examples/, whose bytes are the standard input, one behind the other: what is ticked on them. A line has its name, the
-// number and the rows of the reading, and the number, the heads and the quota left of the heads.
+// The booking forms of examples/, whose bytes are the standard input, one behind the other: what is ticked on them. A line has its
+// name, the number and the rows of the reading, and the number, the heads and the quota left of the heads.
 use crate::field;
 use heads::Box;
 use libc::STDIN_FILENO;

@@ -1,4 +1,5 @@
-// One input for each clause of A7: where the fault was. Codes whose sum passes the limit take 2.5 million bytes, and are left to the comparison.
+// One input for each clause of A7: where the fault was. Codes whose sum passes the limit take 2.5 million bytes, and are left to
+// the comparison.
 use settings::EncodingMode;
 
 // Mode codes, and the runs of horizontal codes.
