@@ -36,7 +36,7 @@ use Rattle.by_unit.specs.declared.Phase.the-variants as Phase
 use Rattle.by_unit.specs.declared.Saved.{Saved}
 use Rattle.by_unit.specs.declared.End.{End}
 use Rattle.by_unit.specs.declared.End.the-variants as End
-use Rattle.by_unit.specs.declared.Counts.{Counts}
+use Rattle.by_unit.specs.declared.EndCounts.{EndCounts}
 use Rattle.by_unit.specs.declared.Reading.{Reading}
 use Rattle.by_unit.specs.declared.Reading.the-variants.{Open, Ended}
 use Rattle.by_unit.specs.declared.stand.Half.the-variants.{First, Second}
@@ -210,7 +210,7 @@ module _ (bytes : List ℕ) (width : ℕ) (xs : List ℕ) (k : Kept) where
 -- ---- The numbers of the ends
 
 -- an end of the list that has what 01 allows is held whole
-pub end-held : (n place bytes loose : ℕ) (c : Counts) → Ending n → Allowed n place bytes loose → saidOf (endFrom n place bytes loose) c ≡ says n place bytes (c .rows) (c .entries) loose
+pub end-held : (n place bytes loose : ℕ) (c : EndCounts) → Ending n → Allowed n place bytes loose → saidOf (endFrom n place bytes loose) c ≡ says n place bytes (c .rows) (c .entries) loose
 end-held n place bytes loose c (inr h) a =
     ap (λ (m : ℕ). saidOf (endFrom m place bytes loose) c) h
     ∙ (λ i. says (sym h i) (sym (a .no-place (inr (omega (arith, h)))) i) (sym (a .no-bytes (λ z. omega (arith, h))) i) (c .rows) (c .entries) (sym (a .no-loose (inr (omega (arith, h)))) i))
@@ -230,7 +230,7 @@ pub end-other : (n place bytes loose : ℕ) → 5 < n → End.Short ≡ endFrom 
 end-other n place bytes loose h =
     rw (ne-eqb n 0 (λ e. omega (arith, e)), ne-eqb n 1 (λ e. omega (arith, e)), ne-eqb n 2 (λ e. omega (arith, e)), ne-eqb n 3 (λ e. omega (arith, e)), ne-eqb n 4 (λ e. omega (arith, e)), ne-eqb n 5 (λ e. omega (arith, e)))
 
-pub end-listed : (e : End) (c : Counts) → Ending (saidOf e c .number)
+pub end-listed : (e : End) (c : EndCounts) → Ending (saidOf e c .number)
 end-listed (End.Done bytes) c = inl (omega arith)
 end-listed (End.InvalidCode place loose) c = inl (omega arith)
 end-listed (End.UnexpectedEof place loose) c = inl (omega arith)
@@ -264,7 +264,7 @@ black-back false = refl
 abbrev endedFrom : Said → Reading
 endedFrom d = Ended (endFrom (d .number) (d .place) (d .bytes) (d .loose)) (record { rows = d .rows; entries = d .entries })
 
-end-back : (e : End) (c : Counts) → endedFrom (saidOf e c) ≡ Ended e c
+end-back : (e : End) (c : EndCounts) → endedFrom (saidOf e c) ≡ Ended e c
 end-back (End.Done bytes) c = refl
 end-back (End.InvalidCode place loose) c = refl
 end-back (End.UnexpectedEof place loose) c = refl

@@ -27,7 +27,7 @@ use Rattle.settings.specs.Ends.{Allowed}
 use Rattle.settings.proofs.Ends.{short-allowed}
 use Rattle.by_unit.specs.declared.Saved.{Saved}
 use Rattle.by_unit.specs.declared.End.{End}
-use Rattle.by_unit.specs.declared.Counts.{Counts}
+use Rattle.by_unit.specs.declared.EndCounts.{EndCounts}
 use Rattle.by_unit.specs.declared.Reading.{Reading}
 use Rattle.by_unit.specs.declared.Reading.the-variants.{Open, Ended}
 use Rattle.by_unit.specs.declared.Turn.{Turn}
@@ -35,7 +35,7 @@ use Rattle.by_unit.specs.declared.stand.Stand.{Stand}
 use Rattle.by_unit.specs.declared.stand.Kept.{Kept}
 use Rattle.by_unit.specs.declared.stand.Out.{Out}
 use Rattle.by_unit.specs.declared.stand.Out.the-variants.{More, Done}
-use Rattle.by_unit.specs.declared.take.Taken.{Taken}
+use Rattle.by_unit.specs.declared.take.TakenUnits.{TakenUnits}
 use Rattle.by_unit.specs.Standing.{Asked, answerOf, Comes}
 use Rattle.by_unit.specs.Taking.{TakeFrom, Takes}
 use Rattle.by_unit.specs.Reading.{savedOf, Ending, readingOf, TurnIs, ReadsUnits, TurnsOn, asReadFor, answerFor, stillFor, endedFor, unlessFew, looseFor, savedFor, turnOut, turnFor, keptBy, standBy, soundFor}
@@ -70,7 +70,7 @@ module _ (bytes : List ℕ) (settings : DecodeSettings) (xs es ms : List ℕ) wh
 
   module _ (n : ℕ) (some′ : n ≡ 0 → ⊥) (reading : Reading) where
     -- the end is repeated
-    pub turn-again : (e : End) (c : Counts) → reading ≡ Ended e c → (a : Answer) → a ≡ answerFor e c → (r : Turn) → r ≡ stillFor a (Ended e c) → ReadsUnits bytes settings xs es ms reading n r xs es ms
+    pub turn-again : (e : End) (c : EndCounts) → reading ≡ Ended e c → (a : Answer) → a ≡ answerFor e c → (r : Turn) → r ≡ stillFor a (Ended e c) → ReadsUnits bytes settings xs es ms reading n r xs es ms
     unfolding turn
     turn-again e c z a q r f =
         subst (λ (x : Reading). ReadsUnits bytes settings xs es ms x n r xs es ms) (sym z)
@@ -145,7 +145,7 @@ module _ (bytes : List ℕ) (settings : DecodeSettings) (xs es ms : List ℕ) wh
                     stand = stand-in bytes (settings .columns) xs es ms s (asReadFor settings) asked refl facts;
                   })))
 
-              pub turn-took : (t : Taken) (ys fs ns : List ℕ) → Takes bytes read xs es ms k at n t ys fs ns
+              pub turn-took : (t : TakenUnits) (ys fs ns : List ℕ) → Takes bytes read xs es ms k at n t ys fs ns
                   → Takes bytes (asReadFor settings) xs es ms (keptBy es s) (standBy (settings .columns) s (s .phase)) n t ys fs ns
               turn-took t ys fs ns c =
                   subst (λ (c : Stand). Takes bytes (asReadFor settings) xs es ms (keptBy es s) c n t ys fs ns) at-is
@@ -220,7 +220,7 @@ module _ (bytes : List ℕ) (settings : DecodeSettings) (xs es ms : List ℕ) wh
             told-so units ys fs ns (more g) (Done r) c = absurd (c .told)
             told-so units ys fs ns (done a) (More k at seen) c = absurd (c .told)
 
-            pub turn-reads : (t : Taken) (ys fs ns : List ℕ) → Takes bytes (asReadFor settings) xs es ms (keptBy es s) (standBy (settings .columns) s (s .phase)) n t ys fs ns
+            pub turn-reads : (t : TakenUnits) (ys fs ns : List ℕ) → Takes bytes (asReadFor settings) xs es ms (keptBy es s) (standBy (settings .columns) s (s .phase)) n t ys fs ns
                 → (r : Turn) → r ≡ turnFor settings t → TurnsOn bytes settings xs es ms s n r ys fs ns
             turn-reads t ys fs ns k r f =
                 let same = stands-so bytes (settings .columns) xs es ms s in
@@ -234,7 +234,7 @@ module _ (bytes : List ℕ) (settings : DecodeSettings) (xs es ms : List ℕ) wh
 
 -- ---- What is said of the units taken
 
-module _ (settings : DecodeSettings) (t : Taken) where
+module _ (settings : DecodeSettings) (t : TakenUnits) where
   pub turn-more : (k : Kept) (s : Stand) (seen : ℕ) → t .out ≡ More k s seen → (loose : ℕ) → loose ≡ looseFor s → (a : Answer) → a ≡ answerOf (says moreToCome 0 0 (k .rows) (k .base) loose)
       → (v : Saved) → v ≡ savedFor k s → stillOpen a (t .units) v ≡ turnFor settings t
   turn-more k s seen e loose q a f v g =

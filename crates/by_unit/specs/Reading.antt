@@ -24,7 +24,7 @@ use Rattle.by_unit.specs.declared.Phase.the-variants as Phase
 use Rattle.by_unit.specs.declared.Saved.{Saved}
 use Rattle.by_unit.specs.declared.End.{End}
 use Rattle.by_unit.specs.declared.End.the-variants as End
-use Rattle.by_unit.specs.declared.Counts.{Counts}
+use Rattle.by_unit.specs.declared.EndCounts.{EndCounts}
 use Rattle.by_unit.specs.declared.Reading.{Reading}
 use Rattle.by_unit.specs.declared.Reading.the-variants.{Open, Ended}
 use Rattle.by_unit.specs.declared.Turn.{Turn}
@@ -34,7 +34,7 @@ use Rattle.by_unit.specs.declared.stand.Stand.the-variants.{Between, InL
 use Rattle.by_unit.specs.declared.stand.Kept.{Kept}
 use Rattle.by_unit.specs.declared.stand.Out.{Out}
 use Rattle.by_unit.specs.declared.stand.Out.the-variants.{More, Done}
-use Rattle.by_unit.specs.declared.take.Taken.{Taken}
+use Rattle.by_unit.specs.declared.take.TakenUnits.{TakenUnits}
 use Rattle.by_unit.specs.Standing.{answerOf}
 
 -- ---- The state
@@ -70,7 +70,7 @@ abbrev pub Ending : ℕ → Type 0
 Ending n = (n ≤ 5) ⊎ (n ≡ 14)
 
 -- number, place and bytes, rows, entries and loose entries: each number has those that 01 allows it, and the others are 0
-abbrev pub saidOf : End → Counts → Said
+abbrev pub saidOf : End → EndCounts → Said
 saidOf (End.Done bytes) c = says 0 0 bytes (c .rows) (c .entries) 0
 saidOf (End.InvalidCode place loose) c = says 1 place 0 (c .rows) (c .entries) loose
 saidOf (End.UnexpectedEof place loose) c = says 2 place 0 (c .rows) (c .entries) loose
@@ -123,7 +123,7 @@ endFrom n place bytes loose =
     (cond (eqb n 1) (End.InvalidCode place loose)
     (cond (eqb n 2) (End.UnexpectedEof place loose) (cond (eqb n 3) (End.Overflow place loose) (cond (eqb n 4) (End.NoEntry loose) (cond (eqb n 5) (End.NoRowEnd loose) End.Short)))))
 
-abbrev pub answerFor : End → Counts → Answer
+abbrev pub answerFor : End → EndCounts → Answer
 answerFor e c = answerOf (saidOf e c)
 
 abbrev pub stillFor : Answer → Reading → Turn
@@ -189,7 +189,7 @@ abbrev pub turnOut : DecodeSettings → ℕ → Out → Turn
 turnOut settings units (More k s seen) = record { answer = answerOf (says moreToCome 0 0 (k .rows) (k .base) (looseFor s)); units = units; reading = Open (savedFor k s) }
 turnOut settings units (Done a) = endedFor (unlessFew settings a) units
 
-abbrev pub turnFor : DecodeSettings → Taken → Turn
+abbrev pub turnFor : DecodeSettings → TakenUnits → Turn
 turnFor settings t = turnOut settings (t .units) (t .out)
 
 -- ---- Where a reading with it stands

@@ -11,7 +11,7 @@ use Rattle.settings.specs.declared.DecodeSettings.{DecodeSettings}
 use Rattle.settings.specs.Settings.{settingsOf}
 use Rattle.by_unit.specs.declared.stand.Stand.{Stand}
 use Rattle.by_unit.specs.declared.stand.Kept.{Kept}
-use Rattle.by_unit.specs.declared.take.Taken.{Taken}
+use Rattle.by_unit.specs.declared.take.TakenUnits.{TakenUnits}
 use Rattle.by_unit.specs.Standing.{goingAt, KeptIn, StandIn, Asked, Comes}
 
 -- what they ask of the state, which may be one that is not settled
@@ -20,6 +20,6 @@ pub record TakeFrom (bytes : List ℕ) (settings : DecodeSettings) (xs es ms : L
   pub kept : KeptIn (settings .columns) xs es ms k
   pub stand : StandIn bytes (settings .columns) xs k 0 s
 
-pub record Takes (bytes : List ℕ) (settings : DecodeSettings) (xs es ms : List ℕ) (k : Kept) (s : Stand) (n : ℕ) (r : Taken) (ys fs ns : List ℕ) : Type 0 where
+pub record Takes (bytes : List ℕ) (settings : DecodeSettings) (xs es ms : List ℕ) (k : Kept) (s : Stand) (n : ℕ) (r : TakenUnits) (ys fs ns : List ℕ) : Type 0 where
   pub comes : Comes bytes (settings .columns) (k .rows) (k .base) xs es ms (call (settingsOf settings) (bitsOf bytes) (length xs) (placesIn es ms) n (more (goingAt xs k s))) (r .out) ys fs ns
   pub units : r .units ≡ taken (settingsOf settings) (bitsOf bytes) (length xs) (placesIn es ms) n (more (goingAt xs k s))

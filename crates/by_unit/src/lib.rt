@@ -7,7 +7,7 @@ mod take;
 mod unit;
 
 use crate::stand::Out;
-use crate::take::Taken;
+use crate::take::TakenUnits;
 use answer::Answer;
 use settings::DecodeSettings;
 use settings::EncodingMode;
@@ -56,7 +56,7 @@ pub enum End {
 }
 
 // The rows kept, and the entries in them.
-pub struct Counts {
+pub struct EndCounts {
     pub rows: u64,
     pub entries: u64,
 }
@@ -64,7 +64,7 @@ pub struct Counts {
 // What a call hands back and the next one takes.
 pub enum Reading {
     Open(Saved),
-    Ended(End, Counts),
+    Ended(End, EndCounts),
 }
 
 // A call's answer, and the units it took.
@@ -126,7 +126,7 @@ fn end_of(number: u32, place: u64, bytes: u64, loose: u64) -> End
     }
 }
 
-fn counted(number: u32, place: u64, bytes: u64, loose: u64, counts: Counts) -> Answer
+fn counted(number: u32, place: u64, bytes: u64, loose: u64, counts: EndCounts) -> Answer
     ensures { λ r. ⌜ r ≡ answerOf (says number place bytes (counts .rows) (counts .entries) loose) ⌝ }
 {
     Answer {
@@ -141,7 +141,7 @@ fn counted(number: u32, place: u64, bytes: u64, loose: u64, counts: Counts) -> A
 }
 
 // The answer to repeat.
-fn answer_of(end: End, counts: Counts) -> Answer
+fn answer_of(end: End, counts: EndCounts) -> Answer
     ensures { λ r. ⌜ r ≡ answerFor end counts ⌝ }
 {
     match end {
@@ -169,7 +169,7 @@ fn ended(answer: Answer, units: usize) -> Turn
     ensures { λ r. ⌜ r ≡ endedFor answer units ⌝ }
 {
     let end = end_of(answer.number, answer.place, answer.bytes, answer.loose);
-    let counts = Counts {
+    let counts = EndCounts {
         rows: answer.rows,
         entries: answer.entries,
     };
@@ -199,7 +199,7 @@ fn unless_few(settings: DecodeSettings, answer: Answer) -> Answer
 }
 
 // 15 while the page goes on, or its end.
-fn turn_of(settings: DecodeSettings, taken: Taken) -> Turn
+fn turn_of(settings: DecodeSettings, taken: TakenUnits) -> Turn
     ensures { λ r. ⌜ r ≡ turnFor settings taken ⌝ }
 {
     let out = taken.out;

@@ -9,7 +9,7 @@ ghost use Rattle.tables.specs.Tables.{Lookups};
 ghost use Rattle.by_unit.specs.Taking.{TakeFrom, Takes};
 
 // Where they have come to, and how many they are.
-pub(crate) struct Taken {
+pub(crate) struct TakenUnits {
     pub out: Out,
     pub units: usize,
 }
@@ -26,7 +26,7 @@ pub(crate) fn take<'a>(
     kept: Kept,
     stand: Stand,
     n: usize,
-) -> Taken
+) -> TakenUnits
     requires { ⌜ (Lookups (now white) (now black)) × (TakeFrom (now src) settings (now changes) (now ends) (now marks) kept stand) ⌝ }
     ensures { λ r. ⌜ Takes (now (src .entry)) settings (now (changes .entry)) (now (ends .entry)) (now (marks .entry)) kept stand n r (now (changes .exit)) (now (ends .exit)) (now (marks .exit)) ⌝ }
 {
@@ -35,7 +35,7 @@ pub(crate) fn take<'a>(
     while 0 < left {
         match out {
             Out::Done(_) => {
-                return Taken {
+                return TakenUnits {
                     out,
                     units: n - left,
                 };
@@ -57,7 +57,7 @@ pub(crate) fn take<'a>(
             }
         }
     }
-    Taken {
+    TakenUnits {
         out,
         units: n - left,
     }

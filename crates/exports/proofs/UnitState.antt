@@ -16,7 +16,7 @@ use Rattle.by_unit.specs.declared.Phase.the-variants as Phase
 use Rattle.by_unit.specs.declared.Saved.{Saved}
 use Rattle.by_unit.specs.declared.End.{End}
 use Rattle.by_unit.specs.declared.End.the-variants as End
-use Rattle.by_unit.specs.declared.Counts.{Counts}
+use Rattle.by_unit.specs.declared.EndCounts.{EndCounts}
 use Rattle.by_unit.specs.declared.Reading.{Reading}
 use Rattle.by_unit.specs.declared.Reading.the-variants.{Open, Ended}
 use Rattle.by_unit.specs.declared.Turn.{Turn}
@@ -117,12 +117,12 @@ module _ (xs : List ℕ) where
   -- ---- An ended page's
 
   module _ (ended-end : getD xs 12 0 ≡ 0 → ⊥) where
-    only-ended : ((e : End) (c : Counts) → endedNumbers e c ≡ xs → ⊥) → (r : Reading) → Wordy r → numbersOf r ≡ xs → ⊥
+    only-ended : ((e : End) (c : EndCounts) → endedNumbers e c ≡ xs → ⊥) → (r : Reading) → Wordy r → numbersOf r ≡ xs → ⊥
     only-ended h (Ended e c) w q = h e c q
     only-ended h (Open s) w q = ended-end (sym (ap (λ (l : List ℕ). getD l 12 0) q))
 
     -- four numbers of it are zero
-    pub ended-zeros : (a b c d : ℕ) → ((e : End) (n : Counts) → (getD (endedNumbers e n) a 0 ≡ 0) × (getD (endedNumbers e n) b 0 ≡ 0) × (getD (endedNumbers e n) c 0 ≡ 0) × (getD (endedNumbers e n) d 0 ≡ 0))
+    pub ended-zeros : (a b c d : ℕ) → ((e : End) (n : EndCounts) → (getD (endedNumbers e n) a 0 ≡ 0) × (getD (endedNumbers e n) b 0 ≡ 0) × (getD (endedNumbers e n) c 0 ≡ 0) × (getD (endedNumbers e n) d 0 ≡ 0))
         → (eqb (getD xs a 0) 0 && (eqb (getD xs b 0) 0 && (eqb (getD xs c 0) 0 && eqb (getD xs d 0) 0))) ≡ false → (r : Reading) → Wordy r → numbersOf r ≡ xs → ⊥
     ended-zeros a b c d h f = only-ended λ e n q.
         let (h1, h2, h3, h4) = h e n in
@@ -134,7 +134,7 @@ module _ (xs : List ℕ) where
     module _ (long : length xs ≡ 16) (p : (eqb (getD xs 0 0) 0 && (eqb (getD xs 1 0) 0 && (eqb (getD xs 2 0) 0 && eqb (getD xs 4 0) 0))) ≡ true)
         (q : (eqb (getD xs 5 0) 0 && (eqb (getD xs 7 0) 0 && (eqb (getD xs 8 0) 0 && eqb (getD xs 9 0) 0))) ≡ true) (r : (eqb (getD xs 10 0) 0 && (eqb (getD xs 11 0) 0 && (eqb 0 0 && eqb 0 0))) ≡ true)
         (e : End) (h : endNumbers e ≡ Row.endedNumbers (getD xs 12 0) (getD xs 15 0) (getD xs 14 0) (getD xs 6 0)) where
-      abbrev counted : Counts
+      abbrev counted : EndCounts
       counted = record { rows = getD xs 3 0; entries = getD xs 13 0 }
 
       pub ended-is : Wordy (Ended e counted) × (numbersOf (Ended e counted) ≡ xs)

@@ -16,7 +16,7 @@ use Rattle.by_unit.specs.declared.Phase.the-variants as Phase
 use Rattle.by_unit.specs.declared.Saved.{Saved}
 use Rattle.by_unit.specs.declared.End.{End}
 use Rattle.by_unit.specs.declared.End.the-variants as End
-use Rattle.by_unit.specs.declared.Counts.{Counts}
+use Rattle.by_unit.specs.declared.EndCounts.{EndCounts}
 use Rattle.by_unit.specs.declared.Reading.{Reading}
 use Rattle.by_unit.specs.declared.Reading.the-variants.{Open, Ended}
 use Rattle.by_unit.specs.declared.Turn.{Turn}
@@ -58,7 +58,7 @@ openNumbers s =
     phaseNumber (s .phase) ∷ s .at ∷ s .eols ∷ s .rows ∷ s .position ∷ flagNumber (s .black) ∷ s .loose ∷ flagNumber (s .cut)
     ∷ s .run ∷ s .«run_at» ∷ s .«mode_at» ∷ flagNumber (s .blank) ∷ 0 ∷ 0 ∷ 0 ∷ 0 ∷ []
 
-abbrev pub endedNumbers : End → Counts → List ℕ
+abbrev pub endedNumbers : End → EndCounts → List ℕ
 endedNumbers e c =
     0 ∷ 0 ∷ 0 ∷ c .rows ∷ 0 ∷ 0 ∷ endNumbers e .loose ∷ 0
     ∷ 0 ∷ 0 ∷ 0 ∷ 0 ∷ endNumbers e .number ∷ c .entries ∷ endNumbers e .bytes ∷ endNumbers e .place ∷ []

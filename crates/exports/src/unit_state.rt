@@ -1,8 +1,8 @@
 // The unit form's state in sixteen lent numbers, all of them zero at a page's start.
 use crate::row_state;
 use crate::row_state::EndNumbers;
-use by_unit::Counts;
 use by_unit::End;
+use by_unit::EndCounts;
 use by_unit::Phase;
 use by_unit::Reading;
 use by_unit::Saved;
@@ -169,7 +169,7 @@ fn ended_in(state: &[u64]) -> ReadingIn
     match end_in(state[12], state[15], state[14], state[6]) {
         EndIn::NoEnd => ReadingIn::NoReading,
         EndIn::End(end) => {
-            let counts = Counts {
+            let counts = EndCounts {
                 rows: state[3],
                 entries: state[13],
             };
@@ -230,7 +230,7 @@ fn put_open(state: &mut [u64], saved: Saved)
     state[15] = 0;
 }
 
-fn put_ended(state: &mut [u64], end: End, counts: Counts)
+fn put_ended(state: &mut [u64], end: End, counts: EndCounts)
     requires { ⌜ length (now state) ≡ 16 ⌝ }
     ensures { λ r. ⌜ now (state .exit) ≡ endedNumbers end counts ⌝ }
 {

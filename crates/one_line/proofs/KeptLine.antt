@@ -19,7 +19,7 @@ use Rattle.context.specs.declared.step.Rules as Code
 use Rattle.context.specs.declared.step.Step.{Step}
 use Rattle.context.specs.declared.step.Step.the-variants.{On, Stop}
 use Rattle.context.specs.declared.reference.Reference.the-variants.{Kept}
-use Rattle.swift_loops.specs.declared.fast_2d.Stand.{Stand}
+use Rattle.swift_loops.specs.declared.fast_2d.BetweenCodes.{BetweenCodes}
 use Rattle.context.specs.State.{flagOf}
 use Rattle.context.specs.Reference.{Passed, Finds}
 use Rattle.context.specs.Coding.{Coding, Coded, StepsAt}
@@ -46,7 +46,7 @@ module _ (w b bytes xs : List ℕ) (first base width start : ℕ) (rules : Code.
   T = task w b bytes xs first base width start rules
 
   -- the line that stands there is read, and its place is b1's
-  pub record Standing (s : Stand) (cut : ℕ) (zs : List ℕ) : Type 0 where
+  pub record Standing (s : BetweenCodes) (cut : ℕ) (zs : List ℕ) : Type 0 where
     pub reading : Reading T (lineOf width s cut) (s .at) 0 zs
     pub seen : Seen (keptIn first base xs) (rightOfA0 (s .position)) (s .place)
     pub near : s .place ≤ suc (length (keptIn first base xs)) + s .at
@@ -59,7 +59,7 @@ module _ (w b bytes xs : List ℕ) (first base width start : ℕ) (rules : Code.
     near = omega arith;
   }
 
-  module _ {s : Stand} {cut : ℕ} {zs : List ℕ} (g : Standing s cut zs) where
+  module _ {s : BetweenCodes} {cut : ℕ} {zs : List ℕ} (g : Standing s cut zs) where
     abbrev l : Line
     l = lineOf width s cut
 
@@ -107,7 +107,7 @@ module _ (w b bytes xs : List ℕ) (first base width start : ℕ) (rules : Code.
         ∙ ap (λ (at : ℕ). standing (drop base zs) (flagOf cut) (record { at = at; position = s .position; count = s .count; place = s .place })) (sym (g .reading .place-is))
 
     -- and codes that took it on take the reading with it
-    module _ {t : Stand} {ys : List ℕ} (v : Walked (keptIn first base zs) (bitsOf bytes) base (length zs - base) width zs s ys t) where
+    module _ {t : BetweenCodes} {ys : List ℕ} (v : Walked (keptIn first base zs) (bitsOf bytes) base (length zs - base) width zs s ys t) where
       room-is : length zs - base ≡ length (drop base xs)
       room-is = omega (arith, standing-length, length-drop base xs)
 
@@ -191,7 +191,7 @@ module _ (w b bytes xs : List ℕ) (first base width start : ℕ) (rules : Code.
             two-colours = reading-holds next .coloured;
           })
 
-          pub standing-on : (u : Stand) → Restood (keptIn first base (putMid base (length zs - base) zs ys)) m at u → Standing u (m .cut) (putMid base (length zs - base) zs ys)
+          pub standing-on : (u : BetweenCodes) → Restood (keptIn first base (putMid base (length zs - base) zs ys)) m at u → Standing u (m .cut) (putMid base (length zs - base) zs ys)
           standing-on u q =
               let there : Restood (keptIn first base xs) m at u = subst (λ (k : List ℕ). Restood k m at u) kept-after q in
               record {

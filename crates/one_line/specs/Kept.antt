@@ -4,7 +4,7 @@ use mathlib.Core.List.{List}
 use Prim.Native.Nat.{ℕ, _-_, min}
 use lib.ListN.{length}
 use Rattle.context.specs.declared.line.Line.{Line}
-use Rattle.swift_loops.specs.declared.fast_2d.Stand.{Stand}
+use Rattle.swift_loops.specs.declared.fast_2d.BetweenCodes.{BetweenCodes}
 use Rattle.context.specs.Reference.{Searches}
 use Rattle.context.specs.Places.{B1At}
 
@@ -12,7 +12,7 @@ use Rattle.context.specs.Places.{B1At}
 abbrev pub Restands : List ℕ → ℕ → Line → Type 0
 Restands reference place l = Searches reference (min (length reference) (place - 1)) (l .width) (l .position) (l .colour)
 
-pub record Restood (reference : List ℕ) (l : Line) (at : ℕ) (r : Stand) : Type 0 where
+pub record Restood (reference : List ℕ) (l : Line) (at : ℕ) (r : BetweenCodes) : Type 0 where
   pub at-is : r .at ≡ at
   pub position-is : r .position ≡ l .position
   pub count-is : r .count ≡ l .changes

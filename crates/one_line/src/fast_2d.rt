@@ -10,7 +10,7 @@ use context::reference;
 use context::step::Rules;
 use context::step::Step;
 use swift_loops::fast_2d;
-use swift_loops::fast_2d::Stand;
+use swift_loops::fast_2d::BetweenCodes;
 ghost use mathlib.Core.Path.{_≡_};
 ghost use mathlib.Core.List.{[]};
 ghost use Prim.Native.Nat.{_-_, min};
@@ -19,7 +19,7 @@ ghost use Rattle.context.specs.Coding.{Coding, Coded, Lines, Lined};
 ghost use Rattle.swift_loops.specs.Swift.{lineOf};
 ghost use Rattle.one_line.specs.Kept.{Restands, Restood};
 
-fn line_at(width: u32, s: Stand, cut: u32) -> Line
+fn line_at(width: u32, s: BetweenCodes, cut: u32) -> Line
     ensures { λ r. ⌜ r ≡ lineOf width s cut ⌝ }
 {
     Line {
@@ -45,13 +45,13 @@ fn seen_before(len: usize, place: usize) -> usize
 }
 
 // Where the line stands behind a code.
-fn stand_at(reference: &[u32], place: usize, line: Line, at: usize) -> Stand
+fn stand_at(reference: &[u32], place: usize, line: Line, at: usize) -> BetweenCodes
     requires { ⌜ Restands (now reference) place line ⌝ }
     ensures { λ r. ⌜ Restood (now (reference .entry)) line at r ⌝ }
 {
     let seen = seen_before(reference.len(), place);
     let found = reference::b1_from(reference, seen, line.width, line.position, line.colour);
-    Stand {
+    BetweenCodes {
         at: at,
         position: line.position,
         count: line.changes,
@@ -113,7 +113,7 @@ pub(crate) fn kept_line<'a>(
     requires { ⌜ Lines (now white) (now black) (now src) [] (now changes) base (Kept first) width start ⌝ }
     ensures { λ r. ⌜ Lined (now (src .entry)) [] (now (changes .entry)) base (Kept first) width start rules r (now (changes .exit)) ⌝ }
 {
-    let mut s = Stand {
+    let mut s = BetweenCodes {
         at: start,
         position: 0,
         count: 0,

@@ -20,7 +20,7 @@ use Rattle.by_row.specs.declared.End.the-variants as End
 use Rattle.by_row.specs.ByRow.{endOf, rowStateOf}
 use Rattle.by_unit.specs.declared.End as Units
 use Rattle.by_unit.specs.declared.End.the-variants as UnitEnd
-use Rattle.by_unit.specs.declared.Counts.{Counts}
+use Rattle.by_unit.specs.declared.EndCounts.{EndCounts}
 use Rattle.by_unit.specs.declared.Reading.{Reading}
 use Rattle.by_unit.specs.declared.Reading.the-variants.{Open, Ended}
 use Rattle.by_unit.specs.Reading.{Ending, saidOf, readingOf}
@@ -88,7 +88,7 @@ row-ends-allowed bytes settings c g h =
 abbrev SaidAllowed : Said → Type 0
 SaidAllowed d = Allowed (d .number) (d .place) (d .bytes) (d .loose)
 
-said-allowed : (e : Units.End) (c : Counts) → SaidAllowed (saidOf e c)
+said-allowed : (e : Units.End) (c : EndCounts) → SaidAllowed (saidOf e c)
 said-allowed (UnitEnd.Done bytes) c = done-allowed bytes
 said-allowed (UnitEnd.InvalidCode place loose) c = fault-allowed 1 place loose (omega arith) (omega arith)
 said-allowed (UnitEnd.UnexpectedEof place loose) c = fault-allowed 2 place loose (omega arith) (omega arith)

@@ -16,7 +16,7 @@ use Rattle.bit_reader.specs.declared.buffer.Fed.{Fed}
 use Rattle.bit_reader.specs.declared.buffer.Fed.the-variants as Fed
 use Rattle.reader.specs.Read.{numberOf, wentTo, wentBy}
 use Rattle.reader.specs.declared.cursor.Went.{Went}
-use Rattle.reader.specs.declared.cursor.Taken.the-variants.{TooLong}
+use Rattle.reader.specs.declared.cursor.TakenBits.the-variants.{TooLong}
 use Rattle.promises.specs.CursorNumbers.{movedNumber, movedBit, fedNumber, fedBit, Moves, ConsumeNumbers, FeedNumbers, TakeNumbers}
 
 -- there

@@ -1,5 +1,5 @@
 -- "For an answer that is an enum, a definition gives this paper's number and values for each of its cases" (01): those of the bit reader, `Moved`, which `consume`
--- answers, and `Fed`, which `feed` answers; the public reader's `Taken` has its own (`numberOf`). "Consuming past it moves to the end and answers 2."
+-- answers, and `Fed`, which `feed` answers; the public reader's `TakenBits` has its own (`numberOf`). "Consuming past it moves to the end and answers 2."
 use mathlib.Core.Path.{_≡_}
 use mathlib.Core.Logic.{_⊎_, _↔_}
 use mathlib.Core.List.{List}

@@ -1,5 +1,5 @@
 // Calls of the public functions of reader::cursor, each with the contract that its promises are about.
-use reader::cursor::Taken;
+use reader::cursor::TakenBits;
 use reader::cursor::Went;
 ghost use mathlib.Core.Path.{_≡_};
 ghost use Prim.Native.Nat.{_*_};
@@ -8,7 +8,7 @@ ghost use lib.ListN.{length, drop};
 ghost use Rattle.rules.specs.Bits.{bitsOf, peek};
 ghost use Rattle.reader.specs.Read.{numberOf, wentBy, alignedAt};
 
-pub fn number(answer: Taken) -> u32
+pub fn number(answer: TakenBits) -> u32
     ensures { λ r. ⌜ r ≡ numberOf answer ⌝ }
 {
     reader::cursor::number(answer)

@@ -1,7 +1,7 @@
 // Calls of the public functions of swift_loops, each with the contract that its promises are about.
 use context::line::Line;
-use swift_loops::fast_1d::Halt;
-use swift_loops::fast_2d::Stand;
+use swift_loops::fast_1d::BetweenRuns;
+use swift_loops::fast_2d::BetweenCodes;
 ghost use mathlib.Core.Path.{_≡_};
 ghost use Prim.Native.Nat.{_-_};
 ghost use lib.ListN.{length};
@@ -9,7 +9,7 @@ ghost use Rattle.rules.specs.Bits.{bitsOf};
 ghost use Rattle.swift_loops.specs.Pairs.{haltLine, startAt, Ran, Pairing};
 ghost use Rattle.swift_loops.specs.Swift.{keptIn, Walks, Walked};
 
-pub fn line_of(width: u32, s: Halt) -> Line
+pub fn line_of(width: u32, s: BetweenRuns) -> Line
     ensures { λ r. ⌜ r ≡ haltLine width s ⌝ }
 {
     swift_loops::fast_1d::line_of(width, s)
@@ -24,7 +24,7 @@ pub fn pairs<'a>(
     width: u32,
     at: usize,
     plain: bool,
-) -> Halt
+) -> BetweenRuns
     requires { ⌜ Pairing (now white) (now black) (now both) (now src) width at ⌝ }
     ensures { λ r. ⌜ Ran (bitsOf (now (src .entry))) (length (now (row .entry))) width (now (row .entry)) (startAt at) (now (row .exit)) r ⌝ }
 {
@@ -39,8 +39,8 @@ pub fn swift_codes<'a>(
     start: usize,
     base: usize,
     width: u32,
-    from: Stand,
-) -> Stand
+    from: BetweenCodes,
+) -> BetweenCodes
     requires { ⌜ Walks (now white) (now black) (now src) (now changes) start base width from ⌝ }
     ensures { λ r. ⌜ Walked (keptIn start base (now (changes .entry))) (bitsOf (now (src .entry))) base (length (now (changes .entry)) - base) width (now (changes .entry)) from (now (changes .exit)) r ⌝ }
 {

@@ -13,7 +13,7 @@ use Rattle.rules.proofs.Bits.{peek-nil, length-bitsOf}
 use Rattle.bit_reader.specs.Cursor.{movedBy}
 use Rattle.bit_reader.specs.declared.Moved.{Moved}
 use Rattle.reader.specs.Read.{wentTo, wentBy}
-use Rattle.reader.specs.declared.cursor.Taken.the-variants.{End, TooLong}
+use Rattle.reader.specs.declared.cursor.TakenBits.the-variants.{End, TooLong}
 use Rattle.reader.specs.declared.cursor.Went.{Went}
 
 -- at the end of the data and past it there are only zeros

@@ -2,7 +2,7 @@
 // cannot hold a reference, so `new` cannot refuse data that is too long for the core; `consume` answers so.
 pub mod cursor;
 
-use crate::cursor::Taken;
+use crate::cursor::TakenBits;
 ghost use mathlib.Core.Path.{_≡_};
 ghost use Prim.Native.Nat.{_*_};
 ghost use lib.Dec.{leb};
@@ -32,7 +32,7 @@ impl<'a> BitReader<'a> {
     }
 
     // `n` bits on, or to the end of the data where there are fewer.
-    pub fn consume(&mut self, n: usize) -> Taken
+    pub fn consume(&mut self, n: usize) -> TakenBits
         ensures { λ r. ⌜ (now (self .exit) ≡ readerAt (now (self .entry) .src) (taking (now (self .entry)) n .at)) × (r ≡ taking (now (self .entry)) n .answer) ⌝ }
     {
         let went = cursor::take(self.src, self.at, n);
@@ -58,7 +58,7 @@ impl<'a> BitReader<'a> {
 // The 32 bits from a byte on, and whether the bits before it were there.
 pub struct Word {
     pub bits: u32,
-    pub answer: Taken,
+    pub answer: TakenBits,
 }
 
 // The word from the first byte behind `n` bits. Its parameters are plain, so that who calls it needs no proof by hand.

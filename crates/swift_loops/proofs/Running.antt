@@ -24,8 +24,8 @@ use Rattle.context.specs.declared.line.Line.{Line}
 use Rattle.context.specs.declared.step.Rules as Code
 use Rattle.context.specs.declared.step.Step.{Step}
 use Rattle.context.specs.declared.step.Step.the-variants.{On}
-use Rattle.swift_loops.specs.declared.fast_1d.Halt.{Halt}
-use Rattle.swift_loops.specs.declared.fast_1d.Pace.{Pace}
+use Rattle.swift_loops.specs.declared.fast_1d.BetweenRuns.{BetweenRuns}
+use Rattle.swift_loops.specs.declared.fast_1d.BeforePair.{BeforePair}
 use Rattle.swift_loops.specs.declared.fast_1d.Pair.{Pair}
 use Rattle.context.specs.State.{rulesFor, ruling, turns, Holds}
 use Rattle.context.specs.Outcome.{Steps, Reads, Runs}
@@ -41,9 +41,9 @@ turned-number zero h = refl
 turned-number (suc zero) h = refl
 turned-number (suc (suc c)) h = absurd (omega arith)
 
-module _ {bs : List Bool} {room width : ℕ} {xs : List ℕ} {s : Halt} where
+module _ {bs : List Bool} {room width : ℕ} {xs : List ℕ} {s : BetweenRuns} where
   -- a run that takes the line of the rules on takes the row with it
-  ran-one : (t : Halt) (qs ys : List ℕ) → Halts room width t → s .position < width → s .count ≤ t .count → t .count ≡ length qs → length ys ≡ length xs → ys ≡ overlaid qs xs
+  ran-one : (t : BetweenRuns) (qs ys : List ℕ) → Halts room width t → s .position < width → s .count ≤ t .count → t .count ≡ length qs → length ys ≡ length xs → ys ≡ overlaid qs xs
       → ((strict exact : Bool) → pushRun (ruling width room strict exact) bs (halting xs s) ≡ went (Rule.line (t .at) (t .position) (colourOf (t .colour)) qs false))
       → Ran bs room width xs s ys t
   ran-one t qs ys halts short longer count size store goes = record {
@@ -73,7 +73,7 @@ module _ {bs : List Bool} {room width : ℕ} {xs : List ℕ} {s : Halt} where
   }
 
   -- some, and then more
-  ran-then : length xs ≡ room → {ys zs : List ℕ} {t u : Halt} → Ran bs room width xs s ys t → Ran bs room width ys t zs u → Ran bs room width xs s zs u
+  ran-then : length xs ≡ room → {ys zs : List ℕ} {t u : BetweenRuns} → Ran bs room width xs s ys t → Ran bs room width ys t zs u → Ran bs room width xs s zs u
   ran-then full {ys} {zs} {t} {u} a b = record {
     halts = b .halts;
     inside = b .inside;
@@ -90,11 +90,11 @@ module _ {bs : List Bool} {room width : ℕ} {xs : List ℕ} {s : Halt} where
       fewer = omega (arith, length-take (t .count) ys, length-take (u .count) zs, b .halts .held, b .longer, b .size, a .size)
 
 -- the room is the row's own
-pub ran-on : {bs : List Bool} {width : ℕ} {xs ys zs : List ℕ} {s t u : Halt} → Ran bs (length xs) width xs s ys t → Ran bs (length ys) width ys t zs u → Ran bs (length xs) width xs s zs u
+pub ran-on : {bs : List Bool} {width : ℕ} {xs ys zs : List ℕ} {s t u : BetweenRuns} → Ran bs (length xs) width xs s ys t → Ran bs (length ys) width ys t zs u → Ran bs (length xs) width xs s zs u
 ran-on {bs} {width} {xs} {ys} {zs} {s} {t} {u} a b = ran-then refl a (subst (λ (n : ℕ). Ran bs n width ys t zs u) (a .size) b)
 
 -- a run that has pixels, of a line that has room for them, and begins with a change
-module _ (bs : List Bool) (width : ℕ) (xs : List ℕ) (s : Halt) (h : Halts (length xs) width s) (roomy : s .count < length xs) (turning : turns (s .count) (s .colour) ≡ true)
+module _ (bs : List Bool) (width : ℕ) (xs : List ℕ) (s : BetweenRuns) (h : Halts (length xs) width s) (roomy : s .count < length xs) (turning : turns (s .count) (s .colour) ≡ true)
     (n p : ℕ) (read : readRun (colourOf (s .colour)) bs (s .at) ≡ ok (sum n p)) (some : 0 < p) (fits : s .position + p ≤ width) where
   abbrev longer : List ℕ
   longer = take (s .count) xs ++ s .position ∷ []
@@ -125,9 +125,9 @@ even-black n e = rw e
 odd-white : (n : ℕ) → n % 2 ≡ 0 → turns (n + 1) 0 ≡ true
 odd-white n e = let o : (n + 1) % 2 ≡ 1 = omega arith in rw o
 
-module _ (bytes xs : List ℕ) (width : ℕ) (s : Pace) (h : Halts (length xs) width (paceOf s)) (roomy : width + s .count ≤ length xs + s .position) (even : s .count % 2 ≡ 0)
+module _ (bytes xs : List ℕ) (width : ℕ) (s : BeforePair) (h : Halts (length xs) width (paceOf s)) (roomy : width + s .count ≤ length xs + s .position) (even : s .count % 2 ≡ 0)
     (pair : Pair) (r : PairRun bytes (s .at) pair) (b : 0 < pair .black) (w : 0 < pair .white) (fits : pair .black + pair .white ≤ width - s .position) where
-  abbrev middle : Halt
+  abbrev middle : BetweenRuns
   middle = record { at = r .middle; position = s .position + pair .black; count = s .count + 1; colour = 0 }
 
   abbrev one-set : List ℕ
@@ -233,7 +233,7 @@ module _ (R : Rules) (bs : List Bool) where
       let p = ends-stops step (λ u. length bs - u .at) (line-falls (R .width) (codeOf R one bs) bs (moves R one bs)) s in
       rw (p .1) (ends-ind step (GrowsTo R) base onward (λ u. length bs - u .at) s (p .0) (p .1))
 
-module _ (bytes xs : List ℕ) (width at : ℕ) (rules : Code.Rules) (narrow : width < 4294967295) {t : Halt} {ys : List ℕ} (v : Ran (bitsOf bytes) (length xs) width xs (startAt at) ys t) where
+module _ (bytes xs : List ℕ) (width at : ℕ) (rules : Code.Rules) (narrow : width < 4294967295) {t : BetweenRuns} {ys : List ℕ} (v : Ran (bitsOf bytes) (length xs) width xs (startAt at) ys t) where
   abbrev R-of : Rules
   R-of = rulesFor width rules xs
 

@@ -18,7 +18,7 @@ use Rattle.bit_reader.specs.Loaded.{Ahead}
 use Rattle.bit_reader.proofs.Window.{ahead-shift}
 use Rattle.codes.proofs.Modes.{one-live, top-straight}
 use Rattle.context.specs.declared.reference.Reference.the-variants.{Kept}
-use Rattle.swift_loops.specs.declared.fast_2d.Stand.{Stand}
+use Rattle.swift_loops.specs.declared.fast_2d.BetweenCodes.{BetweenCodes}
 use Rattle.context.specs.State.{turns}
 use Rattle.context.specs.Places.{Seen}
 use Rattle.swift_loops.specs.Swift.{standing, Stands, Roomy, keptIn, Noted, Walked, Ready, Asks, Turned}
@@ -38,7 +38,7 @@ same-parity (suc m) zero h k e = absurd (let z : _≡_ {A = ℕ} 0 1 = cc in ome
 same-parity (suc m) (suc n) h k e = omega arith
 
 -- the changes that are noted have the parity of the last pixel's colour
-noted-parity : {row : List ℕ} {s : Stand} {r : ℕ} {ys : List ℕ} → Noted row s r ys → r % 2 ≡ s .place % 2
+noted-parity : {row : List ℕ} {s : BetweenCodes} {r : ℕ} {ys : List ℕ} → Noted row s r ys → r % 2 ≡ s .place % 2
 noted-parity {row} {s} {r} n =
     same-parity (r % 2) (s .place % 2) (omega arith) (omega arith)
     (ap (λ (k : ℕ). colourOf (k % 2)) (n .counted) ∙ sym (parity (recorded (standing row false s))) ∙ last-recorded (standing row false s))
@@ -55,7 +55,7 @@ pub record Shows (bytes : List ℕ) (at rest : ℕ) : Type 0 where
   pub next : Ahead bytes at live rest
 
 -- The line has come from s to t by V0 codes, out of `bits`, of which `rest` is left.
-pub record Along (xs : List ℕ) (start base width : ℕ) (s : Stand) (bits : ℕ) (zs : List ℕ) (t : Stand) (rest : ℕ) : Type 0 where
+pub record Along (xs : List ℕ) (start base width : ℕ) (s : BetweenCodes) (bits : ℕ) (zs : List ℕ) (t : BetweenCodes) (rest : ℕ) : Type 0 where
   pub size : length zs ≡ length xs
   pub front : take base zs ≡ take base xs
   pub stands : Stands (keptIn start base xs) (length xs - base) width t
@@ -65,7 +65,7 @@ pub record Along (xs : List ℕ) (start base width : ℕ) (s : Stand) (bits : �
   pub level : t .at + s .place ≡ s .at + t .place
   pub walked : (bytes : List ℕ) (live : ℕ) → Ahead bytes (s .at) live bits → Walked (keptIn start base xs) (bitsOf bytes) base (length xs - base) width xs s zs t × Shows bytes (t .at) rest
 
-module _ {xs : List ℕ} {start base width : ℕ} {s : Stand} (g : Turned xs start base width s) where
+module _ {xs : List ℕ} {start base width : ℕ} {s : BetweenCodes} (g : Turned xs start base width s) where
   full : (length xs - base) + base ≡ length xs
   full = omega (arith, g .placed)
 
@@ -85,7 +85,7 @@ module _ {xs : List ℕ} {start base width : ℕ} {s : Stand} (g : Turned xs sta
     walked = λ bytes live h. (walked-none full (g .stands) (omega (arith, h .there, length-bitsOf bytes)), record { live = live; next = h });
   }
 
-  module _ {bits : ℕ} {zs : List ℕ} {t : Stand} {rest : ℕ} (a : Along xs start base width s bits zs t rest) where
+  module _ {bits : ℕ} {zs : List ℕ} {t : BetweenCodes} {rest : ℕ} (a : Along xs start base width s bits zs t rest) where
     based : base ≤ length zs
     based = omega (arith, a .size, g .placed)
 
@@ -170,7 +170,7 @@ module _ {xs : List ℕ} {start base width : ℕ} {s : Stand} (g : Turned xs sta
             );
       })
         where
-          end : Stand
+          end : BetweenCodes
           end = record { at = t .at + 1; position = getD zs (start + t .place) 0; count = t .count + 1; place = t .place + 1 }
 
           next : (bytes : List ℕ) → readMode (bitsOf bytes) (t .at) ≡ ok (moded (t .at + 1) (VR 0)) → Walked (keptIn start base xs) (bitsOf bytes) base (length xs - base) width zs t (set zs (base + t .count) (t .position)) end
@@ -182,14 +182,14 @@ module _ {xs : List ℕ} {start base width : ℕ} {s : Stand} (g : Turned xs sta
 
 -- ---- The first one, and those behind it
 
-module _ {xs : List ℕ} {start base width : ℕ} {s : Stand} {b : ℕ} (q : Asks xs start base width s b) {r : ℕ} {ys : List ℕ} (n : Noted (midOf base (length xs - base) xs) s r ys) where
+module _ {xs : List ℕ} {start base width : ℕ} {s : BetweenCodes} {b : ℕ} (q : Asks xs start base width s b) {r : ℕ} {ys : List ℕ} (n : Noted (midOf base (length xs - base) xs) s r ys) where
   abbrev g : Ready xs start base width s b
   g = q .ready
 
   abbrev zs : List ℕ
   zs = putMid base (length xs - base) xs ys
 
-  abbrev first : Stand
+  abbrev first : BetweenCodes
   first = record { at = s .at + 1; position = b; count = r; place = s .place + 1 }
 
   pub first-turned : Turned (putMid base (length xs - base) xs ys) start base width (record { at = s .at + 1; position = b; count = r; place = s .place + 1 })
@@ -211,7 +211,7 @@ module _ {xs : List ℕ} {start base width : ℕ} {s : Stand} {b : ℕ} (q : Ask
     long = omega (arith, q .long, after-length g n);
   }
 
-  pub first-then : (bytes : List ℕ) → readMode (bitsOf bytes) (s .at) ≡ ok (moded (s .at + 1) (VR 0)) → {t : Stand} {us : List ℕ}
+  pub first-then : (bytes : List ℕ) → readMode (bitsOf bytes) (s .at) ≡ ok (moded (s .at + 1) (VR 0)) → {t : BetweenCodes} {us : List ℕ}
       → Walked (keptIn start base (putMid base (length xs - base) xs ys)) (bitsOf bytes) base (length (putMid base (length xs - base) xs ys) - base) width (putMid base (length xs - base) xs ys) (record { at = s .at + 1; position = b; count = r; place = s .place + 1 }) us t
       → Walked (keptIn start base xs) (bitsOf bytes) base (length xs - base) width xs s us t × (s .at < t .at)
   first-then bytes read {t} {us} w = (

@@ -22,9 +22,9 @@ use Rattle.rules.proofs.Lines.{moves, line-more}
 use Rattle.tables.specs.Tables.{colourOf}
 use Rattle.context.specs.declared.offset.Move.the-variants.{By}
 use Rattle.context.specs.declared.reference.Reference.the-variants.{Kept}
-use Rattle.swift_loops.specs.declared.fast_2d.Stand.{Stand}
-use Rattle.swift_loops.specs.declared.fast_2d.Taken.{Taken}
-use Rattle.swift_loops.specs.declared.fast_2d.Taken.the-variants.{On, Other}
+use Rattle.swift_loops.specs.declared.fast_2d.BetweenCodes.{BetweenCodes}
+use Rattle.swift_loops.specs.declared.fast_2d.TakenCode.{TakenCode}
+use Rattle.swift_loops.specs.declared.fast_2d.TakenCode.the-variants.{On, Other}
 use Rattle.context.specs.State.{ruling, turns}
 use Rattle.context.specs.Offset.{moveBy}
 use Rattle.context.specs.Places.{Left, Seen, Reached, Onward, Turning}
@@ -39,7 +39,7 @@ use Rattle.context.proofs.Goes.{recorded-by, recorded-few, moves-right, moves-l
 
 -- ---- A change noted
 
-module _ (row : List ℕ) (s : Stand) (h : s .count < length row) where
+module _ (row : List ℕ) (s : BetweenCodes) (h : s .count < length row) where
   abbrev t : Rule.Line
   t = standing row false s
 
@@ -67,9 +67,9 @@ module _ (row : List ℕ) (s : Stand) (h : s .count < length row) where
 
 -- ---- One code
 
-module _ {reference : List ℕ} {bs : List Bool} {base room width : ℕ} {xs : List ℕ} {s : Stand} where
+module _ {reference : List ℕ} {bs : List Bool} {base room width : ℕ} {xs : List ℕ} {s : BetweenCodes} where
   -- A code that takes the line of the rules from one stand to another takes the array with it.
-  walk : (u : Stand) (qs ys : List ℕ) → room + base ≡ length xs → Stands reference room width u → Roomy room width u → s .position < width → s .count ≤ u .count → u .count ≡ length qs
+  walk : (u : BetweenCodes) (qs ys : List ℕ) → room + base ≡ length xs → Stands reference room width u → Roomy room width u → s .position < width → s .count ≤ u .count → u .count ≡ length qs
       → length ys ≡ length xs → take base ys ≡ take base xs → drop base ys ≡ overlaid qs (drop base xs)
       → ((strict exact cut : Bool) → code2D (ruling width room strict exact) reference bs (standing (drop base xs) cut s) ≡ went (Rule.line (u .at) (u .position) (colourOf (u .place % 2)) qs cut))
       → Walked reference bs base room width xs s ys u
@@ -96,7 +96,7 @@ module _ {reference : List ℕ} {bs : List Bool} {base room width : ℕ} {xs : L
 
 -- ---- Codes one behind the other
 
-module _ {reference : List ℕ} {bs : List Bool} {base room width : ℕ} {xs : List ℕ} {s : Stand} (full : room + base ≡ length xs) where
+module _ {reference : List ℕ} {bs : List Bool} {base room width : ℕ} {xs : List ℕ} {s : BetweenCodes} (full : room + base ≡ length xs) where
   -- none of them
   pub walked-none : Stands reference room width s → s .at ≤ length bs → Walked reference bs base room width xs s xs s
   walked-none h k = record {
@@ -111,7 +111,7 @@ module _ {reference : List ℕ} {bs : List Bool} {base room width : ℕ} {xs : L
     same = λ strict exact cut. refl;
   }
 
-  pub walked-then : {ys zs : List ℕ} {t u : Stand} → Walked reference bs base room width xs s ys t → Walked reference bs base room width ys t zs u → Walked reference bs base room width xs s zs u
+  pub walked-then : {ys zs : List ℕ} {t u : BetweenCodes} → Walked reference bs base room width xs s ys t → Walked reference bs base room width ys t zs u → Walked reference bs base room width xs s zs u
   walked-then {ys} {zs} {t} {u} a b = record {
     stands = b .stands;
     roomy = λ h. b .roomy (a .roomy h);
@@ -147,7 +147,7 @@ parity-turns p q e = cases (p % 2) (q % 2) (omega arith) (omega arith)
     cases (suc zero) (suc n) h k = absurd (omega arith)
     cases (suc (suc m)) n h k = absurd (omega arith)
 
-module _ {xs : List ℕ} {start base width : ℕ} {s : Stand} {b : ℕ} (g : Ready xs start base width s b) where
+module _ {xs : List ℕ} {start base width : ℕ} {s : BetweenCodes} {b : ℕ} (g : Ready xs start base width s b) where
   abbrev ref : List ℕ
   ref = keptIn start base xs
 
@@ -220,7 +220,7 @@ module _ {xs : List ℕ} {start base width : ℕ} {s : Stand} {b : ℕ} (g : Rea
     after-reference = reference-same (Kept start) base [] xs (putMid base (length xs - base) xs ys) (g .placed) (g .placed .0, omega (arith, after-length, g .placed)) after-front
 
     -- the stand that a code has come to, with one change noted
-    module _ (bs : List Bool) (u : Stand) (count-is : u .count ≡ r) (right : s .position < u .position) (fits : u .position ≤ width) (seen : Seen ref (u .position + 1) (u .place)) (near : u .place ≤ suc (length ref) + u .at)
+    module _ (bs : List Bool) (u : BetweenCodes) (count-is : u .count ≡ r) (right : s .position < u .position) (fits : u .position ≤ width) (seen : Seen ref (u .position + 1) (u .place)) (near : u .place ≤ suc (length ref) + u .at)
         (goes : (strict exact cut : Bool) → code2D (ruling width (length xs - base) strict exact) ref bs (standing row cut s) ≡ went (Rule.line (u .at) (u .position) (colourOf (u .place % 2)) (recorded (standing row cut s)) cut)) where
       pub noted-walked : Walked ref bs base (length xs - base) width xs s (putMid base (length xs - base) xs ys) u
       noted-walked =
@@ -333,7 +333,7 @@ module _ {xs : List ℕ} {start base width : ℕ} {s : Stand} {b : ℕ} (g : Rea
 
 -- ---- The loop over codes
 
-module _ {w b bytes xs : List ℕ} {start base width : ℕ} {s : Stand} (h : Walks w b bytes xs start base width s) {zs : List ℕ} {t : Stand}
+module _ {w b bytes xs : List ℕ} {start base width : ℕ} {s : BetweenCodes} (h : Walks w b bytes xs start base width s) {zs : List ℕ} {t : BetweenCodes}
     (v : Walked (keptIn start base xs) (bitsOf bytes) base (length xs - base) width xs s zs t) where
   whole : (length xs - base) + base ≡ length xs
   whole = omega (arith, h .placed)
@@ -361,17 +361,17 @@ module _ {w b bytes xs : List ℕ} {start base width : ℕ} {s : Stand} (h : Wal
   }
 
   -- and takes the line on
-  pub walked-on : {ys : List ℕ} {u : Stand} → Walked (keptIn start base zs) (bitsOf bytes) base (length zs - base) width zs t ys u → Walked (keptIn start base xs) (bitsOf bytes) base (length xs - base) width xs s ys u
+  pub walked-on : {ys : List ℕ} {u : BetweenCodes} → Walked (keptIn start base zs) (bitsOf bytes) base (length zs - base) width zs t ys u → Walked (keptIn start base xs) (bitsOf bytes) base (length xs - base) width xs s ys u
   walked-on {ys} {u} a = walked-then whole v (subst (λ (n : ℕ). Walked (keptIn start base xs) (bitsOf bytes) base (n - base) width zs t ys u) (v .size) (subst (λ (l : List ℕ). Walked l (bitsOf bytes) base (length zs - base) width zs t ys u) walked-reference a))
 
   -- as the code is seen to be, with what it makes of the loop's measure
-  module _ (r : Taken) (ys : List ℕ) (took : Took (keptIn start base zs) (bitsOf bytes) base (length zs - base) width zs t r ys) where
+  module _ (r : TakenCode) (ys : List ℕ) (took : Took (keptIn start base zs) (bitsOf bytes) base (length zs - base) width zs t r ys) where
     pub took-other : r ≡ Other → Walked (keptIn start base xs) (bitsOf bytes) base (length xs - base) width xs s ys t
-    took-other e = rw (subst (λ (q : Taken). Took (keptIn start base zs) (bitsOf bytes) base (length zs - base) width zs t q ys) e took) v
+    took-other e = rw (subst (λ (q : TakenCode). Took (keptIn start base zs) (bitsOf bytes) base (length zs - base) width zs t q ys) e took) v
 
-    module _ {u : Stand} (e : r ≡ On u) where
+    module _ {u : BetweenCodes} (e : r ≡ On u) where
       on : Walked (keptIn start base zs) (bitsOf bytes) base (length zs - base) width zs t ys u × (t .at < u .at)
-      on = subst (λ (q : Taken). Took (keptIn start base zs) (bitsOf bytes) base (length zs - base) width zs t q ys) e took
+      on = subst (λ (q : TakenCode). Took (keptIn start base zs) (bitsOf bytes) base (length zs - base) width zs t q ys) e took
 
       pub took-on : Walked (keptIn start base xs) (bitsOf bytes) base (length xs - base) width xs s ys u
       took-on = walked-on (on .0)
@@ -379,12 +379,12 @@ module _ {w b bytes xs : List ℕ} {start base width : ℕ} {s : Stand} (h : Wal
       pub took-less : 8 * length bytes - u .at < 8 * length bytes - t .at
       took-less = omega (arith, on .1, on .0 .inside, length-bitsOf bytes)
 
-pub walks-none : {w b bytes xs : List ℕ} {start base width : ℕ} {s : Stand} → Walks w b bytes xs start base width s → Walked (keptIn start base xs) (bitsOf bytes) base (length xs - base) width xs s xs s
+pub walks-none : {w b bytes xs : List ℕ} {start base width : ℕ} {s : BetweenCodes} → Walks w b bytes xs start base width s → Walked (keptIn start base xs) (bitsOf bytes) base (length xs - base) width xs s xs s
 walks-none {bytes = bytes} h = walked-none (omega (arith, h .placed)) (h .stands) (omega (arith, h .loading .inside, length-bitsOf bytes))
 
 -- ---- A vertical mode of so many pixels to a side
 
-pub asks-place : {xs : List ℕ} {start base width : ℕ} {s : Stand} {b : ℕ} → Asks xs start base width s b → s .place < 4611686018427387904
+pub asks-place : {xs : List ℕ} {start base width : ℕ} {s : BetweenCodes} {b : ℕ} → Asks xs start base width s b → s .place < 4611686018427387904
 asks-place q = omega (arith, q .ready .stands .near, ref-short (q .ready), q .low, q .long)
 
 side-upright : (d twice : ℕ) → Upright (sideMode d twice)
@@ -394,7 +394,7 @@ side-upright d twice = cases (eqb twice 0)
     cases true = tt
     cases false = tt
 
-module _ {xs : List ℕ} {start base width : ℕ} {s : Stand} {b d twice size : ℕ} (q : Sided xs start base width s b d twice size) (far : s .position + d < b + twice) (within : b + twice ≤ width + d) where
+module _ {xs : List ℕ} {start base width : ℕ} {s : BetweenCodes} {b d twice size : ℕ} (q : Sided xs start base width s b d twice size) (far : s .position + d < b + twice) (within : b + twice ≤ width + d) where
   -- it moves to a1
   side-moves : moveBy b (sideMode d twice) (s .position) ≡ By (b + twice - d - s .position)
   side-moves = cases (q .sides)

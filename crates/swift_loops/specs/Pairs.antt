@@ -16,10 +16,10 @@ use Rattle.tables.specs.Tables.{colourOf, Lookups}
 use Rattle.bit_reader.specs.Cursor.{mostBits}
 use Rattle.bit_reader.specs.Loaded.{Ahead, Loading}
 use Rattle.context.specs.declared.line.Line.{Line}
-use Rattle.swift_loops.specs.declared.fast_1d.Halt.{Halt}
-use Rattle.swift_loops.specs.declared.fast_1d.Pace.{Pace}
-use Rattle.swift_loops.specs.declared.fast_1d.Paced.{Paced}
-use Rattle.swift_loops.specs.declared.fast_1d.Paced.the-variants.{On, Other}
+use Rattle.swift_loops.specs.declared.fast_1d.BetweenRuns.{BetweenRuns}
+use Rattle.swift_loops.specs.declared.fast_1d.BeforePair.{BeforePair}
+use Rattle.swift_loops.specs.declared.fast_1d.AfterPair.{AfterPair}
+use Rattle.swift_loops.specs.declared.fast_1d.AfterPair.the-variants.{On, Other}
 use Rattle.swift_loops.specs.declared.fast_1d.Pair.{Pair}
 use Rattle.context.specs.State.{ruling}
 
@@ -66,27 +66,27 @@ Leapt bytes at size window r = (live : ℕ) → Ahead bytes at live window → 5
 -- ---- Where a line stands
 
 -- the line of the rules that stands there, with its changes in front of a row; and the line of the code
-abbrev pub halting : List ℕ → Halt → Rule.Line
+abbrev pub halting : List ℕ → BetweenRuns → Rule.Line
 halting row s = Rule.line (s .at) (s .position) (colourOf (s .colour)) (take (s .count) row) false
 
-abbrev pub haltLine : ℕ → Halt → Line
+abbrev pub haltLine : ℕ → BetweenRuns → Line
 haltLine width s = record { width = width; position = s .position; changes = s .count; colour = s .colour; cut = 0 }
 
 -- a new line, and one before a black run
-abbrev pub startAt : ℕ → Halt
+abbrev pub startAt : ℕ → BetweenRuns
 startAt at = record { at = at; position = 0; count = 0; colour = 0 }
 
-abbrev pub paceOf : Pace → Halt
+abbrev pub paceOf : BeforePair → BetweenRuns
 paceOf s = record { at = s .at; position = s .position; count = s .count; colour = 1 }
 
-pub record Halts (room width : ℕ) (s : Halt) : Type 0 where
+pub record Halts (room width : ℕ) (s : BetweenRuns) : Type 0 where
   pub fits : s .position ≤ width
   pub held : s .count ≤ room
   pub coloured : s .colour ≤ 1
 
 -- Runs took the line from one place to another, and the row from xs to ys. However strictly it is read, what is left of the line comes to the same; what lies
 -- behind the row's changes is as it was.
-pub record Ran (bs : List Bool) (room width : ℕ) (xs : List ℕ) (s : Halt) (ys : List ℕ) (t : Halt) : Type 0 where
+pub record Ran (bs : List Bool) (room width : ℕ) (xs : List ℕ) (s : BetweenRuns) (ys : List ℕ) (t : BetweenRuns) : Type 0 where
   pub halts : Halts room width t
   pub inside : t .at ≤ length bs
   pub longer : s .count ≤ t .count
@@ -95,7 +95,7 @@ pub record Ran (bs : List Bool) (room width : ℕ) (xs : List ℕ) (s : Halt) (y
   pub same : (strict exact : Bool) → let code = pushRun (ruling width room strict exact) bs in lineEnd width code bs (halting xs s) ≡ lineEnd width code bs (halting ys t)
 
 -- A line before a pair: its last pixel is white, the next bits are known, and the room lasts whatever it holds, as each change takes a pixel at least.
-pub record Paces (bytes xs : List ℕ) (width : ℕ) (s : Pace) : Type 0 where
+pub record Paces (bytes xs : List ℕ) (width : ℕ) (s : BeforePair) : Type 0 where
   pub halts : Halts (length xs) width (paceOf s)
   pub roomy : width + s .count ≤ length xs + s .position
   pub even : s .count % 2 ≡ 0
@@ -103,13 +103,13 @@ pub record Paces (bytes xs : List ℕ) (width : ℕ) (s : Pace) : Type 0 where
   pub known : KnownIn bytes (s .at) (s .bits)
 
 -- what a pair makes of it; it takes pixels
-abbrev pub PacedTo : List ℕ → List ℕ → ℕ → Pace → Paced → List ℕ → Type 0
+abbrev pub PacedTo : List ℕ → List ℕ → ℕ → BeforePair → AfterPair → List ℕ → Type 0
 PacedTo bytes xs width s (On t) ys = Ran (bitsOf bytes) (length xs) width xs (paceOf s) ys (paceOf t) × Paces bytes ys width t × (s .position < t .position)
 PacedTo bytes xs width s Other ys = ys ≡ xs
 
 -- ---- What the functions ask
 
-pub record Putting (row : List ℕ) (width : ℕ) (s : Pace) (pair : Pair) : Type 0 where
+pub record Putting (row : List ℕ) (width : ℕ) (s : BeforePair) (pair : Pair) : Type 0 where
   pub halts : Halts (length row) width (paceOf s)
   pub roomy : width + s .count ≤ length row + s .position
   pub even : s .count % 2 ≡ 0
@@ -119,10 +119,10 @@ pub record Putting (row : List ℕ) (width : ℕ) (s : Pace) (pair : Pair) : Typ
   pub thin : pair .black + pair .white ≤ 16380
   pub both : 0 < pair .white → 0 < pair .black
 
-abbrev pub Puts : List ℕ → ℕ → Pace → Pair → ℕ → Paced → List ℕ → Type 0
+abbrev pub Puts : List ℕ → ℕ → BeforePair → Pair → ℕ → AfterPair → List ℕ → Type 0
 Puts row width s pair bits r ys = (bytes : List ℕ) → (0 < pair .white → PairRun bytes (s .at) pair) → KnownIn bytes (s .at + pair .size) bits → PacedTo bytes row width s r ys
 
-pub record Pacing (w b both bytes row : List ℕ) (width last : ℕ) (s : Pace) : Type 0 where
+pub record Pacing (w b both bytes row : List ℕ) (width last : ℕ) (s : BeforePair) : Type 0 where
   pub lookups : Lookups w b
   pub pairs : both ≡ pairTable
   pub limit : length bytes ≤ mostBytes
@@ -130,7 +130,7 @@ pub record Pacing (w b both bytes row : List ℕ) (width last : ℕ) (s : Pace) 
   pub narrow : width < 4294967295
   pub paces : Paces bytes row width s
 
-pub record Stepping (w b both bytes row : List ℕ) (width last : ℕ) (s : Pace) : Type 0 where
+pub record Stepping (w b both bytes row : List ℕ) (width last : ℕ) (s : BeforePair) : Type 0 where
   pub pacing : Pacing w b both bytes row width last s
   pub here : s .at ≤ last
 
@@ -139,11 +139,11 @@ pub record Beginning (width at : ℕ) : Type 0 where
   pub low : at ≤ mostBits
 
 -- whatever data the bits stand in, 57 of them at least, and whatever row has room for the line
-abbrev pub BegunTo : List ℕ → List ℕ → ℕ → ℕ → Paced → Type 0
+abbrev pub BegunTo : List ℕ → List ℕ → ℕ → ℕ → AfterPair → Type 0
 BegunTo bytes xs width at (On t) = Ran (bitsOf bytes) (length xs) width xs (startAt at) xs (paceOf t) × Paces bytes xs width t
 BegunTo bytes xs width at Other = Unit {0}
 
-abbrev pub Begins : List ℕ → ℕ → ℕ → ℕ → Paced → Type 0
+abbrev pub Begins : List ℕ → ℕ → ℕ → ℕ → AfterPair → Type 0
 Begins table width at bits r =
     table ≡ lookupTable white → (bytes xs : List ℕ) (live : ℕ) → Ahead bytes at live bits → 57 ≤ live → width ≤ length xs → BegunTo bytes xs width at r
 

@@ -17,30 +17,30 @@ use Rattle.tables.specs.Tables.{colourOf, Lookups}
 use Rattle.bit_reader.specs.Cursor.{mostBits}
 use Rattle.bit_reader.specs.Loaded.{Ahead, Loading}
 use Rattle.context.specs.declared.line.Line.{Line}
-use Rattle.swift_loops.specs.declared.fast_2d.Stand.{Stand}
-use Rattle.swift_loops.specs.declared.fast_2d.Taken.{Taken}
-use Rattle.swift_loops.specs.declared.fast_2d.Taken.the-variants.{On, Other}
+use Rattle.swift_loops.specs.declared.fast_2d.BetweenCodes.{BetweenCodes}
+use Rattle.swift_loops.specs.declared.fast_2d.TakenCode.{TakenCode}
+use Rattle.swift_loops.specs.declared.fast_2d.TakenCode.the-variants.{On, Other}
 use Rattle.context.specs.State.{ruling}
 use Rattle.context.specs.Places.{Seen}
 
 -- ---- A stand
 
 -- the line of the rules that stands there, with its changes in front of a row; and the line of the code
-abbrev pub standing : List ℕ → Bool → Stand → Rule.Line
+abbrev pub standing : List ℕ → Bool → BetweenCodes → Rule.Line
 standing row cut s = Rule.line (s .at) (s .position) (colourOf (s .place % 2)) (take (s .count) row) cut
 
-abbrev pub lineOf : ℕ → Stand → ℕ → Line
+abbrev pub lineOf : ℕ → BetweenCodes → ℕ → Line
 lineOf width s cut = record { width = width; position = s .position; changes = s .count; colour = s .place % 2; cut = cut }
 
 -- a line that has its changes in its room, and whose place is b1's
-pub record Stands (reference : List ℕ) (room width : ℕ) (s : Stand) : Type 0 where
+pub record Stands (reference : List ℕ) (room width : ℕ) (s : BetweenCodes) : Type 0 where
   pub fits : s .position ≤ width
   pub held : s .count ≤ room
   pub seen : Seen reference (rightOfA0 (s .position)) (s .place)
   pub near : s .place ≤ suc (length reference) + s .at
 
 -- the room lasts, whatever the line holds: each change takes a pixel at least
-abbrev pub Roomy : ℕ → ℕ → Stand → Type 0
+abbrev pub Roomy : ℕ → ℕ → BetweenCodes → Type 0
 Roomy room width s = width + s .count ≤ room + s .position
 
 -- ---- Searches
@@ -52,13 +52,13 @@ abbrev pub keptIn : ℕ → ℕ → List ℕ → List ℕ
 keptIn start base xs = take (base - start) (drop start xs)
 
 -- pixels of the line's colour follow
-pub record Noted (row : List ℕ) (s : Stand) (r : ℕ) (ys : List ℕ) : Type 0 where
+pub record Noted (row : List ℕ) (s : BetweenCodes) (r : ℕ) (ys : List ℕ) : Type 0 where
   pub counted : r ≡ length (recorded (standing row false s))
   pub stored : ys ≡ overlaid (recorded (standing row false s)) row
 
 -- Codes took the line from a stand to another, and the array from xs to ys. Whatever the rules are, what is left of the line comes to the same; what lies before the
 -- row, and behind its changes, is as it was.
-pub record Walked (reference : List ℕ) (bs : List Bool) (base room width : ℕ) (xs : List ℕ) (s : Stand) (ys : List ℕ) (t : Stand) : Type 0 where
+pub record Walked (reference : List ℕ) (bs : List Bool) (base room width : ℕ) (xs : List ℕ) (s : BetweenCodes) (ys : List ℕ) (t : BetweenCodes) : Type 0 where
   pub stands : Stands reference room width t
   pub roomy : Roomy room width s → Roomy room width t
   pub forth : s .at ≤ t .at
@@ -70,12 +70,12 @@ pub record Walked (reference : List ℕ) (bs : List Bool) (base room width : ℕ
   pub same : (strict exact cut : Bool) → let code = code2D (ruling width room strict exact) reference bs in lineEnd width code bs (standing (drop base xs) cut s) ≡ lineEnd width code bs (standing (drop base ys) cut t)
 
 -- a code takes bits; one that is another leaves the array
-abbrev pub Took : List ℕ → List Bool → ℕ → ℕ → ℕ → List ℕ → Stand → Taken → List ℕ → Type 0
+abbrev pub Took : List ℕ → List Bool → ℕ → ℕ → ℕ → List ℕ → BetweenCodes → TakenCode → List ℕ → Type 0
 Took reference bs base room width xs s (On t) ys = Walked reference bs base room width xs s ys t × (s .at < t .at)
 Took reference bs base room width xs s Other ys = ys ≡ xs
 
 -- in the data whose bits these are
-abbrev pub TookIn : List ℕ → List ℕ → ℕ → ℕ → ℕ → Stand → Taken → List ℕ → Type 0
+abbrev pub TookIn : List ℕ → List ℕ → ℕ → ℕ → ℕ → BetweenCodes → TakenCode → List ℕ → Type 0
 TookIn bytes xs start base width s r ys = Took (keptIn start base xs) (bitsOf bytes) base (length xs - base) width xs s r ys
 
 -- the mode that a vertical code of `d` pixels is: to the right where `twice` is twice d, to the left where it is 0
@@ -83,25 +83,25 @@ abbrev pub sideMode : ℕ → ℕ → Mode
 sideMode d twice = cond (eqb twice 0) (VL d) (VR d)
 
 -- in any data that has a mode's code at the stand, up to a bit; and the same where the next bits are known, so many of them at least
-abbrev pub TookMode : List ℕ → ℕ → ℕ → ℕ → Stand → ℕ → Mode → Taken → List ℕ → Type 0
+abbrev pub TookMode : List ℕ → ℕ → ℕ → ℕ → BetweenCodes → ℕ → Mode → TakenCode → List ℕ → Type 0
 TookMode xs start base width s next mode r ys = (bytes : List ℕ) → readMode (bitsOf bytes) (s .at) ≡ ok (moded next mode) → TookIn bytes xs start base width s r ys
 
-abbrev pub TookBits : List ℕ → ℕ → ℕ → ℕ → Stand → ℕ → ℕ → ℕ → Mode → Taken → List ℕ → Type 0
+abbrev pub TookBits : List ℕ → ℕ → ℕ → ℕ → BetweenCodes → ℕ → ℕ → ℕ → Mode → TakenCode → List ℕ → Type 0
 TookBits xs start base width s bits least next mode r ys =
     (bytes : List ℕ) (live : ℕ) → Ahead bytes (s .at) live bits → least ≤ live → readMode (bitsOf bytes) (s .at) ≡ ok (moded next mode) → TookIn bytes xs start base width s r ys
 
 -- codes walk the line in any data that has these bits at the stand, however few of them
-abbrev pub WalkedBits : List ℕ → ℕ → ℕ → ℕ → Stand → ℕ → Stand → List ℕ → Type 0
+abbrev pub WalkedBits : List ℕ → ℕ → ℕ → ℕ → BetweenCodes → ℕ → BetweenCodes → List ℕ → Type 0
 WalkedBits xs start base width s bits t ys = (bytes : List ℕ) (live : ℕ) → Ahead bytes (s .at) live bits → Walked (keptIn start base xs) (bitsOf bytes) base (length xs - base) width xs s ys t
 
 -- in any data that has these bits at the stand, 57 of them at least
-abbrev pub TookAhead : List ℕ → ℕ → ℕ → ℕ → Stand → ℕ → Taken → List ℕ → Type 0
+abbrev pub TookAhead : List ℕ → ℕ → ℕ → ℕ → BetweenCodes → ℕ → TakenCode → List ℕ → Type 0
 TookAhead xs start base width s bits r ys = (bytes : List ℕ) (live : ℕ) → Ahead bytes (s .at) live bits → 57 ≤ live → TookIn bytes xs start base width s r ys
 
 -- ---- What they ask
 
 -- a line that stands left of b1
-pub record Ready (xs : List ℕ) (start base width : ℕ) (s : Stand) (b1 : ℕ) : Type 0 where
+pub record Ready (xs : List ℕ) (start base width : ℕ) (s : BetweenCodes) (b1 : ℕ) : Type 0 where
   pub placed : (start ≤ base) × (base ≤ length xs)
   pub narrow : width < 4294967295
   pub rising : Rising width 0 (keptIn start base xs)
@@ -111,13 +111,13 @@ pub record Ready (xs : List ℕ) (start base width : ℕ) (s : Stand) (b1 : ℕ)
   pub ahead : s .position < b1
 
 -- in data and in an array of which there may be so much
-pub record Asks (xs : List ℕ) (start base width : ℕ) (s : Stand) (b1 : ℕ) : Type 0 where
+pub record Asks (xs : List ℕ) (start base width : ℕ) (s : BetweenCodes) (b1 : ℕ) : Type 0 where
   pub ready : Ready xs start base width s b1
   pub low : s .at ≤ mostBits
   pub long : length xs < 2305843009213693952
 
 -- and a vertical code of `size` bits
-pub record Sided (xs : List ℕ) (start base width : ℕ) (s : Stand) (b1 d twice size : ℕ) : Type 0 where
+pub record Sided (xs : List ℕ) (start base width : ℕ) (s : BetweenCodes) (b1 d twice size : ℕ) : Type 0 where
   pub asks : Asks xs start base width s b1
   pub some-pixels : 1 ≤ d
   pub few : d ≤ 3
@@ -127,7 +127,7 @@ pub record Sided (xs : List ℕ) (start base width : ℕ) (s : Stand) (b1 d twic
   pub short : size ≤ 7
 
 -- a line behind a code that turned it: its next pixels begin with a change
-pub record Turned (xs : List ℕ) (start base width : ℕ) (s : Stand) : Type 0 where
+pub record Turned (xs : List ℕ) (start base width : ℕ) (s : BetweenCodes) : Type 0 where
   pub placed : (start ≤ base) × (base ≤ length xs)
   pub narrow : width < 4294967295
   pub rising : Rising width 0 (keptIn start base xs)
@@ -139,7 +139,7 @@ pub record Turned (xs : List ℕ) (start base width : ℕ) (s : Stand) : Type 0 
   pub long : length xs < 2305843009213693952
 
 -- a line that stands anywhere
-pub record Walks (w b bytes xs : List ℕ) (start base width : ℕ) (s : Stand) : Type 0 where
+pub record Walks (w b bytes xs : List ℕ) (start base width : ℕ) (s : BetweenCodes) : Type 0 where
   pub lookups : Lookups w b
   pub loading : Loading bytes (s .at)
   pub placed : (start ≤ base) × (base ≤ length xs)

@@ -12,7 +12,7 @@ ghost use Rattle.swift_loops.specs.Pairs.{haltLine, startAt, paceOf, ent
 
 // Where a line stands before a black run, which begins with a change: the next bit, the position, the changes it has, an even
 // count, and the next bits, 13 of them at least.
-pub struct Pace {
+pub struct BeforePair {
     pub at: usize,
     pub position: u32,
     pub count: usize,
@@ -20,13 +20,13 @@ pub struct Pace {
 }
 
 // Where it stands behind a pair; or the next runs are no such pair.
-pub enum Paced {
-    On(Pace),
+pub enum AfterPair {
+    On(BeforePair),
     Other,
 }
 
 // Where a line stands between two runs.
-pub struct Halt {
+pub struct BetweenRuns {
     pub at: usize,
     pub position: u32,
     pub count: usize,
@@ -41,7 +41,7 @@ pub struct Pair {
 }
 
 // The line that stands so between two runs; nothing was cut in it.
-pub fn line_of(width: u32, s: Halt) -> Line
+pub fn line_of(width: u32, s: BetweenRuns) -> Line
     ensures { λ r. ⌜ r ≡ haltLine width s ⌝ }
 {
     Line {
@@ -120,15 +120,15 @@ fn bits_behind(src: &[u8], last: usize, at: usize, size: usize, window: u64) -> 
 }
 
 // Both runs pushed, each with its change.
-fn put(row: &mut [u32], width: u32, s: Pace, pair: Pair, bits: u64) -> Paced
+fn put(row: &mut [u32], width: u32, s: BeforePair, pair: Pair, bits: u64) -> AfterPair
     requires { ⌜ Putting (now row) width s pair ⌝ }
     ensures { λ r. ⌜ Puts (now (row .entry)) width s pair bits r (now (row .exit)) ⌝ }
 {
     if pair.white == 0 {
-        return Paced::Other;
+        return AfterPair::Other;
     }
     if width - s.position < pair.black + pair.white {
-        return Paced::Other;
+        return AfterPair::Other;
     }
     let count = s.count;
     let position = s.position;
@@ -136,7 +136,7 @@ fn put(row: &mut [u32], width: u32, s: Pace, pair: Pair, bits: u64) -> Paced
     let next = count + 1;
     row[count] = position;
     row[next] = middle;
-    Paced::On(Pace {
+    AfterPair::On(BeforePair {
         at: s.at + pair.size,
         position: middle + pair.white,
         count: count + 2,
@@ -154,8 +154,8 @@ fn step<'a>(
     row: &mut [u32],
     width: u32,
     last: usize,
-    s: Pace,
-) -> Paced
+    s: BeforePair,
+) -> AfterPair
     requires { ⌜ Stepping (now white) (now black) (now both) (now src) (now row) width last s ⌝ }
     ensures { λ r. ⌜ PacedTo (now (src .entry)) (now (row .entry)) width s r (now (row .exit)) ⌝ }
 {
@@ -175,8 +175,8 @@ fn pairs_from<'a>(
     row: &mut [u32],
     width: u32,
     last: usize,
-    from: Pace,
-) -> Pace
+    from: BeforePair,
+) -> BeforePair
     requires { ⌜ Pacing (now white) (now black) (now both) (now src) (now row) width last from ⌝ }
     ensures { λ r. ⌜ Ran (bitsOf (now (src .entry))) (length (now (row .entry))) width (now (row .entry)) (paceOf from) (now (row .exit)) (paceOf r) ⌝ }
 {
@@ -186,10 +186,10 @@ fn pairs_from<'a>(
             return s;
         }
         match step(white, black, both, src, row, width, last, s) {
-            Paced::Other => {
+            AfterPair::Other => {
                 return s;
             }
-            Paced::On(next) => {
+            AfterPair::On(next) => {
                 s = next;
             }
         }
@@ -198,18 +198,18 @@ fn pairs_from<'a>(
 }
 
 // The line before its first pair. The white run that opens it records nothing; where it begins with black that is a run of 0.
-fn begun(white: &[u16; 8192], width: u32, at: usize, bits: u64) -> Paced
+fn begun(white: &[u16; 8192], width: u32, at: usize, bits: u64) -> AfterPair
     requires { ⌜ Beginning width at ⌝ }
     ensures { λ r. ⌜ Begins (now (white .entry)) width at bits r ⌝ }
 {
     let first = front::front_run(white, front::top13(bits), bits);
     if first.size == 0 {
-        return Paced::Other;
+        return AfterPair::Other;
     }
     if width < first.pixels {
-        return Paced::Other;
+        return AfterPair::Other;
     }
-    Paced::On(Pace {
+    AfterPair::On(BeforePair {
         at: at + first.size,
         position: first.pixels,
         count: 0,
@@ -247,11 +247,11 @@ pub fn pairs<'a>(
     width: u32,
     at: usize,
     plain: bool,
-) -> Halt
+) -> BetweenRuns
     requires { ⌜ Pairing (now white) (now black) (now both) (now src) width at ⌝ }
     ensures { λ r. ⌜ Ran (bitsOf (now (src .entry))) (length (now (row .entry))) width (now (row .entry)) (startAt at) (now (row .exit)) r ⌝ }
 {
-    let start = Halt {
+    let start = BetweenRuns {
         at: at,
         position: 0,
         count: 0,
@@ -262,10 +262,10 @@ pub fn pairs<'a>(
     }
     let last = 8 * src.len() - 64;
     match begun(white, width, at, bit_reader::ahead(src, at)) {
-        Paced::Other => start,
-        Paced::On(from) => {
+        AfterPair::Other => start,
+        AfterPair::On(from) => {
             let t = pairs_from(white, black, both, src, row, width, last, from);
-            Halt {
+            BetweenRuns {
                 at: t.at,
                 position: t.position,
                 count: t.count,

@@ -16,7 +16,7 @@ ghost use Rattle.swift_loops.specs.Swift.{Noted, keptIn, Walked, sideMod
 
 // Where a line stands between two codes: the next bit, the position, the changes it has, and b1's place on the reference. Its colour is the
 // place's parity.
-pub struct Stand {
+pub struct BetweenCodes {
     pub at: usize,
     pub position: u32,
     pub count: usize,
@@ -24,13 +24,13 @@ pub struct Stand {
 }
 
 // Where the line stands behind a code; or the code is another.
-pub enum Taken {
-    On(Stand),
+pub enum TakenCode {
+    On(BetweenCodes),
     Other,
 }
 
 // How many changes there are once pixels of the line's colour follow: one more where the colour is not that of the last pixel.
-fn note(row: &mut [u32], s: Stand) -> usize
+fn note(row: &mut [u32], s: BetweenCodes) -> usize
     requires { ⌜ s .count < length (now row) ⌝ }
     ensures { λ r. ⌜ Noted (now (row .entry)) s r (now (row .exit)) ⌝ }
 {
@@ -90,26 +90,26 @@ fn vertical(
     start: usize,
     base: usize,
     width: u32,
-    s: Stand,
+    s: BetweenCodes,
     b1: u32,
     d: usize,
     twice: usize,
     size: usize,
-) -> Taken
+) -> TakenCode
     requires { ⌜ Sided (now changes) start base width s b1 d twice size ⌝ }
     ensures { λ r. ⌜ TookMode (now (changes .entry)) start base width s (s .at + size) (sideMode d twice) r (now (changes .exit)) ⌝ }
 {
     let to = b1 as usize + twice;
     if to <= s.position as usize + d {
-        return Taken::Other;
+        return TakenCode::Other;
     }
     if width as usize + d < to {
-        return Taken::Other;
+        return TakenCode::Other;
     }
     let a1 = (to - d) as u32;
     let count = note(&mut changes[base..], s);
     let place = behind(&changes[start..base], s.place, d, a1);
-    Taken::On(Stand {
+    TakenCode::On(BetweenCodes {
         at: s.at + size,
         position: a1,
         count: count,
@@ -124,9 +124,9 @@ fn to_each(
     start: usize,
     base: usize,
     width: u32,
-    from: Stand,
+    from: BetweenCodes,
     ones: u64,
-) -> Stand
+) -> BetweenCodes
     requires { ⌜ Turned (now changes) start base width from ⌝ }
     ensures { λ r. ⌜ WalkedBits (now (changes .entry)) start base width from ones r (now (changes .exit)) ⌝ }
 {
@@ -143,7 +143,7 @@ fn to_each(
         changes[last] = position;
         let next = start + place;
         let b1 = changes[next];
-        s = Stand {
+        s = BetweenCodes {
             at: s.at + 1,
             position: b1,
             count: s.count + 1,
@@ -160,32 +160,39 @@ fn straight(
     start: usize,
     base: usize,
     width: u32,
-    s: Stand,
+    s: BetweenCodes,
     b1: u32,
     bits: u64,
-) -> Taken
+) -> TakenCode
     requires { ⌜ Asks (now changes) start base width s b1 ⌝ }
     ensures { λ r. ⌜ TookBits (now (changes .entry)) start base width s bits 1 (s .at + 1) (VR 0) r (now (changes .exit)) ⌝ }
 {
     let count = note(&mut changes[base..], s);
-    let first = Stand {
+    let first = BetweenCodes {
         at: s.at + 1,
         position: b1,
         count: count,
         place: s.place + 1,
     };
     let last = to_each(changes, start, base, width, first, bits << 1);
-    Taken::On(last)
+    TakenCode::On(last)
 }
 
 // To b2, in the same colour.
-fn to_b2(changes: &mut [u32], start: usize, base: usize, width: u32, s: Stand, b1: u32) -> Taken
+fn to_b2(
+    changes: &mut [u32],
+    start: usize,
+    base: usize,
+    width: u32,
+    s: BetweenCodes,
+    b1: u32,
+) -> TakenCode
     requires { ⌜ Asks (now changes) start base width s b1 ⌝ }
     ensures { λ r. ⌜ TookMode (now (changes .entry)) start base width s (s .at + 4) pass r (now (changes .exit)) ⌝ }
 {
     let count = note(&mut changes[base..], s);
     let b2 = reference::change_or(&changes[start..base], s.place + 1, width);
-    Taken::On(Stand {
+    TakenCode::On(BetweenCodes {
         at: s.at + 4,
         position: b2,
         count: count,
@@ -207,10 +214,10 @@ fn two_runs<'a>(
     start: usize,
     base: usize,
     width: u32,
-    s: Stand,
+    s: BetweenCodes,
     b1: u32,
     bits: u64,
-) -> Taken
+) -> TakenCode
     requires { ⌜ Lookups (now white) (now black) × Asks (now changes) start base width s b1 ⌝ }
     ensures { λ r. ⌜ TookBits (now (changes .entry)) start base width s bits 57 (s .at + 3) horizontal r (now (changes .exit)) ⌝ }
 {
@@ -222,13 +229,13 @@ fn two_runs<'a>(
     let other = pick(black, white, parity);
     let two = front::front_run(other, front::top13(rest), rest);
     if one.pixels == 0 {
-        return Taken::Other;
+        return TakenCode::Other;
     }
     if two.pixels == 0 {
-        return Taken::Other;
+        return TakenCode::Other;
     }
     if width - s.position < one.pixels + two.pixels {
-        return Taken::Other;
+        return TakenCode::Other;
     }
     let count = note(&mut changes[base..], s);
     let a1 = s.position + one.pixels;
@@ -236,7 +243,7 @@ fn two_runs<'a>(
     changes[last] = a1;
     let position = a1 + two.pixels;
     let place = onward(&changes[start..base], s.place, position);
-    Taken::On(Stand {
+    TakenCode::On(BetweenCodes {
         at: s.at + 3 + one.size + two.size,
         position: position,
         count: count + 1,
@@ -260,10 +267,10 @@ fn code<'a>(
     start: usize,
     base: usize,
     width: u32,
-    s: Stand,
+    s: BetweenCodes,
     b1: u32,
     bits: u64,
-) -> Taken
+) -> TakenCode
     requires { ⌜ Lookups (now white) (now black) × Asks (now changes) start base width s b1 ⌝ }
     ensures { λ r. ⌜ TookAhead (now (changes .entry)) start base width s bits r (now (changes .exit)) ⌝ }
 {
@@ -304,7 +311,7 @@ fn code<'a>(
             6 * bit_of(bits, 57),
             7,
         ),
-        6.. => Taken::Other,
+        6.. => TakenCode::Other,
     }
 }
 
@@ -317,8 +324,8 @@ fn codes<'a>(
     start: usize,
     base: usize,
     width: u32,
-    from: Stand,
-) -> Stand
+    from: BetweenCodes,
+) -> BetweenCodes
     requires { ⌜ Walks (now white) (now black) (now src) (now changes) start base width from × Roomy (length (now changes) - base) width from ⌝ }
     ensures { λ r. ⌜ Walked (keptIn start base (now (changes .entry))) (bitsOf (now (src .entry))) base (length (now (changes .entry)) - base) width (now (changes .entry)) from (now (changes .exit)) r ⌝ }
 {
@@ -336,10 +343,10 @@ fn codes<'a>(
         }
         let bits = bit_reader::ahead(src, s.at);
         match code(white, black, changes, start, base, width, s, b1, bits) {
-            Taken::Other => {
+            TakenCode::Other => {
                 return s;
             }
-            Taken::On(next) => {
+            TakenCode::On(next) => {
                 s = next;
             }
         }
@@ -347,7 +354,7 @@ fn codes<'a>(
     s
 }
 
-fn has_room(room: usize, width: u32, s: Stand) -> bool
+fn has_room(room: usize, width: u32, s: BetweenCodes) -> bool
     requires { ⌜ (s .position ≤ width) × (s .count ≤ room) ⌝ }
     ensures { λ r. ⌜ r ≡ leb (width - s .position) (room - s .count) ⌝ }
 {
@@ -363,8 +370,8 @@ pub fn swift_codes<'a>(
     start: usize,
     base: usize,
     width: u32,
-    from: Stand,
-) -> Stand
+    from: BetweenCodes,
+) -> BetweenCodes
     requires { ⌜ Walks (now white) (now black) (now src) (now changes) start base width from ⌝ }
     ensures { λ r. ⌜ Walked (keptIn start base (now (changes .entry))) (bitsOf (now (src .entry))) base (length (now (changes .entry)) - base) width (now (changes .entry)) from (now (changes .exit)) r ⌝ }
 {

@@ -82,7 +82,7 @@ fn other(kind: u64, seed: u64) {
 }
 
 // How many copies had each outcome.
-struct Counts {
+struct Tally {
     right: u64,
     reading: u64,
     touched: u64,
@@ -90,8 +90,8 @@ struct Counts {
     wrong: u64,
 }
 
-fn counted(counts: Counts, said: usize) -> Counts {
-    Counts {
+fn counted(counts: Tally, said: usize) -> Tally {
+    Tally {
         right: one_more(counts.right, said == 0),
         reading: one_more(counts.reading, said == 1),
         touched: one_more(counts.touched, said == 2),
@@ -102,13 +102,13 @@ fn counted(counts: Counts, said: usize) -> Counts {
 
 // One copy; a damage after which other heads are read is told.
 fn tried(
-    counts: Counts,
+    counts: Tally,
     src: &[u8],
     settings: DecodeSettings,
     heads: u32,
     kind: u64,
     seed: u64,
-) -> Counts {
+) -> Tally {
     let said = one(src, settings, heads, kind, seed);
     if said == 4 {
         other(kind, seed);
@@ -116,8 +116,8 @@ fn tried(
     counted(counts, said)
 }
 
-fn all(src: &[u8], settings: DecodeSettings, heads: u32, kind: u64, copies: u64) -> Counts {
-    let mut counts = Counts {
+fn all(src: &[u8], settings: DecodeSettings, heads: u32, kind: u64, copies: u64) -> Tally {
+    let mut counts = Tally {
         right: 0,
         reading: 0,
         touched: 0,

@@ -48,7 +48,7 @@ use Rattle.reader.specs.Read.{wentBy, alignedAt}
 use Rattle.reader.specs.Reader.{readerAt, left, wordAfter}
 use Rattle.reader.specs.declared.BitReader.{BitReader}
 use Rattle.reader.specs.declared.Word.{Word}
-use Rattle.reader.specs.declared.cursor.Taken.{Taken}
+use Rattle.reader.specs.declared.cursor.TakenBits.{TakenBits}
 use Rattle.reader.specs.declared.cursor.Went.{Went}
 use Rattle.reader.proofs.Held.{B, D, L}
 use Rattle.reader.proofs.Local.{Toks, Lent, Out, Back, lends, comes-back, LentShared, OutShared, lends-shared, comes-back-shared}
@@ -160,7 +160,7 @@ module _ {M : Type 1} (𝓤 : URA M) (H : Heap 𝓤) (A : Atoms 𝓤) (W : Given
       move ! (2 ∷ 0 ∷ []) $ fjoin ! $ move ! (1 ∷ 0 ∷ []) $ join ! $ frame ! $ done !
 
   -- what it says of the reader h that it leaves, and of its answer
-  abbrev Consumed : BitReader → Taken → Type 0
+  abbrev Consumed : BitReader → TakenBits → Type 0
   Consumed h t = (h ≡ h₁) × (t ≡ went .answer)
 
   -- `align`
@@ -181,16 +181,16 @@ module _ {M : Type 1} (𝓤 : URA M) (H : Heap 𝓤) (A : Atoms 𝓤) (W : Given
   peek-said l ν γ t = exE 𝓤 _ (λ ws. snd∗ 𝓤 (sem 𝓤 H A (lasts peek-u32.ended (ν ∷ κ, (κ, tt)) (loan l h₂ γ, tt) ws)) (fact 𝓤 (t ≡ peek 32 (left h₂))))
 
   -- the word that is made of the number and the answer, and its machine value
-  abbrev word : ℕ → Taken → Word
+  abbrev word : ℕ → TakenBits → Word
   word bits t = record { bits = bits; answer = t }
 
-  abbrev answered : Taken → Val
+  abbrev answered : TakenBits → Val
   answered t = only (EL.vals K.the-type K′.the-laws t)
 
   abbrev worth : Word → Val
   worth w = only (LL.vals G.the-type G′.the-laws w)
 
-  made : (bits : ℕ) (t : Taken) → bits < 2 ^ 32 → Is K.the-row t (answered t ∷ []) → Is G.the-row (word bits t) (worth (word bits t) ∷ [])
+  made : (bits : ℕ) (t : TakenBits) → bits < 2 ^ 32 → Is K.the-row t (answered t ∷ []) → Is G.the-row (word bits t) (worth (word bits t) ∷ [])
   made bits t fits is = LL.owes G.the-type G′.the-laws (word bits t) ((refl, fits), (is, tt))
 
   exits : (w : Word) → w ≡ wordAfter (now s) n → Is G.the-row w (worth w ∷ []) → ent 𝓤 (⋆ 𝓤 H A ((‵ (flft κ q) ⊛ ‵ ftrue) ∷ ‵ Own ∷ [])) (Post (worth w))
@@ -221,7 +221,7 @@ module _ {M : Type 1} (𝓤 : URA M) (H : Heap 𝓤) (A : Atoms 𝓤) (W : Given
         use2 W (raw (Consume 𝓤 H A mem run .pre (to-consume l₃ ν γ))) (goes-consume l₃ ν γ) $
         -- [what the callee asks; what the lender keeps; what s owns; n's; _10; …; _9; …; _8; …; _7; …; _6; …; _5; …; _4; …; (of _3) …; _2; …; _1; …; room for _0; …]
         calls-at ! fm (Consume 𝓤 H A mem run) known-consume (to-consume l₃ ν γ) (and-then ! (load ! (from ! (stop !)) (look ! 12 refl)) (and-then ! (load ! (from ! (stop !)) (look ! 19 refl)) (no-more !))) (λ u₁.
-        use1 W (later (some (λ (t : Taken). (Toks 𝓤 H A W R κ q l₃ 0 ν ⊛ ‵ (K.the-row .own t (u₁ ∷ []))) ⊛ raw (ensured 𝓤 H A consume.ended (consume.clauses 𝓤 H A mem run) (ν ∷ κ, (κ, tt)) (loan l₃ h₀ γ, (n, tt)) tt t)))) (id⊢ 𝓤 _) $ await ! tt $ pick ! (λ t.
+        use1 W (later (some (λ (t : TakenBits). (Toks 𝓤 H A W R κ q l₃ 0 ν ⊛ ‵ (K.the-row .own t (u₁ ∷ []))) ⊛ raw (ensured 𝓤 H A consume.ended (consume.clauses 𝓤 H A mem run) (ν ∷ κ, (κ, tt)) (loan l₃ h₀ γ, (n, tt)) tt t)))) (id⊢ 𝓤 _) $ await ! tt $ pick ! (λ t.
         split ! $ move ! (1 ∷ []) $ use1 W (some (λ (zs : BitReader × (Unit {0} × Unit {0})). ‵ (lasts consume.ended (ν ∷ κ, (κ, tt)) (loan l₃ h₀ γ, (n, tt)) zs) ⊛ raw (fact 𝓤 (Consumed (zs .0) t)))) (id⊢ 𝓤 _) $ pick ! (λ zs.
         split ! $ move ! (1 ∷ []) $ heard ! (Consumed (zs .0) t) (λ e₁. fsplit ! $ move ! (1 ∷ []) $ drop ! $ move ! (1 ∷ []) $ split ! $ move ! (1 ∷ []) $
         -- [the answer; the tokens; the last reader; what the lender keeps; what s owns; n's; _10; …]

@@ -4,7 +4,7 @@ use native.Mathlib.Omega.{arith}
 use borrow.Author.Tests.{not-false}
 use denote.Ref.{now}
 use Rattle.rules.proofs.Bits.{length-bitsOf}
-use Rattle.swift_loops.specs.declared.fast_1d.Paced.{Paced}
+use Rattle.swift_loops.specs.declared.fast_1d.AfterPair.{AfterPair}
 use Rattle.swift_loops.specs.Pairs.{BegunTo}
 use Rattle.swift_loops.proofs.Running.{ran-none, ran-on}
 use borrow.Author.Needs.{needs}
@@ -38,7 +38,7 @@ enum-known-from c = search needs
 pairs-from-requires : tie.Need-pairs-from-requires
 pairs-from-requires c κs =
     let f = c .before .before .before .before .before .before .before .fit .ensures (not-false _ (c .before .before .before .before .before .before .if1 .left)) in
-    let b = subst (λ (r : Paced). BegunTo (now (c .before .before .before .before .before .before .before .before .before .before .args .src)) (now (c .before .before .before .before .before .before .before .before .before .before .args .row)) (c .before .before .before .before .before .before .before .before .before .before .args .width) (c .before .before .before .before .before .before .before .before .before .before .args .at) r) (c .before .before .from .given .1) (c .before .before .before .before .begun .ensures (c .before .before .before .before .before .before .before .before .before .before .pre .lookups .of-white) (now (c .before .before .before .before .before .before .before .before .before .before .args .src)) (now (c .before .before .before .before .before .before .before .before .before .before .args .row)) _ (c .before .before .before .before .before .ahead .ensures) (omega arith) (f .1)) in
+    let b = subst (λ (r : AfterPair). BegunTo (now (c .before .before .before .before .before .before .before .before .before .before .args .src)) (now (c .before .before .before .before .before .before .before .before .before .before .args .row)) (c .before .before .before .before .before .before .before .before .before .before .args .width) (c .before .before .before .before .before .before .before .before .before .before .args .at) r) (c .before .before .from .given .1) (c .before .before .before .before .begun .ensures (c .before .before .before .before .before .before .before .before .before .before .pre .lookups .of-white) (now (c .before .before .before .before .before .before .before .before .before .before .args .src)) (now (c .before .before .before .before .before .before .before .before .before .before .args .row)) _ (c .before .before .before .before .before .ahead .ensures) (omega arith) (f .1)) in
     record { lookups = c .before .before .before .before .before .before .before .before .before .before .pre .lookups; pairs = c .before .before .before .before .before .before .before .before .before .before .pre .pairs; limit = c .before .before .before .before .before .before .before .before .before .before .pre .loading .size; last-is = omega (arith, f .2); narrow = c .before .before .before .before .before .before .before .before .before .before .pre .narrow; paces = b .1 }
 
 returns-2 : tie.Need-returns-2
@@ -50,7 +50,7 @@ same-length c = search needs
 returns-3 : tie.Need-returns-3
 returns-3 c =
     let f = c .before .before .before .before .before .before .before .before .before .before .fit .ensures (not-false _ (c .before .before .before .before .before .before .before .before .before .if1 .left)) in
-    let b = subst (λ (r : Paced). BegunTo (now (c .before .before .before .before .before .before .before .before .before .before .before .before .before .args .src)) (now (c .before .before .before .before .before .before .before .before .before .before .before .before .before .args .row)) (c .before .before .before .before .before .before .before .before .before .before .before .before .before .args .width) (c .before .before .before .before .before .before .before .before .before .before .before .before .before .args .at) r) (c .before .before .before .before .before .from .given .1) (c .before .before .before .before .before .before .before .begun .ensures (c .before .before .before .before .before .before .before .before .before .before .before .before .before .pre .lookups .of-white) (now (c .before .before .before .before .before .before .before .before .before .before .before .before .before .args .src)) (now (c .before .before .before .before .before .before .before .before .before .before .before .before .before .args .row)) _ (c .before .before .before .before .before .before .before .before .ahead .ensures) (omega arith) (f .1)) in
+    let b = subst (λ (r : AfterPair). BegunTo (now (c .before .before .before .before .before .before .before .before .before .before .before .before .before .args .src)) (now (c .before .before .before .before .before .before .before .before .before .before .before .before .before .args .row)) (c .before .before .before .before .before .before .before .before .before .before .before .before .before .args .width) (c .before .before .before .before .before .before .before .before .before .before .before .before .before .args .at) r) (c .before .before .before .before .before .from .given .1) (c .before .before .before .before .before .before .before .begun .ensures (c .before .before .before .before .before .before .before .before .before .before .before .before .before .pre .lookups .of-white) (now (c .before .before .before .before .before .before .before .before .before .before .before .before .before .args .src)) (now (c .before .before .before .before .before .before .before .before .before .before .before .before .before .args .row)) _ (c .before .before .before .before .before .before .before .before .ahead .ensures) (omega arith) (f .1)) in
     ran-on (b .0) (c .before .before .pairs-from .ensures)
 
 pub pairs-spec : {M : Type 1} → statement M

@@ -6,7 +6,7 @@ use lib.ListN.{length}
 use denote.Ref.{now}
 use Rattle.rules.specs.Bits.{bitsOf}
 use Rattle.rules.proofs.Bits.{length-bitsOf}
-use Rattle.swift_loops.specs.declared.fast_1d.Paced.{Paced}
+use Rattle.swift_loops.specs.declared.fast_1d.AfterPair.{AfterPair}
 use Rattle.swift_loops.specs.Pairs.{Ran, Paces, PacedTo, paceOf}
 use Rattle.swift_loops.proofs.Running.{ran-none, ran-on}
 use borrow.Author.Needs.{needs}
@@ -39,7 +39,7 @@ same-length-2 c = search needs
 
 returns-2 : tie.Need-returns-2 Inv-loop μ-loop
 returns-2 c =
-    let same = subst (λ (r : Paced). PacedTo (now (c .before .before .before .before .before .before .before .before .before .before .before .before .before .args .src)) (c .before .before .before .before .before .before .before .before .before .before .loop .row) (c .before .before .before .before .before .before .before .before .before .before .before .before .before .args .width) (c .before .before .before .before .before .before .before .before .before .before .loop .s) r (c .before .before .before .before .step .last .1 .1 .1 .1 .0)) (c .enum-told .given .1) (c .before .before .before .before .step .ensures) in
+    let same = subst (λ (r : AfterPair). PacedTo (now (c .before .before .before .before .before .before .before .before .before .before .before .before .before .args .src)) (c .before .before .before .before .before .before .before .before .before .before .loop .row) (c .before .before .before .before .before .before .before .before .before .before .before .before .before .args .width) (c .before .before .before .before .before .before .before .before .before .before .loop .s) r (c .before .before .before .before .step .last .1 .1 .1 .1 .0)) (c .enum-told .given .1) (c .before .before .before .before .step .ensures) in
     rw same (c .before .before .before .before .before .before .before .before .before .before .loop .inv .0)
 
 enum-known-next : tie.Need-enum-known-next Inv-loop μ-loop
@@ -47,12 +47,12 @@ enum-known-next c = search needs
 
 loop-less : tie.Need-loop-less Inv-loop μ-loop
 loop-less c =
-    let took = subst (λ (r : Paced). PacedTo (now (c .before .before .before .before .before .before .before .before .before .before .before .before .before .before .args .src)) (c .before .before .before .before .before .before .before .before .before .before .before .loop .row) (c .before .before .before .before .before .before .before .before .before .before .before .before .before .before .args .width) (c .before .before .before .before .before .before .before .before .before .before .before .loop .s) r (c .before .before .before .before .before .step .last .1 .1 .1 .1 .0)) (c .before .next .given .1) (c .before .before .before .before .before .step .ensures) in
+    let took = subst (λ (r : AfterPair). PacedTo (now (c .before .before .before .before .before .before .before .before .before .before .before .before .before .before .args .src)) (c .before .before .before .before .before .before .before .before .before .before .before .loop .row) (c .before .before .before .before .before .before .before .before .before .before .before .before .before .before .args .width) (c .before .before .before .before .before .before .before .before .before .before .before .loop .s) r (c .before .before .before .before .before .step .last .1 .1 .1 .1 .0)) (c .before .next .given .1) (c .before .before .before .before .before .step .ensures) in
     omega (arith, took .2, took .1 .halts .fits)
 
 loop-again : tie.Need-loop-again Inv-loop μ-loop
 loop-again c =
-    let took = subst (λ (r : Paced). PacedTo (now (c .before .before .before .before .before .before .before .before .before .before .before .before .before .before .args .src)) (c .before .before .before .before .before .before .before .before .before .before .before .loop .row) (c .before .before .before .before .before .before .before .before .before .before .before .before .before .before .args .width) (c .before .before .before .before .before .before .before .before .before .before .before .loop .s) r (c .before .before .before .before .before .step .last .1 .1 .1 .1 .0)) (c .before .next .given .1) (c .before .before .before .before .before .step .ensures) in
+    let took = subst (λ (r : AfterPair). PacedTo (now (c .before .before .before .before .before .before .before .before .before .before .before .before .before .before .args .src)) (c .before .before .before .before .before .before .before .before .before .before .before .loop .row) (c .before .before .before .before .before .before .before .before .before .before .before .before .before .before .args .width) (c .before .before .before .before .before .before .before .before .before .before .before .loop .s) r (c .before .before .before .before .before .step .last .1 .1 .1 .1 .0)) (c .before .next .given .1) (c .before .before .before .before .before .step .ensures) in
     (ran-on (c .before .before .before .before .before .before .before .before .before .before .before .loop .inv .0) (took .0), took .1)
 
 same-length-3 : tie.Need-same-length-3 Inv-loop μ-loop
