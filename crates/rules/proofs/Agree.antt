@@ -4,8 +4,8 @@ use mathlib.Core.Bool.{Bool}
 use mathlib.Core.List.{List, _++_}
 use Prim.Native.Nat.{ℕ, _+_, _-_, _≤_}
 use native.Mathlib.Omega.{arith}
-use lib.ListN.{length, take, drop, length-append, take-append-drop}
-use lib.Seq.{take-take, take-add, drop-at, take-at, drop-drop, length-take-le, take-append-le}
+use lib.ListN.{length, take, drop, take-append-drop}
+use lib.Seq.{take-take, take-add, drop-at, take-at, drop-drop, length-take-le}
 
 -- the first n bits of both are there, and the same
 pub record Agree (n : ℕ) (bs cs : List Bool) : Type 0 where
@@ -36,11 +36,3 @@ agree-word {n = n} {bs = bs} {cs = cs} a at xs rest h e =
 
     part : take (length xs) (drop at bs) ≡ take (length xs) (drop at cs)
     part = sym (cut bs (omega (arith, b .long))) ∙ ap (drop at) (b .same) ∙ cut cs (omega (arith, b .long′))
-
--- bits before any others agree with themselves before others
-pub agree-append : (xs ys zs : List Bool) (n : ℕ) → n ≤ length xs → Agree n (xs ++ ys) (xs ++ zs)
-agree-append xs ys zs n h = record {
-  same = take-append-le n xs ys h ∙ sym (take-append-le n xs zs h);
-  long = omega (arith, length-append xs ys);
-  long′ = omega (arith, length-append xs zs);
-}
