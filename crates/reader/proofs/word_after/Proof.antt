@@ -56,8 +56,8 @@ use Rattle.reader.proofs.BitReader as T
 use Rattle.reader.proofs.BitReader.Laws as T′
 use Rattle.reader.proofs.Word as G
 use Rattle.reader.proofs.Word.Laws as G′
-use Rattle.reader.proofs.cursor.Taken as K
-use Rattle.reader.proofs.cursor.Taken.Laws as K′
+use Rattle.reader.proofs.cursor.TakenBits as K
+use Rattle.reader.proofs.cursor.TakenBits.Laws as K′
 use Rattle.reader.proofs.BitReader.new as new
 use Rattle.reader.proofs.BitReader.new.Symbol as new-def
 use Rattle.reader.proofs.BitReader.new.Symbol.{name as #reader·new}

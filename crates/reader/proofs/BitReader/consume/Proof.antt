@@ -44,8 +44,8 @@ use Rattle.reader.specs.declared.BitReader.{BitReader}
 use Rattle.reader.specs.declared.cursor.Went.{Went}
 use Rattle.reader.proofs.cursor.Went as G
 use Rattle.reader.proofs.cursor.Went.Laws as G′
-use Rattle.reader.proofs.cursor.Taken as K
-use Rattle.reader.proofs.cursor.Taken.Laws as K′
+use Rattle.reader.proofs.cursor.TakenBits as K
+use Rattle.reader.proofs.cursor.TakenBits.Laws as K′
 use Rattle.reader.proofs.BitReader.Laws as T′
 use Rattle.reader.specs.Reader.{readerAt, taking}
 use Rattle.reader.proofs.Held.{B, D, L, sliceOf, Own, OwnSlice, behind, slice-out, put-at}
