@@ -29,34 +29,18 @@ fn put_code(colour: &[u8], row: [u16; 3]) {
     io::write_all(STDOUT_FILENO, b"\n");
 }
 
-fn put_terminating(colour: &[u8], table: &[[u16; 3]; 64]) {
+fn put_table(colour: &[u8], table: &[[u16; 3]]) {
     let mut k = 0;
-    while k < 64 {
-        put_code(colour, table[k]);
-        k += 1;
-    }
-}
-
-fn put_makeup(colour: &[u8], table: &[[u16; 3]; 27]) {
-    let mut k = 0;
-    while k < 27 {
-        put_code(colour, table[k]);
-        k += 1;
-    }
-}
-
-fn put_common(colour: &[u8], table: &[[u16; 3]; 13]) {
-    let mut k = 0;
-    while k < 13 {
+    while k < table.len() {
         put_code(colour, table[k]);
         k += 1;
     }
 }
 
 fn main() {
-    put_terminating(b"white", &tables::white_terminating());
-    put_makeup(b"white", &tables::white_makeup());
-    put_terminating(b"black", &tables::black_terminating());
-    put_makeup(b"black", &tables::black_makeup());
-    put_common(b"both", &tables::common_makeup());
+    put_table(b"white", &tables::white_terminating());
+    put_table(b"white", &tables::white_makeup());
+    put_table(b"black", &tables::black_terminating());
+    put_table(b"black", &tables::black_makeup());
+    put_table(b"both", &tables::common_makeup());
 }
