@@ -22,11 +22,11 @@ use Rattle.tables.specs.Tables.{colourOf}
 use Rattle.answer.specs.Answer.{numberOf}
 use Rattle.answer.specs.declared.DecodeError.{DecodeError}
 use Rattle.codes.specs.declared.eol.Eols.{Eols}
-use Rattle.codes.specs.declared.run.Code.{Code}
-use Rattle.codes.specs.declared.run.Code.the-variants as Code
+use Rattle.codes.specs.declared.run.RunCode.{RunCode}
+use Rattle.codes.specs.declared.run.RunCode.the-variants as RunCode
 use Rattle.codes.specs.Runs.{codeOf}
 use Rattle.context.specs.declared.line.Line.{Line}
-use Rattle.context.specs.declared.reference.Found.{Found}
+use Rattle.context.specs.declared.reference.FoundChanges.{FoundChanges}
 use Rattle.context.specs.declared.step.Step.{Step}
 use Rattle.context.specs.declared.step.Step.the-variants as Step
 use Rattle.one_line.specs.declared.one_code.OneCode.{OneCode}
@@ -163,7 +163,7 @@ module _ (bytes : List ℕ) (settings : DecodeSettings) (xs es ms : List ℕ) (k
     two-colours = line .holds .coloured;
   }
 
-  module _ (short : l .position < l .width) (f : Found) (q : Finds reference (l .width) (l .position) (colourOf (l .colour)) f) where
+  module _ (short : l .position < l .width) (f : FoundChanges) (q : Finds reference (l .width) (l .position) (colourOf (l .colour)) f) where
     pub mode-asks : OneCoding bytes lent l at (f .b2)
     mode-asks = record {
       loading = record { size = asked .size; inside = line .inside };
@@ -201,14 +201,14 @@ module _ (bytes : List ℕ) (settings : DecodeSettings) (xs es ms : List ℕ) (k
 
   -- ---- A code of a run
 
-  module _ (h : Half) (from total : ℕ) (code : Code) (q : codeOf code ≡ runStep (colourOf (l .colour)) (bitsOf bytes) (sum at total)) where
-    pub run-bad : (e : DecodeError) (place : ℕ) → code ≡ Code.Bad e place → UnitGives bytes settings xs es ms k (InRun h l from total at) (doneFor (numberOf e) place 0 k (l .changes)) xs es ms
+  module _ (h : Half) (from total : ℕ) (code : RunCode) (q : codeOf code ≡ runStep (colourOf (l .colour)) (bitsOf bytes) (sum at total)) where
+    pub run-bad : (e : DecodeError) (place : ℕ) → code ≡ RunCode.Bad e place → UnitGives bytes settings xs es ms k (InRun h l from total at) (doneFor (numberOf e) place 0 k (l .changes)) xs es ms
     run-bad e place c = run-fails bytes settings asked xs es ms k kept l at seen line h from total (numberOf e) place (sym (ap codeOf c) ∙ q)
 
-    pub run-more : (total′ next : ℕ) → code ≡ Code.More total′ next → UnitGives bytes settings xs es ms k (InRun h l from total at) (More k (InRun h l from total′ next) seen) xs es ms
+    pub run-more : (total′ next : ℕ) → code ≡ RunCode.More total′ next → UnitGives bytes settings xs es ms k (InRun h l from total at) (More k (InRun h l from total′ next) seen) xs es ms
     run-more total′ next c = run-goes bytes settings asked xs es ms k kept l at seen line h from total total′ next (sym (ap codeOf c) ∙ q)
 
-    module _ (total′ next : ℕ) (c : code ≡ Code.Last total′ next) (step : Step) (zs : List ℕ) (e : RunEnded lent l total′ from next (rulesIn settings) step zs) where
+    module _ (total′ next : ℕ) (c : code ≡ RunCode.Last total′ next) (step : Step) (zs : List ℕ) (e : RunEnded lent l total′ from next (rulesIn settings) step zs) where
       ended : RunEnded row l total′ from next (rulesIn settings) step zs
       ended = subst (λ (r : List ℕ). RunEnded r l total′ from next (rulesIn settings) step zs) lent-is e
 

@@ -34,8 +34,8 @@ use Rattle.settings.specs.Ends.{Allowed}
 use Rattle.by_unit.specs.declared.Phase.{Phase}
 use Rattle.by_unit.specs.declared.Phase.the-variants as Phase
 use Rattle.by_unit.specs.declared.Saved.{Saved}
-use Rattle.by_unit.specs.declared.End.{End}
-use Rattle.by_unit.specs.declared.End.the-variants as End
+use Rattle.by_unit.specs.declared.PageEnd.{PageEnd}
+use Rattle.by_unit.specs.declared.PageEnd.the-variants as PageEnd
 use Rattle.by_unit.specs.declared.EndCounts.{EndCounts}
 use Rattle.by_unit.specs.declared.Reading.{Reading}
 use Rattle.by_unit.specs.declared.Reading.the-variants.{Open, Ended}
@@ -226,18 +226,18 @@ end-held n place bytes loose c (inl h) a = cases n h a
     cases (suc (suc (suc (suc (suc (suc n)))))) h a = absurd (omega arith)
 
 -- any other number
-pub end-other : (n place bytes loose : ℕ) → 5 < n → End.Short ≡ endFrom n place bytes loose
+pub end-other : (n place bytes loose : ℕ) → 5 < n → PageEnd.Short ≡ endFrom n place bytes loose
 end-other n place bytes loose h =
     rw (ne-eqb n 0 (λ e. omega (arith, e)), ne-eqb n 1 (λ e. omega (arith, e)), ne-eqb n 2 (λ e. omega (arith, e)), ne-eqb n 3 (λ e. omega (arith, e)), ne-eqb n 4 (λ e. omega (arith, e)), ne-eqb n 5 (λ e. omega (arith, e)))
 
-pub end-listed : (e : End) (c : EndCounts) → Ending (saidOf e c .number)
-end-listed (End.Done bytes) c = inl (omega arith)
-end-listed (End.InvalidCode place loose) c = inl (omega arith)
-end-listed (End.UnexpectedEof place loose) c = inl (omega arith)
-end-listed (End.Overflow place loose) c = inl (omega arith)
-end-listed (End.NoEntry loose) c = inl (omega arith)
-end-listed (End.NoRowEnd loose) c = inl (omega arith)
-end-listed End.Short c = inr refl
+pub end-listed : (e : PageEnd) (c : EndCounts) → Ending (saidOf e c .number)
+end-listed (PageEnd.Done bytes) c = inl (omega arith)
+end-listed (PageEnd.InvalidCode place loose) c = inl (omega arith)
+end-listed (PageEnd.UnexpectedEof place loose) c = inl (omega arith)
+end-listed (PageEnd.Overflow place loose) c = inl (omega arith)
+end-listed (PageEnd.NoEntry loose) c = inl (omega arith)
+end-listed (PageEnd.NoRowEnd loose) c = inl (omega arith)
+end-listed PageEnd.Short c = inr refl
 
 -- ---- No two states stand for the same
 
@@ -264,14 +264,14 @@ black-back false = refl
 abbrev endedFrom : Said → Reading
 endedFrom d = Ended (endFrom (d .number) (d .place) (d .bytes) (d .loose)) (record { rows = d .rows; entries = d .entries })
 
-end-back : (e : End) (c : EndCounts) → endedFrom (saidOf e c) ≡ Ended e c
-end-back (End.Done bytes) c = refl
-end-back (End.InvalidCode place loose) c = refl
-end-back (End.UnexpectedEof place loose) c = refl
-end-back (End.Overflow place loose) c = refl
-end-back (End.NoEntry loose) c = refl
-end-back (End.NoRowEnd loose) c = refl
-end-back End.Short c = refl
+end-back : (e : PageEnd) (c : EndCounts) → endedFrom (saidOf e c) ≡ Ended e c
+end-back (PageEnd.Done bytes) c = refl
+end-back (PageEnd.InvalidCode place loose) c = refl
+end-back (PageEnd.UnexpectedEof place loose) c = refl
+end-back (PageEnd.Overflow place loose) c = refl
+end-back (PageEnd.NoEntry loose) c = refl
+end-back (PageEnd.NoRowEnd loose) c = refl
+end-back PageEnd.Short c = refl
 
 pub same-reading : (s t : Reading) → readingOf s ≡ readingOf t → s ≡ t
 same-reading s t e = sym (back s) ∙ ap from e ∙ back t

@@ -26,7 +26,7 @@ use Rattle.settings.specs.Settings.{settingsOf}
 use Rattle.settings.specs.Ends.{Allowed}
 use Rattle.settings.proofs.Ends.{short-allowed}
 use Rattle.by_unit.specs.declared.Saved.{Saved}
-use Rattle.by_unit.specs.declared.End.{End}
+use Rattle.by_unit.specs.declared.PageEnd.{PageEnd}
 use Rattle.by_unit.specs.declared.EndCounts.{EndCounts}
 use Rattle.by_unit.specs.declared.Reading.{Reading}
 use Rattle.by_unit.specs.declared.Reading.the-variants.{Open, Ended}
@@ -70,7 +70,7 @@ module _ (bytes : List ℕ) (settings : DecodeSettings) (xs es ms : List ℕ) wh
 
   module _ (n : ℕ) (some′ : n ≡ 0 → ⊥) (reading : Reading) where
     -- the end is repeated
-    pub turn-again : (e : End) (c : EndCounts) → reading ≡ Ended e c → (a : Answer) → a ≡ answerFor e c → (r : Turn) → r ≡ stillFor a (Ended e c) → ReadsUnits bytes settings xs es ms reading n r xs es ms
+    pub turn-again : (e : PageEnd) (c : EndCounts) → reading ≡ Ended e c → (a : Answer) → a ≡ answerFor e c → (r : Turn) → r ≡ stillFor a (Ended e c) → ReadsUnits bytes settings xs es ms reading n r xs es ms
     unfolding turn
     turn-again e c z a q r f =
         subst (λ (x : Reading). ReadsUnits bytes settings xs es ms x n r xs es ms) (sym z)

@@ -22,8 +22,8 @@ use Rattle.settings.specs.Settings.{settingsOf}
 use Rattle.by_unit.specs.declared.Phase.{Phase}
 use Rattle.by_unit.specs.declared.Phase.the-variants as Phase
 use Rattle.by_unit.specs.declared.Saved.{Saved}
-use Rattle.by_unit.specs.declared.End.{End}
-use Rattle.by_unit.specs.declared.End.the-variants as End
+use Rattle.by_unit.specs.declared.PageEnd.{PageEnd}
+use Rattle.by_unit.specs.declared.PageEnd.the-variants as PageEnd
 use Rattle.by_unit.specs.declared.EndCounts.{EndCounts}
 use Rattle.by_unit.specs.declared.Reading.{Reading}
 use Rattle.by_unit.specs.declared.Reading.the-variants.{Open, Ended}
@@ -70,14 +70,14 @@ abbrev pub Ending : ℕ → Type 0
 Ending n = (n ≤ 5) ⊎ (n ≡ 14)
 
 -- number, place and bytes, rows, entries and loose entries: each number has those that 01 allows it, and the others are 0
-abbrev pub saidOf : End → EndCounts → Said
-saidOf (End.Done bytes) c = says 0 0 bytes (c .rows) (c .entries) 0
-saidOf (End.InvalidCode place loose) c = says 1 place 0 (c .rows) (c .entries) loose
-saidOf (End.UnexpectedEof place loose) c = says 2 place 0 (c .rows) (c .entries) loose
-saidOf (End.Overflow place loose) c = says 3 place 0 (c .rows) (c .entries) loose
-saidOf (End.NoEntry loose) c = says 4 0 0 (c .rows) (c .entries) loose
-saidOf (End.NoRowEnd loose) c = says 5 0 0 (c .rows) (c .entries) loose
-saidOf End.Short c = says 14 0 0 (c .rows) (c .entries) 0
+abbrev pub saidOf : PageEnd → EndCounts → Said
+saidOf (PageEnd.Done bytes) c = says 0 0 bytes (c .rows) (c .entries) 0
+saidOf (PageEnd.InvalidCode place loose) c = says 1 place 0 (c .rows) (c .entries) loose
+saidOf (PageEnd.UnexpectedEof place loose) c = says 2 place 0 (c .rows) (c .entries) loose
+saidOf (PageEnd.Overflow place loose) c = says 3 place 0 (c .rows) (c .entries) loose
+saidOf (PageEnd.NoEntry loose) c = says 4 0 0 (c .rows) (c .entries) loose
+saidOf (PageEnd.NoRowEnd loose) c = says 5 0 0 (c .rows) (c .entries) loose
+saidOf PageEnd.Short c = says 14 0 0 (c .rows) (c .entries) 0
 
 abbrev pub readingOf : Reading → Rule.Reading
 readingOf (Open s) = opened (savedOf s)
@@ -117,13 +117,13 @@ asReadFor s = record {
   plain = s .plain;
 }
 
-abbrev pub endFrom : ℕ → ℕ → ℕ → ℕ → End
+abbrev pub endFrom : ℕ → ℕ → ℕ → ℕ → PageEnd
 endFrom n place bytes loose =
-    cond (eqb n 0) (End.Done bytes)
-    (cond (eqb n 1) (End.InvalidCode place loose)
-    (cond (eqb n 2) (End.UnexpectedEof place loose) (cond (eqb n 3) (End.Overflow place loose) (cond (eqb n 4) (End.NoEntry loose) (cond (eqb n 5) (End.NoRowEnd loose) End.Short)))))
+    cond (eqb n 0) (PageEnd.Done bytes)
+    (cond (eqb n 1) (PageEnd.InvalidCode place loose)
+    (cond (eqb n 2) (PageEnd.UnexpectedEof place loose) (cond (eqb n 3) (PageEnd.Overflow place loose) (cond (eqb n 4) (PageEnd.NoEntry loose) (cond (eqb n 5) (PageEnd.NoRowEnd loose) PageEnd.Short)))))
 
-abbrev pub answerFor : End → EndCounts → Answer
+abbrev pub answerFor : PageEnd → EndCounts → Answer
 answerFor e c = answerOf (saidOf e c)
 
 abbrev pub stillFor : Answer → Reading → Turn

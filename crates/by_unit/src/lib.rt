@@ -45,7 +45,7 @@ pub struct Saved {
 
 // How a page ended: with a number of the list, 0 to 5 or 14, and with what that number may have beside it, so that no other end can
 // be repeated: 0 its bytes; 1, 2 and 3 the bit at fault and the loose entries; 4 and 5 the loose entries; 14 nothing.
-pub enum End {
+pub enum PageEnd {
     Done(u64),
     InvalidCode(u64, u64),
     UnexpectedEof(u64, u64),
@@ -64,7 +64,7 @@ pub struct EndCounts {
 // What a call hands back and the next one takes.
 pub enum Reading {
     Open(Saved),
-    Ended(End, EndCounts),
+    Ended(PageEnd, EndCounts),
 }
 
 // A call's answer, and the units it took.
@@ -112,17 +112,17 @@ fn as_read(settings: DecodeSettings) -> DecodeSettings
     }
 }
 
-fn end_of(number: u32, place: u64, bytes: u64, loose: u64) -> End
+fn end_of(number: u32, place: u64, bytes: u64, loose: u64) -> PageEnd
     ensures { λ r. ⌜ r ≡ endFrom number place bytes loose ⌝ }
 {
     match number {
-        0 => End::Done(bytes),
-        1 => End::InvalidCode(place, loose),
-        2 => End::UnexpectedEof(place, loose),
-        3 => End::Overflow(place, loose),
-        4 => End::NoEntry(loose),
-        5 => End::NoRowEnd(loose),
-        _ => End::Short,
+        0 => PageEnd::Done(bytes),
+        1 => PageEnd::InvalidCode(place, loose),
+        2 => PageEnd::UnexpectedEof(place, loose),
+        3 => PageEnd::Overflow(place, loose),
+        4 => PageEnd::NoEntry(loose),
+        5 => PageEnd::NoRowEnd(loose),
+        _ => PageEnd::Short,
     }
 }
 
@@ -141,17 +141,17 @@ fn counted(number: u32, place: u64, bytes: u64, loose: u64, counts: EndCounts) -
 }
 
 // The answer to repeat.
-fn answer_of(end: End, counts: EndCounts) -> Answer
+fn answer_of(end: PageEnd, counts: EndCounts) -> Answer
     ensures { λ r. ⌜ r ≡ answerFor end counts ⌝ }
 {
     match end {
-        End::Done(bytes) => counted(0, 0, bytes, 0, counts),
-        End::InvalidCode(place, loose) => counted(1, place, 0, loose, counts),
-        End::UnexpectedEof(place, loose) => counted(2, place, 0, loose, counts),
-        End::Overflow(place, loose) => counted(3, place, 0, loose, counts),
-        End::NoEntry(loose) => counted(4, 0, 0, loose, counts),
-        End::NoRowEnd(loose) => counted(5, 0, 0, loose, counts),
-        End::Short => counted(14, 0, 0, 0, counts),
+        PageEnd::Done(bytes) => counted(0, 0, bytes, 0, counts),
+        PageEnd::InvalidCode(place, loose) => counted(1, place, 0, loose, counts),
+        PageEnd::UnexpectedEof(place, loose) => counted(2, place, 0, loose, counts),
+        PageEnd::Overflow(place, loose) => counted(3, place, 0, loose, counts),
+        PageEnd::NoEntry(loose) => counted(4, 0, 0, loose, counts),
+        PageEnd::NoRowEnd(loose) => counted(5, 0, 0, loose, counts),
+        PageEnd::Short => counted(14, 0, 0, 0, counts),
     }
 }
 

@@ -6,7 +6,7 @@ use crate::stand::NextEol;
 use crate::stand::Out;
 use crate::stand::Stand;
 use codes::eol::Eols;
-use codes::run::Code;
+use codes::run::RunCode;
 use context::line::Line;
 use context::reference;
 use context::step::Rules;
@@ -176,13 +176,13 @@ fn run_unit<'a>(
 {
     let colour = line.colour as usize;
     match one_code::run_code(white, black, colour, src, at, total, settings.plain) {
-        Code::Bad(e, place) => {
+        RunCode::Bad(e, place) => {
             Out::Done(stand::said(answer::number(e), place, 0, kept, line.changes))
         }
-        Code::More(sum, next) => {
+        RunCode::More(sum, next) => {
             Out::More(kept, Stand::InRun(half, line, from, sum, next), seen)
         }
-        Code::Last(sum, next) => {
+        RunCode::Last(sum, next) => {
             let base = kept.base;
             let rules = rules_of(settings);
             let step = one_code::end_run(&mut changes[base..], line, sum, from, next, rules);

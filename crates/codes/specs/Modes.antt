@@ -5,8 +5,8 @@ use Rattle.rules.specs.Runs.{Res, ok, fault}
 use Rattle.rules.specs.Modes as Rule
 use Rattle.rules.specs.Modes.{pass, horizontal, VR, VL, Moded, moded}
 use Rattle.answer.specs.Answer.{numberOf}
-use Rattle.codes.specs.declared.mode.Kind.{Kind}
-use Rattle.codes.specs.declared.mode.Kind.the-variants as Kind
+use Rattle.codes.specs.declared.mode.ModeKind.{ModeKind}
+use Rattle.codes.specs.declared.mode.ModeKind.the-variants as ModeKind
 use Rattle.codes.specs.declared.mode.Mode.{Mode}
 use Rattle.codes.specs.declared.mode.Mode.the-variants.{Pass, Horizontal, Vertical, Bad}
 
@@ -15,10 +15,10 @@ abbrev pub offsetMode : ℤ → Rule.Mode
 offsetMode (pos k) = VR k
 offsetMode (negsuc k) = VL (suc k)
 
-abbrev pub kindOf : Kind → Rule.Mode
-kindOf Kind.Pass = pass
-kindOf Kind.Horizontal = horizontal
-kindOf (Kind.Vertical offset) = offsetMode offset
+abbrev pub kindOf : ModeKind → Rule.Mode
+kindOf ModeKind.Pass = pass
+kindOf ModeKind.Horizontal = horizontal
+kindOf (ModeKind.Vertical offset) = offsetMode offset
 
 -- a mode that was read, or the bit at which its failing code began
 abbrev pub modeOf : Mode → Res Moded

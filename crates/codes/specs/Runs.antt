@@ -20,8 +20,8 @@ use Rattle.codes.specs.declared.plain.Found.{Found}
 use Rattle.codes.specs.declared.plain.Found.the-variants as Found
 use Rattle.codes.specs.declared.run.Run.{Run}
 use Rattle.codes.specs.declared.run.Run.the-variants.{Length, Bad}
-use Rattle.codes.specs.declared.run.Code.{Code}
-use Rattle.codes.specs.declared.run.Code.the-variants as Code
+use Rattle.codes.specs.declared.run.RunCode.{RunCode}
+use Rattle.codes.specs.declared.run.RunCode.the-variants as RunCode
 
 abbrev pub runOf : Run → Res Sum
 runOf (Length n b) = ok (sum (b .at) n)
@@ -44,10 +44,10 @@ pub record RunRead (colour : Colour) (bytes : List ℕ) (at : ℕ) (r : Run) : T
 
 -- ---- One code of a run
 
-abbrev pub codeOf : Code → Out Sum (Res Sum)
-codeOf (Code.Last total at) = done (ok (sum at total))
-codeOf (Code.More total at) = more (sum at total)
-codeOf (Code.Bad e place) = done (fault (numberOf e) place)
+abbrev pub codeOf : RunCode → Out Sum (Res Sum)
+codeOf (RunCode.Last total at) = done (ok (sum at total))
+codeOf (RunCode.More total at) = more (sum at total)
+codeOf (RunCode.Bad e place) = done (fault (numberOf e) place)
 
 -- what it asks: the tables, and a bit inside the data
 pub record CodeFrom (w b bytes : List ℕ) (at : ℕ) : Type 0 where

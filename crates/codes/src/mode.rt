@@ -20,14 +20,15 @@ pub enum Mode {
     Bad(DecodeError, usize),
 }
 
-enum Kind {
+// A mode by itself, without the place of its code.
+enum ModeKind {
     Pass,
     Horizontal,
     Vertical(i64),
 }
 
 // A mode whose code has `size` bits, where these are there.
-fn coded(len: usize, at: usize, size: usize, kind: Kind) -> Mode
+fn coded(len: usize, at: usize, size: usize, kind: ModeKind) -> Mode
     requires { ⌜ Taking len at size ⌝ }
     ensures { λ r. ⌜ modeOf r ≡ modeTake (8 * len) at (known (kindOf kind) size) ⌝ }
 {
@@ -35,9 +36,9 @@ fn coded(len: usize, at: usize, size: usize, kind: Kind) -> Mode
         return Mode::Bad(DecodeError::UnexpectedEof, at);
     };
     match kind {
-        Kind::Pass => Mode::Pass(next),
-        Kind::Horizontal => Mode::Horizontal(next),
-        Kind::Vertical(offset) => Mode::Vertical(offset, next),
+        ModeKind::Pass => Mode::Pass(next),
+        ModeKind::Horizontal => Mode::Horizontal(next),
+        ModeKind::Vertical(offset) => Mode::Vertical(offset, next),
     }
 }
 
@@ -71,12 +72,12 @@ pub fn by_zeros(src: &[u8], at: usize, bits: u32) -> Mode
 {
     let len = src.len();
     match u32::leading_zeros(bits) {
-        0 => coded(len, at, 1, Kind::Vertical(0)),
-        1 => coded(len, at, 3, Kind::Vertical(side(bits, 1, 1, -1))),
-        2 => coded(len, at, 3, Kind::Horizontal),
-        3 => coded(len, at, 4, Kind::Pass),
-        4 => coded(len, at, 6, Kind::Vertical(side(bits, 4, 2, -2))),
-        5 => coded(len, at, 7, Kind::Vertical(side(bits, 5, 3, -3))),
+        0 => coded(len, at, 1, ModeKind::Vertical(0)),
+        1 => coded(len, at, 3, ModeKind::Vertical(side(bits, 1, 1, -1))),
+        2 => coded(len, at, 3, ModeKind::Horizontal),
+        3 => coded(len, at, 4, ModeKind::Pass),
+        4 => coded(len, at, 6, ModeKind::Vertical(side(bits, 4, 2, -2))),
+        5 => coded(len, at, 7, ModeKind::Vertical(side(bits, 5, 3, -3))),
         6.. => no_mode(len, at),
     }
 }

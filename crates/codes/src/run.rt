@@ -84,7 +84,7 @@ pub fn read_run<'a>(
 
 // One code of a run, with the sum so far: the last code, or a make-up code, each with the bit after it; or the error, and the
 // code's first bit.
-pub enum Code {
+pub enum RunCode {
     Last(u32, usize),
     More(u32, usize),
     Bad(DecodeError, usize),
@@ -118,21 +118,21 @@ pub fn look_up<'a>(
 }
 
 // What a code makes of the sum so far, whichever engine found it.
-pub(crate) fn add_code(found: Found, at: usize, total: u32) -> Code
+pub(crate) fn add_code(found: Found, at: usize, total: u32) -> RunCode
     requires { ⌜ Addable at found ⌝ }
     ensures { λ r. ⌜ codeOf r ≡ summed (sum at total) (foundOf found) ⌝ }
 {
     match found {
-        Found::Lost(e, _) => Code::Bad(e, at),
+        Found::Lost(e, _) => RunCode::Bad(e, at),
         Found::Code(run, taken) => {
             let sum = total as usize + run;
             if MOST_SUM < sum {
-                return Code::Bad(DecodeError::Overflow, at);
+                return RunCode::Bad(DecodeError::Overflow, at);
             }
             if run < 64 {
-                return Code::Last(sum as u32, at + taken);
+                return RunCode::Last(sum as u32, at + taken);
             }
-            Code::More(sum as u32, at + taken)
+            RunCode::More(sum as u32, at + taken)
         }
     }
 }
@@ -145,7 +145,7 @@ pub fn read_code<'a>(
     src: &[u8],
     at: usize,
     total: u32,
-) -> Code
+) -> RunCode
     requires { ⌜ CodeFrom (now white) (now black) (now src) at ⌝ }
     ensures { λ r. ⌜ codeOf r ≡ runStep (colourOf colour) (bitsOf (now (src .entry))) (sum at total) ⌝ }
 {

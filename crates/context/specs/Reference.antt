@@ -8,7 +8,7 @@ use lib.ListN.{length, getD}
 use Rattle.rules.specs.Codes.{Colour, white, black, differ}
 use Rattle.rules.specs.Lines.{rightOfA0, b1, b2}
 use Rattle.rules.specs.Rising.{Rising}
-use Rattle.context.specs.declared.reference.Found.{Found}
+use Rattle.context.specs.declared.reference.FoundChanges.{FoundChanges}
 
 -- each change before the place `seen` lies left of `least`
 pub record Passed (least seen : ℕ) (reference : List ℕ) : Type 0 where
@@ -36,7 +36,7 @@ pub record Searches (reference : List ℕ) (seen width position colour : ℕ) : 
   pub two-colours : colour ≤ 1
 
 -- what it finds
-pub record Finds (reference : List ℕ) (width position : ℕ) (colour : Colour) (r : Found) : Type 0 where
+pub record Finds (reference : List ℕ) (width position : ℕ) (colour : Colour) (r : FoundChanges) : Type 0 where
   pub b1-is : r .b1 ≡ b1 width reference position colour
   pub b2-is : r .b2 ≡ b2 width reference position colour
   pub passed : Passed (rightOfA0 position) (r .seen) reference

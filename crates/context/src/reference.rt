@@ -9,7 +9,7 @@ ghost use Rattle.context.specs.Reference.{Passed, Stopped, Searches, Fin
 ghost use Rattle.context.specs.Places.{B1At};
 
 // Where the next search goes on, and the two changes, each the width where it is absent.
-pub struct Found {
+pub struct FoundChanges {
     pub seen: usize,
     pub b1: u32,
     pub b2: u32,
@@ -69,13 +69,13 @@ pub fn change_or(row: &[u32], place: usize, width: u32) -> u32
 }
 
 // b1 and b2 for a position and its colour; the search starts where the one before it stopped.
-pub fn find(reference: &[u32], seen: usize, width: u32, position: u32, colour: u32) -> Found
+pub fn find(reference: &[u32], seen: usize, width: u32, position: u32, colour: u32) -> FoundChanges
     requires { ⌜ Searches (now reference) seen width position colour ⌝ }
     ensures { λ r. ⌜ Finds (now (reference .entry)) width position (colourOf colour) r ⌝ }
 {
     let stop = scan(reference, seen, right_of_a0(position));
     let place = b1_place(stop, colour);
-    Found {
+    FoundChanges {
         seen: stop,
         b1: change_or(reference, place, width),
         b2: change_or(reference, place + 1, width),

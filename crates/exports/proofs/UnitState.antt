@@ -14,8 +14,8 @@ use Rattle.settings.specs.declared.DecodeSettings.{DecodeSettings}
 use Rattle.by_unit.specs.declared.Phase.{Phase}
 use Rattle.by_unit.specs.declared.Phase.the-variants as Phase
 use Rattle.by_unit.specs.declared.Saved.{Saved}
-use Rattle.by_unit.specs.declared.End.{End}
-use Rattle.by_unit.specs.declared.End.the-variants as End
+use Rattle.by_unit.specs.declared.PageEnd.{PageEnd}
+use Rattle.by_unit.specs.declared.PageEnd.the-variants as PageEnd
 use Rattle.by_unit.specs.declared.EndCounts.{EndCounts}
 use Rattle.by_unit.specs.declared.Reading.{Reading}
 use Rattle.by_unit.specs.declared.Reading.the-variants.{Open, Ended}
@@ -37,7 +37,7 @@ phase-few Phase.Mode = omega arith
 phase-few Phase.First = omega arith
 phase-few Phase.Second = omega arith
 
-end-some : (e : End) → endNumbers e .number ≡ 0 → ⊥
+end-some : (e : PageEnd) → endNumbers e .number ≡ 0 → ⊥
 end-some e z = omega (arith, z)
 
 and-true : {a b : Bool} → a ≡ true → b ≡ true → (a && b) ≡ true
@@ -117,23 +117,23 @@ module _ (xs : List ℕ) where
   -- ---- An ended page's
 
   module _ (ended-end : getD xs 12 0 ≡ 0 → ⊥) where
-    only-ended : ((e : End) (c : EndCounts) → endedNumbers e c ≡ xs → ⊥) → (r : Reading) → Wordy r → numbersOf r ≡ xs → ⊥
+    only-ended : ((e : PageEnd) (c : EndCounts) → endedNumbers e c ≡ xs → ⊥) → (r : Reading) → Wordy r → numbersOf r ≡ xs → ⊥
     only-ended h (Ended e c) w q = h e c q
     only-ended h (Open s) w q = ended-end (sym (ap (λ (l : List ℕ). getD l 12 0) q))
 
     -- four numbers of it are zero
-    pub ended-zeros : (a b c d : ℕ) → ((e : End) (n : EndCounts) → (getD (endedNumbers e n) a 0 ≡ 0) × (getD (endedNumbers e n) b 0 ≡ 0) × (getD (endedNumbers e n) c 0 ≡ 0) × (getD (endedNumbers e n) d 0 ≡ 0))
+    pub ended-zeros : (a b c d : ℕ) → ((e : PageEnd) (n : EndCounts) → (getD (endedNumbers e n) a 0 ≡ 0) × (getD (endedNumbers e n) b 0 ≡ 0) × (getD (endedNumbers e n) c 0 ≡ 0) × (getD (endedNumbers e n) d 0 ≡ 0))
         → (eqb (getD xs a 0) 0 && (eqb (getD xs b 0) 0 && (eqb (getD xs c 0) 0 && eqb (getD xs d 0) 0))) ≡ false → (r : Reading) → Wordy r → numbersOf r ≡ xs → ⊥
     ended-zeros a b c d h f = only-ended λ e n q.
         let (h1, h2, h3, h4) = h e n in
         true≢false (sym (and-true (eq-eqb _ _ (sym (ap (λ (l : List ℕ). getD l a 0) q) ∙ h1)) (and-true (eq-eqb _ _ (sym (ap (λ (l : List ℕ). getD l b 0) q) ∙ h2)) (and-true (eq-eqb _ _ (sym (ap (λ (l : List ℕ). getD l c 0) q) ∙ h3)) (eq-eqb _ _ (sym (ap (λ (l : List ℕ). getD l d 0) q) ∙ h4))))) ∙ f)
 
-    pub ended-no-end : ((e : End) → endNumbers e ≡ Row.endedNumbers (getD xs 12 0) (getD xs 15 0) (getD xs 14 0) (getD xs 6 0) → ⊥) → (r : Reading) → Wordy r → numbersOf r ≡ xs → ⊥
+    pub ended-no-end : ((e : PageEnd) → endNumbers e ≡ Row.endedNumbers (getD xs 12 0) (getD xs 15 0) (getD xs 14 0) (getD xs 6 0) → ⊥) → (r : Reading) → Wordy r → numbersOf r ≡ xs → ⊥
     ended-no-end h = only-ended λ e n q. h e (ap (λ (l : List ℕ). Row.endedNumbers (getD l 12 0) (getD l 15 0) (getD l 14 0) (getD l 6 0)) q)
 
     module _ (long : length xs ≡ 16) (p : (eqb (getD xs 0 0) 0 && (eqb (getD xs 1 0) 0 && (eqb (getD xs 2 0) 0 && eqb (getD xs 4 0) 0))) ≡ true)
         (q : (eqb (getD xs 5 0) 0 && (eqb (getD xs 7 0) 0 && (eqb (getD xs 8 0) 0 && eqb (getD xs 9 0) 0))) ≡ true) (r : (eqb (getD xs 10 0) 0 && (eqb (getD xs 11 0) 0 && (eqb 0 0 && eqb 0 0))) ≡ true)
-        (e : End) (h : endNumbers e ≡ Row.endedNumbers (getD xs 12 0) (getD xs 15 0) (getD xs 14 0) (getD xs 6 0)) where
+        (e : PageEnd) (h : endNumbers e ≡ Row.endedNumbers (getD xs 12 0) (getD xs 15 0) (getD xs 14 0) (getD xs 6 0)) where
       abbrev counted : EndCounts
       counted = record { rows = getD xs 3 0; entries = getD xs 13 0 }
 
@@ -155,24 +155,24 @@ module _ (xs : List ℕ) where
 
 -- ---- The end's numbers
 
-end-back : (e : End) → endFrom (endNumbers e) ≡ e
-end-back (End.Done bytes) = refl
-end-back (End.InvalidCode place loose) = refl
-end-back (End.UnexpectedEof place loose) = refl
-end-back (End.Overflow place loose) = refl
-end-back (End.NoEntry loose) = refl
-end-back (End.NoRowEnd loose) = refl
-end-back End.Short = refl
+end-back : (e : PageEnd) → endFrom (endNumbers e) ≡ e
+end-back (PageEnd.Done bytes) = refl
+end-back (PageEnd.InvalidCode place loose) = refl
+end-back (PageEnd.UnexpectedEof place loose) = refl
+end-back (PageEnd.Overflow place loose) = refl
+end-back (PageEnd.NoEntry loose) = refl
+end-back (PageEnd.NoRowEnd loose) = refl
+end-back PageEnd.Short = refl
 
-pub end-other : (n : EndNumbers) → (n .number ≡ 1 → ⊥) → (n .number ≡ 2 → ⊥) → (n .number ≡ 3 → ⊥) → (n .number ≡ 4 → ⊥) → (n .number ≡ 5 → ⊥) → (n .number ≡ 6 → ⊥) → End.Short ≡ endFrom n
+pub end-other : (n : EndNumbers) → (n .number ≡ 1 → ⊥) → (n .number ≡ 2 → ⊥) → (n .number ≡ 3 → ⊥) → (n .number ≡ 4 → ⊥) → (n .number ≡ 5 → ⊥) → (n .number ≡ 6 → ⊥) → PageEnd.Short ≡ endFrom n
 end-other n h1 h2 h3 h4 h5 h6 = rw (ne-eqb (n .number) 1 h1, ne-eqb (n .number) 2 h2, ne-eqb (n .number) 3 h3, ne-eqb (n .number) 4 h4, ne-eqb (n .number) 5 h5, ne-eqb (n .number) 6 h6)
 
 -- numbers are an end's exactly if the end that they would be has them
-module _ (n own : EndNumbers) (end : End) (from : end ≡ endFrom n) (has : own ≡ endNumbers end) (same : Bool) (told : Same own n same) where
+module _ (n own : EndNumbers) (end : PageEnd) (from : end ≡ endFrom n) (has : own ≡ endNumbers end) (same : Bool) (told : Same own n same) where
   pub end-is : same ≡ true → endNumbers end ≡ n
   end-is q = sym has ∙ subst (Same own n) q told
 
-  pub end-none : same ≡ false → (e : End) → endNumbers e ≡ n → ⊥
+  pub end-none : same ≡ false → (e : PageEnd) → endNumbers e ≡ n → ⊥
   end-none q e f = subst (Same own n) q told (has ∙ ap endNumbers (from ∙ ap endFrom (sym f) ∙ end-back e) ∙ f)
 
 -- ---- No two readings have the same numbers
@@ -229,14 +229,14 @@ same-numbers r s e = sym (back r) ∙ ap from e ∙ back s
     })
     back (Ended e c) = ends e
       where
-        ends : (e : End) → from (endedNumbers e c) ≡ Ended e c
-        ends (End.Done bytes) = refl
-        ends (End.InvalidCode place loose) = refl
-        ends (End.UnexpectedEof place loose) = refl
-        ends (End.Overflow place loose) = refl
-        ends (End.NoEntry loose) = refl
-        ends (End.NoRowEnd loose) = refl
-        ends End.Short = refl
+        ends : (e : PageEnd) → from (endedNumbers e c) ≡ Ended e c
+        ends (PageEnd.Done bytes) = refl
+        ends (PageEnd.InvalidCode place loose) = refl
+        ends (PageEnd.UnexpectedEof place loose) = refl
+        ends (PageEnd.Overflow place loose) = refl
+        ends (PageEnd.NoEntry loose) = refl
+        ends (PageEnd.NoRowEnd loose) = refl
+        ends PageEnd.Short = refl
 
 -- ---- A call
 

@@ -14,8 +14,8 @@ use Rattle.settings.specs.declared.DecodeSettings.{DecodeSettings}
 use Rattle.by_unit.specs.declared.Phase.{Phase}
 use Rattle.by_unit.specs.declared.Phase.the-variants as Phase
 use Rattle.by_unit.specs.declared.Saved.{Saved}
-use Rattle.by_unit.specs.declared.End.{End}
-use Rattle.by_unit.specs.declared.End.the-variants as End
+use Rattle.by_unit.specs.declared.PageEnd.{PageEnd}
+use Rattle.by_unit.specs.declared.PageEnd.the-variants as PageEnd
 use Rattle.by_unit.specs.declared.EndCounts.{EndCounts}
 use Rattle.by_unit.specs.declared.Reading.{Reading}
 use Rattle.by_unit.specs.declared.Reading.the-variants.{Open, Ended}
@@ -23,8 +23,8 @@ use Rattle.by_unit.specs.declared.Turn.{Turn}
 use Rattle.by_unit.specs.Standing.{answerOf}
 use Rattle.by_unit.specs.Reading.{saidOf, ReadsUnits}
 use Rattle.exports.specs.declared.UnitAnswer.{UnitAnswer}
-use Rattle.exports.specs.declared.unit_state.EndIn.{EndIn}
-use Rattle.exports.specs.declared.unit_state.EndIn.the-variants as EndIn
+use Rattle.exports.specs.declared.unit_state.PageEndIn.{PageEndIn}
+use Rattle.exports.specs.declared.unit_state.PageEndIn.the-variants as PageEndIn
 use Rattle.exports.specs.declared.unit_state.ReadingIn.{ReadingIn}
 use Rattle.exports.specs.declared.unit_state.ReadingIn.the-variants as ReadingIn
 use Rattle.exports.specs.declared.row_state.EndNumbers.{EndNumbers}
@@ -40,25 +40,25 @@ phaseNumber Phase.First = 2
 phaseNumber Phase.Second = 3
 
 -- one more than the number that the page ended with; its place, bytes and loose entries, which are 0 where 01 allows that number none
-abbrev pub endNumbers : End → EndNumbers
+abbrev pub endNumbers : PageEnd → EndNumbers
 endNumbers e =
     let s = saidOf e (record { rows = 0; entries = 0 }) in
     Row.endedNumbers (s .number + 1) (s .place) (s .bytes) (s .loose)
 
 -- the end that numbers would be, if they are some end's
-abbrev pub endFrom : EndNumbers → End
+abbrev pub endFrom : EndNumbers → PageEnd
 endFrom n =
-    cond (eqb (n .number) 1) (End.Done (n .bytes))
-    (cond (eqb (n .number) 2) (End.InvalidCode (n .place) (n .loose))
-    (cond (eqb (n .number) 3) (End.UnexpectedEof (n .place) (n .loose))
-    (cond (eqb (n .number) 4) (End.Overflow (n .place) (n .loose)) (cond (eqb (n .number) 5) (End.NoEntry (n .loose)) (cond (eqb (n .number) 6) (End.NoRowEnd (n .loose)) End.Short)))))
+    cond (eqb (n .number) 1) (PageEnd.Done (n .bytes))
+    (cond (eqb (n .number) 2) (PageEnd.InvalidCode (n .place) (n .loose))
+    (cond (eqb (n .number) 3) (PageEnd.UnexpectedEof (n .place) (n .loose))
+    (cond (eqb (n .number) 4) (PageEnd.Overflow (n .place) (n .loose)) (cond (eqb (n .number) 5) (PageEnd.NoEntry (n .loose)) (cond (eqb (n .number) 6) (PageEnd.NoRowEnd (n .loose)) PageEnd.Short)))))
 
 abbrev pub openNumbers : Saved → List ℕ
 openNumbers s =
     phaseNumber (s .phase) ∷ s .at ∷ s .eols ∷ s .rows ∷ s .position ∷ flagNumber (s .black) ∷ s .loose ∷ flagNumber (s .cut)
     ∷ s .run ∷ s .«run_at» ∷ s .«mode_at» ∷ flagNumber (s .blank) ∷ 0 ∷ 0 ∷ 0 ∷ 0 ∷ []
 
-abbrev pub endedNumbers : End → EndCounts → List ℕ
+abbrev pub endedNumbers : PageEnd → EndCounts → List ℕ
 endedNumbers e c =
     0 ∷ 0 ∷ 0 ∷ c .rows ∷ 0 ∷ 0 ∷ endNumbers e .loose ∷ 0
     ∷ 0 ∷ 0 ∷ 0 ∷ 0 ∷ endNumbers e .number ∷ c .entries ∷ endNumbers e .bytes ∷ endNumbers e .place ∷ []
@@ -74,9 +74,9 @@ Wordy (Ended e c) = Unit {0}
 
 -- Numbers are told to be those of a reading, or those that none has. So an end that no page has is none: a number off the list, or one with a count that 01 never
 -- gives it, as 0 with a place or 1 with bytes.
-abbrev pub EndTold : ℕ → ℕ → ℕ → ℕ → EndIn → Type 0
-EndTold number place bytes loose (EndIn.End e) = endNumbers e ≡ Row.endedNumbers number place bytes loose
-EndTold number place bytes loose EndIn.NoEnd = (e : End) → endNumbers e ≡ Row.endedNumbers number place bytes loose → ⊥
+abbrev pub EndTold : ℕ → ℕ → ℕ → ℕ → PageEndIn → Type 0
+EndTold number place bytes loose (PageEndIn.End e) = endNumbers e ≡ Row.endedNumbers number place bytes loose
+EndTold number place bytes loose PageEndIn.NoEnd = (e : PageEnd) → endNumbers e ≡ Row.endedNumbers number place bytes loose → ⊥
 
 abbrev pub ReadingTold : List ℕ → ReadingIn → Type 0
 ReadingTold numbers (ReadingIn.Held r) = Wordy r × (numbersOf r ≡ numbers)

@@ -7,6 +7,7 @@ ghost use Prim.Native.Nat.{_≤_};
 ghost use lib.ListN.{length};
 ghost use Rattle.exports.specs.RowState.{sideNumber, flagNumber, endedNumbers, endNumbers, endFrom, numbersOf, Same, EndTold, StateTold};
 
+// The end that numbers are, or that no end has them.
 enum EndIn {
     End(End),
     NoEnd,

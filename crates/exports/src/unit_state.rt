@@ -1,8 +1,8 @@
 // The unit form's state in sixteen lent numbers, all of them zero at a page's start.
 use crate::row_state;
 use crate::row_state::EndNumbers;
-use by_unit::End;
 use by_unit::EndCounts;
+use by_unit::PageEnd;
 use by_unit::Phase;
 use by_unit::Reading;
 use by_unit::Saved;
@@ -106,50 +106,51 @@ fn open_in(state: &[u64]) -> ReadingIn
     }))
 }
 
-enum EndIn {
-    End(End),
+// The end that numbers are, or that no end has them.
+enum PageEndIn {
+    End(PageEnd),
     NoEnd,
 }
 
-fn end_numbers(end: End) -> EndNumbers
+fn end_numbers(end: PageEnd) -> EndNumbers
     ensures { λ r. ⌜ r ≡ endNumbers end ⌝ }
 {
     match end {
-        End::Done(bytes) => row_state::ended(1, 0, bytes, 0),
-        End::InvalidCode(place, loose) => row_state::ended(2, place, 0, loose),
-        End::UnexpectedEof(place, loose) => row_state::ended(3, place, 0, loose),
-        End::Overflow(place, loose) => row_state::ended(4, place, 0, loose),
-        End::NoEntry(loose) => row_state::ended(5, 0, 0, loose),
-        End::NoRowEnd(loose) => row_state::ended(6, 0, 0, loose),
-        End::Short => row_state::ended(15, 0, 0, 0),
+        PageEnd::Done(bytes) => row_state::ended(1, 0, bytes, 0),
+        PageEnd::InvalidCode(place, loose) => row_state::ended(2, place, 0, loose),
+        PageEnd::UnexpectedEof(place, loose) => row_state::ended(3, place, 0, loose),
+        PageEnd::Overflow(place, loose) => row_state::ended(4, place, 0, loose),
+        PageEnd::NoEntry(loose) => row_state::ended(5, 0, 0, loose),
+        PageEnd::NoRowEnd(loose) => row_state::ended(6, 0, 0, loose),
+        PageEnd::Short => row_state::ended(15, 0, 0, 0),
     }
 }
 
 // The end that numbers would be.
-fn end_from(number: u64, place: u64, bytes: u64, loose: u64) -> End
+fn end_from(number: u64, place: u64, bytes: u64, loose: u64) -> PageEnd
     ensures { λ r. ⌜ r ≡ endFrom (Row.endedNumbers number place bytes loose) ⌝ }
 {
     match number {
-        1 => End::Done(bytes),
-        2 => End::InvalidCode(place, loose),
-        3 => End::UnexpectedEof(place, loose),
-        4 => End::Overflow(place, loose),
-        5 => End::NoEntry(loose),
-        6 => End::NoRowEnd(loose),
-        _ => End::Short,
+        1 => PageEnd::Done(bytes),
+        2 => PageEnd::InvalidCode(place, loose),
+        3 => PageEnd::UnexpectedEof(place, loose),
+        4 => PageEnd::Overflow(place, loose),
+        5 => PageEnd::NoEntry(loose),
+        6 => PageEnd::NoRowEnd(loose),
+        _ => PageEnd::Short,
     }
 }
 
 // They are an end's if that end has them: a number off the list, or one with a count that it never has, is none.
-fn end_in(number: u64, place: u64, bytes: u64, loose: u64) -> EndIn
+fn end_in(number: u64, place: u64, bytes: u64, loose: u64) -> PageEndIn
     ensures { λ r. ⌜ EndTold number place bytes loose r ⌝ }
 {
     let end = end_from(number, place, bytes, loose);
     let own = end_numbers(end);
     if !row_state::are_same(own, number, place, bytes, loose) {
-        return EndIn::NoEnd;
+        return PageEndIn::NoEnd;
     }
-    EndIn::End(end)
+    PageEndIn::End(end)
 }
 
 // An ended page's: what is open about one is zero.
@@ -167,8 +168,8 @@ fn ended_in(state: &[u64]) -> ReadingIn
         return ReadingIn::NoReading;
     }
     match end_in(state[12], state[15], state[14], state[6]) {
-        EndIn::NoEnd => ReadingIn::NoReading,
-        EndIn::End(end) => {
+        PageEndIn::NoEnd => ReadingIn::NoReading,
+        PageEndIn::End(end) => {
             let counts = EndCounts {
                 rows: state[3],
                 entries: state[13],
@@ -230,7 +231,7 @@ fn put_open(state: &mut [u64], saved: Saved)
     state[15] = 0;
 }
 
-fn put_ended(state: &mut [u64], end: End, counts: EndCounts)
+fn put_ended(state: &mut [u64], end: PageEnd, counts: EndCounts)
     requires { ⌜ length (now state) ≡ 16 ⌝ }
     ensures { λ r. ⌜ now (state .exit) ≡ endedNumbers end counts ⌝ }
 {

@@ -28,8 +28,8 @@ use Rattle.settings.specs.declared.State.{State}
 use Rattle.settings.specs.Settings.{settingsOf, taggingOf}
 use Rattle.settings.specs.Between.{stateOf}
 use Rattle.settings.proofs.Ended.{unchanged}
-use Rattle.group3.specs.declared.line.Kind.{Kind}
-use Rattle.group3.specs.declared.line.Kind.the-variants.{One, Two, NoTag}
+use Rattle.group3.specs.declared.line.LineKind.{LineKind}
+use Rattle.group3.specs.declared.line.LineKind.the-variants.{One, Two, NoTag}
 use Rattle.group3.specs.Tags.{isTagged}
 use Rattle.group3.specs.Lined.{linesBy, kindLine, KindStarts, KindAt, LineFrom, lineIn}
 
@@ -80,7 +80,7 @@ module _ {bytes : List ℕ} {at : ℕ} (h : Loading bytes at) (t : Tagging) wher
 
 -- ---- The line, into the store
 
-module _ {w b bytes lent xs : List ℕ} {settings : DecodeSettings} {st : State} {at : ℕ} (h : LineFrom w b bytes lent xs settings st at) (k : Kind) (a : KindAt bytes (taggingOf (settings .encoding)) at k) where
+module _ {w b bytes lent xs : List ℕ} {settings : DecodeSettings} {st : State} {at : ℕ} (h : LineFrom w b bytes lent xs settings st at) (k : LineKind) (a : KindAt bytes (taggingOf (settings .encoding)) at k) where
   abbrev base : ℕ
   base = st .base
 

@@ -14,26 +14,26 @@ use Rattle.settings.specs.declared.DecodeSettings.{DecodeSettings}
 use Rattle.settings.specs.declared.State.{State}
 use Rattle.settings.specs.Settings.{settingsOf, taggingOf}
 use Rattle.settings.specs.Between.{stateOf, RowFrom}
-use Rattle.group3.specs.declared.line.Kind.{Kind}
-use Rattle.group3.specs.declared.line.Kind.the-variants.{One, Two, NoTag}
+use Rattle.group3.specs.declared.line.LineKind.{LineKind}
+use Rattle.group3.specs.declared.line.LineKind.the-variants.{One, Two, NoTag}
 
 -- how the lines of a page are read
 abbrev pub linesBy : DecodeSettings → Line.Rules
 linesBy s = record { strict = s .strict; exact = s .exact; plain = s .plain }
 
 -- the line of a kind, of which the tag bit or the first code begins at a bit
-abbrev pub kindLine : Rules → List ℕ → List Bool → ℕ → Kind → Went
+abbrev pub kindLine : Rules → List ℕ → List Bool → ℕ → LineKind → Went
 kindLine R reference bs at (One start) = readLine R one bs start
 kindLine R reference bs at (Two start) = readLine R (two reference) bs start
 kindLine R reference bs at NoTag = failed 2 (length bs) (newLine at)
 
-abbrev pub KindStarts : List ℕ → Kind → Type 0
+abbrev pub KindStarts : List ℕ → LineKind → Type 0
 KindStarts bytes (One start) = Loading bytes start
 KindStarts bytes (Two start) = Loading bytes start
 KindStarts bytes NoTag = Unit {0}
 
 -- the kind of the line at a bit, whatever its rules and its reference
-pub record KindAt (bytes : List ℕ) (t : Tagging) (at : ℕ) (r : Kind) : Type 0 where
+pub record KindAt (bytes : List ℕ) (t : Tagging) (at : ℕ) (r : LineKind) : Type 0 where
   pub starts : KindStarts bytes r
   pub same : (S : Settings) (R : Rules) (reference : List ℕ) → kindLine R reference (bitsOf bytes) at r ≡ line3 S t (bitsOf bytes) R reference at t
 

@@ -15,26 +15,26 @@ ghost use Rattle.settings.specs.Settings.{taggingOf};
 ghost use Rattle.group3.specs.Lined.{KindAt, LineFrom, lineIn};
 
 // Where the codes of a 1D or a 2D line begin; or no tag bit is left.
-enum Kind {
+enum LineKind {
     One(usize),
     Two(usize),
     NoTag,
 }
 
-fn kind_at(src: &[u8], settings: DecodeSettings, at: usize) -> Kind
+fn kind_at(src: &[u8], settings: DecodeSettings, at: usize) -> LineKind
     requires { ⌜ Loading (now src) at ⌝ }
     ensures { λ r. ⌜ KindAt (now (src .entry)) (taggingOf (settings .encoding)) at r ⌝ }
 {
     if !eols::is_tagged(settings) {
-        return Kind::One(at);
+        return LineKind::One(at);
     }
     if bit_reader::at_end(src.len(), at) {
-        return Kind::NoTag;
+        return LineKind::NoTag;
     }
     if eols::is_one(src, at) {
-        return Kind::One(at + 1);
+        return LineKind::One(at + 1);
     }
-    Kind::Two(at + 1)
+    LineKind::Two(at + 1)
 }
 
 pub(crate) fn decode<'a>(
@@ -59,11 +59,11 @@ pub(crate) fn decode<'a>(
         plain: settings.plain,
     };
     match kind_at(src, settings, at) {
-        Kind::NoTag => {
+        LineKind::NoTag => {
             let end = 8 * src.len();
             Step::Stop(answer::UNEXPECTED_EOF, line::new_line(columns), end)
         }
-        Kind::One(start) => {
+        LineKind::One(start) => {
             line_1d::decode_1d_line(
                 white,
                 black,
@@ -75,7 +75,7 @@ pub(crate) fn decode<'a>(
                 rules,
             )
         }
-        Kind::Two(start) => {
+        LineKind::Two(start) => {
             let place = state.reference;
             line_2d::decode_2d_line(
                 white,

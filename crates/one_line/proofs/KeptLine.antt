@@ -14,7 +14,7 @@ use Rattle.rules.proofs.Bits.{length-bitsOf}
 use Rattle.rules.specs.Rising.{Rising}
 use Rattle.tables.specs.Tables.{colourOf}
 use Rattle.context.specs.declared.line.Line.{Line}
-use Rattle.context.specs.declared.reference.Found.{Found}
+use Rattle.context.specs.declared.reference.FoundChanges.{FoundChanges}
 use Rattle.context.specs.declared.step.Rules as Code
 use Rattle.context.specs.declared.step.Step.{Step}
 use Rattle.context.specs.declared.step.Step.the-variants.{On, Stop}
@@ -153,7 +153,7 @@ module _ (w b bytes xs : List ℕ) (first base width start : ℕ) (rules : Code.
 
     -- a code by the full rules, at the changes of b1's place and the next
     module _ (short : s .position ≡ width → ⊥) {first′ second : ℕ} (b1-is : first′ ≡ headOr width (drop (s .place) (keptIn first base zs))) (b2-is : second ≡ headOr width (drop (s .place + 1) (keptIn first base zs))) where
-      abbrev found : Found
+      abbrev found : FoundChanges
       found = record { seen = min (length (keptIn first base xs)) (s .place - 1); b1 = first′; b2 = second }
 
       finds : Finds (keptIn first base zs) width (s .position) (colourOf (s .place % 2)) found

@@ -17,7 +17,7 @@ use Rattle.rules.proofs.Lines.{moves, line-more, line-failed, line-done}
 use Rattle.rules.specs.Rising.{Rising}
 use Rattle.tables.specs.Tables.{colourOf}
 use Rattle.context.specs.declared.line.Line.{Line}
-use Rattle.context.specs.declared.reference.Found.{Found}
+use Rattle.context.specs.declared.reference.FoundChanges.{FoundChanges}
 use Rattle.context.specs.declared.step.Rules as Code
 use Rattle.context.specs.declared.step.Step.{Step}
 use Rattle.context.specs.declared.step.Step.the-variants.{On, Stop}
@@ -157,7 +157,7 @@ module _ {T : Task} {l : Line} {at seen : ℕ} {zs : List ℕ} (g : Reading T l 
       });
     }
 
-    module _ {f : Found} (q : Finds (referenceIn (T .place) (T .base) (T .reference) zs) (l .width) (l .position) (colourOf (l .colour)) f) where
+    module _ {f : FoundChanges} (q : Finds (referenceIn (T .place) (T .base) (T .reference) zs) (l .width) (l .position) (colourOf (l .colour)) f) where
       finds : Finds (ref T) (l .width) (l .position) (colourOf (l .colour)) f
       finds = subst (λ (r : List ℕ). Finds r (l .width) (l .position) (colourOf (l .colour)) f) reading-reference q
 

@@ -9,7 +9,7 @@ use context::line::Push;
 use context::offset;
 use context::offset::Move;
 use context::reference;
-use context::reference::Found;
+use context::reference::FoundChanges;
 use context::reference::Reference;
 use context::step;
 use context::step::Rules;
@@ -133,7 +133,7 @@ fn find(
     place: Reference,
     seen: usize,
     line: Line,
-) -> Found
+) -> FoundChanges
     requires { ⌜ Seeks place base (now reference) (now changes) seen line ⌝ }
     ensures { λ r. ⌜ Finds (referenceIn place base (now (reference .entry)) (now (changes .entry))) (line .width) (line .position) (colourOf (line .colour)) r ⌝ }
 {

@@ -5,7 +5,7 @@ use codes::mode;
 use codes::mode::Mode;
 use codes::plain;
 use codes::run;
-use codes::run::Code;
+use codes::run::RunCode;
 use context::line;
 use context::line::Line;
 use context::offset;
@@ -70,7 +70,7 @@ pub fn run_code<'a>(
     at: usize,
     total: u32,
     plain: bool,
-) -> Code
+) -> RunCode
     requires { ⌜ CodeFrom (now white) (now black) (now src) at ⌝ }
     ensures { λ r. ⌜ codeOf r ≡ runStep (colourOf colour) (bitsOf (now (src .entry))) (sum at total) ⌝ }
 {

@@ -18,8 +18,8 @@ use Rattle.settings.specs.Ends.{Allowed}
 use Rattle.by_row.specs.declared.End.{End}
 use Rattle.by_row.specs.declared.End.the-variants as End
 use Rattle.by_row.specs.ByRow.{endOf, rowStateOf}
-use Rattle.by_unit.specs.declared.End as Units
-use Rattle.by_unit.specs.declared.End.the-variants as UnitEnd
+use Rattle.by_unit.specs.declared.PageEnd.{PageEnd}
+use Rattle.by_unit.specs.declared.PageEnd.the-variants as PageEnd
 use Rattle.by_unit.specs.declared.EndCounts.{EndCounts}
 use Rattle.by_unit.specs.declared.Reading.{Reading}
 use Rattle.by_unit.specs.declared.Reading.the-variants.{Open, Ended}
@@ -88,14 +88,14 @@ row-ends-allowed bytes settings c g h =
 abbrev SaidAllowed : Said → Type 0
 SaidAllowed d = Allowed (d .number) (d .place) (d .bytes) (d .loose)
 
-said-allowed : (e : Units.End) (c : EndCounts) → SaidAllowed (saidOf e c)
-said-allowed (UnitEnd.Done bytes) c = done-allowed bytes
-said-allowed (UnitEnd.InvalidCode place loose) c = fault-allowed 1 place loose (omega arith) (omega arith)
-said-allowed (UnitEnd.UnexpectedEof place loose) c = fault-allowed 2 place loose (omega arith) (omega arith)
-said-allowed (UnitEnd.Overflow place loose) c = fault-allowed 3 place loose (omega arith) (omega arith)
-said-allowed (UnitEnd.NoEntry loose) c = room-allowed 4 loose (omega arith) (omega arith)
-said-allowed (UnitEnd.NoRowEnd loose) c = room-allowed 5 loose (omega arith) (omega arith)
-said-allowed UnitEnd.Short c = short-allowed
+said-allowed : (e : PageEnd) (c : EndCounts) → SaidAllowed (saidOf e c)
+said-allowed (PageEnd.Done bytes) c = done-allowed bytes
+said-allowed (PageEnd.InvalidCode place loose) c = fault-allowed 1 place loose (omega arith) (omega arith)
+said-allowed (PageEnd.UnexpectedEof place loose) c = fault-allowed 2 place loose (omega arith) (omega arith)
+said-allowed (PageEnd.Overflow place loose) c = fault-allowed 3 place loose (omega arith) (omega arith)
+said-allowed (PageEnd.NoEntry loose) c = room-allowed 4 loose (omega arith) (omega arith)
+said-allowed (PageEnd.NoRowEnd loose) c = room-allowed 5 loose (omega arith) (omega arith)
+said-allowed PageEnd.Short c = short-allowed
 
 reading-allowed : (r : Reading) (d : Said) → readingOf r ≡ ByUnit.ended d → SaidAllowed d
 reading-allowed (Ended e c) d q = subst SaidAllowed (let z : saidOf e c ≡ d = cc in z) (said-allowed e c)

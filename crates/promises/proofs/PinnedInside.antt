@@ -32,8 +32,8 @@ use Rattle.codes.specs.declared.mode.Mode.the-variants as Code
 use Rattle.codes.specs.declared.mode.Mode.the-variants.{Pass, Horizontal, Vertical}
 use Rattle.codes.specs.declared.plain.Found.{Found}
 use Rattle.codes.specs.declared.plain.Found.the-variants as Found
-use Rattle.codes.specs.declared.run.Code as RunCode
-use Rattle.codes.specs.declared.run.Code.the-variants as OfRun
+use Rattle.codes.specs.declared.run.RunCode.{RunCode}
+use Rattle.codes.specs.declared.run.RunCode.the-variants as OfRun
 use Rattle.codes.specs.declared.run.Run.{Run}
 use Rattle.codes.specs.declared.run.Run.the-variants.{Length, Bad}
 use Rattle.context.specs.Places.{B1At}
@@ -120,12 +120,12 @@ read-code-pinned colour bytes at = settled-by foundOf foundFrom found-back _
 pub look-up-pinned : Pinned.LookUpPinned
 look-up-pinned colour bytes at = settled-by foundOf foundFrom found-back _
 
-abbrev codeFrom : Out Sum (Res Sum) → RunCode.Code
+abbrev codeFrom : Out Sum (Res Sum) → RunCode
 codeFrom (more s) = OfRun.More (s .total) (s .at)
 codeFrom (done (ok s)) = OfRun.Last (s .total) (s .at)
 codeFrom (done (fault n place)) = OfRun.Bad (errorFrom n) place
 
-code-back : (r : RunCode.Code) → codeFrom (codeOf r) ≡ r
+code-back : (r : RunCode) → codeFrom (codeOf r) ≡ r
 code-back (OfRun.Last total at) = refl
 code-back (OfRun.More total at) = refl
 code-back (OfRun.Bad e place) = ap (λ (e : DecodeError). OfRun.Bad e place) (error-back e)

@@ -17,7 +17,7 @@ use Rattle.codes.specs.declared.run.Run.{Run}
 use Rattle.codes.specs.Modes.{modeOf}
 use Rattle.codes.specs.declared.mode.Mode.{Mode}
 use Rattle.context.specs.Reference.{Finds}
-use Rattle.context.specs.declared.reference.Found.{Found}
+use Rattle.context.specs.declared.reference.FoundChanges.{FoundChanges}
 
 -- what `read_run` answers: codes of the standard's tables (T.4 tables 2, 3a and 3b) that make a run, whatever bits follow, are read as that run and no
 -- bit more is taken; and where a run is read, such codes make it
@@ -37,7 +37,7 @@ ModesAreTheStandards =
 -- what the reader's search finds on a list of changes is what T.4 4.2.1.1 says of the reference line's pixels
 abbrev pub ChangingElementsAreTheStandards : Type 0
 ChangingElementsAreTheStandards =
-    (reference : List ℕ) (width position : ℕ) (colour : Colour) (r : Found) → Rising width 0 reference → Finds reference width position colour r
+    (reference : List ℕ) (width position : ℕ) (colour : Colour) (r : FoundChanges) → Rising width 0 reference → Finds reference width position colour r
     → (r .b1 ≡ b1On width (pixelsOf reference) (a0At position) colour) × (r .b2 ≡ b2On width (pixelsOf reference) (a0At position) colour)
 
 -- What the definition of a line takes for b1 and b2 (Lines.antt), of which the contracts of the line readers, their swift loops and the writers speak, is

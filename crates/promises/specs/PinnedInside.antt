@@ -30,8 +30,8 @@ use Rattle.codes.specs.Runs.{RunRead, codeOf}
 use Rattle.codes.specs.declared.eol.Eols.{Eols}
 use Rattle.codes.specs.declared.eol.Skip.{Skip}
 use Rattle.codes.specs.declared.mode.Mode.{Mode}
-use Rattle.codes.specs.declared.plain.Found as Plain
-use Rattle.codes.specs.declared.run.Code as OfRun
+use Rattle.codes.specs.declared.plain.Found.{Found}
+use Rattle.codes.specs.declared.run.RunCode.{RunCode}
 use Rattle.codes.specs.declared.run.Run.{Run}
 use Rattle.codes.specs.declared.run.Run.the-variants.{Length, Bad}
 use Rattle.context.specs.State.{Pushes}
@@ -41,7 +41,7 @@ use Rattle.context.specs.Reference.{Finds}
 use Rattle.context.specs.Coding.{StepsAt}
 use Rattle.one_line.specs.OneCode.{OneCoded}
 use Rattle.context.specs.declared.line.Line.{Line}
-use Rattle.context.specs.declared.reference.Found.{Found}
+use Rattle.context.specs.declared.reference.FoundChanges.{FoundChanges}
 use Rattle.context.specs.declared.step.Rules.{Rules}
 use Rattle.settings.specs.Between.{RowGives}
 use Rattle.promises.specs.OneAnswer.{OneAnswer, OneWith}
@@ -111,11 +111,11 @@ FrontRunPinned = (table : List ℕ) (first bits : ℕ) → OneAnswer (Fronted ta
 
 -- plain::read_code: the run, or the error, and how many bits were taken
 abbrev pub ReadCodePinned : Type 0
-ReadCodePinned = (colour : Colour) (bytes : List ℕ) (at : ℕ) → OneAnswer (λ (r : Plain.Found). foundOf r ≡ plain colour (drop at (bitsOf bytes)))
+ReadCodePinned = (colour : Colour) (bytes : List ℕ) (at : ℕ) → OneAnswer (λ (r : Found). foundOf r ≡ plain colour (drop at (bitsOf bytes)))
 
 -- run::look_up: the same
 abbrev pub LookUpPinned : Type 0
-LookUpPinned = (colour : Colour) (bytes : List ℕ) (at : ℕ) → OneAnswer (λ (r : Plain.Found). foundOf r ≡ byLookup colour (drop at (bitsOf bytes)))
+LookUpPinned = (colour : Colour) (bytes : List ℕ) (at : ℕ) → OneAnswer (λ (r : Found). foundOf r ≡ byLookup colour (drop at (bitsOf bytes)))
 
 -- plain::read_run, from a bit
 abbrev pub ReadRunPlainPinned : Type 0
@@ -127,7 +127,7 @@ ReadRunPlainPinned =
 
 -- run::read_code, plain::next_code and once::run_code: one code of a run, from a bit, with the sum so far
 abbrev pub OneRunCodePinned : Type 0
-OneRunCodePinned = (colour : Colour) (bytes : List ℕ) (at total : ℕ) → OneAnswer (λ (r : OfRun.Code). codeOf r ≡ runStep colour (bitsOf bytes) (sum at total))
+OneRunCodePinned = (colour : Colour) (bytes : List ℕ) (at total : ℕ) → OneAnswer (λ (r : RunCode). codeOf r ≡ runStep colour (bitsOf bytes) (sum at total))
 
 -- read_mode and mode_at
 abbrev pub ReadModePinned : Type 0
@@ -148,7 +148,7 @@ PushPixelsPinned = (xs : List ℕ) (l : Line) (count : ℕ) (strict : Bool) → 
 -- find: b1 and b2. No search's contract speaks of the place that it was told to start from, so that `seen` changes no later answer.
 abbrev pub FindPinned : Type 0
 FindPinned =
-    (reference : List ℕ) (width position : ℕ) (colour : Colour) (r s : Found)
+    (reference : List ℕ) (width position : ℕ) (colour : Colour) (r s : FoundChanges)
     → Finds reference width position colour r
     → Finds reference width position colour s
     → (r .b1 ≡ s .b1) × (r .b2 ≡ s .b2)

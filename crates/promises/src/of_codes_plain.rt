@@ -1,7 +1,7 @@
 // Calls of the public functions of codes::plain, each with the contract that its promises are about.
 use codes::plain::Found;
-use codes::run::Code;
 use codes::run::Run;
+use codes::run::RunCode;
 ghost use mathlib.Core.Path.{_≡_};
 ghost use lib.ListN.{drop};
 ghost use Rattle.rules.specs.Bits.{bitsOf};
@@ -26,7 +26,7 @@ pub fn read_run(colour: usize, src: &[u8], start: usize) -> Run
     codes::plain::read_run(colour, src, start)
 }
 
-pub fn next_code(colour: usize, src: &[u8], at: usize, total: u32) -> Code
+pub fn next_code(colour: usize, src: &[u8], at: usize, total: u32) -> RunCode
     requires { ⌜ Loading (now src) at ⌝ }
     ensures { λ r. ⌜ codeOf r ≡ runStep (colourOf colour) (bitsOf (now (src .entry))) (sum at total) ⌝ }
 {

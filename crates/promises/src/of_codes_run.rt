@@ -1,8 +1,8 @@
 // Calls of the public functions of codes::run, each with the contract that its promises are about.
 use bit_reader::buffer::Buffer;
 use codes::plain::Found;
-use codes::run::Code;
 use codes::run::Run;
+use codes::run::RunCode;
 ghost use mathlib.Core.Path.{_≡_};
 ghost use lib.ListN.{drop};
 ghost use Rattle.rules.specs.Bits.{bitsOf};
@@ -32,7 +32,7 @@ pub fn read_code<'a>(
     src: &[u8],
     at: usize,
     total: u32,
-) -> Code
+) -> RunCode
     requires { ⌜ CodeFrom (now white) (now black) (now src) at ⌝ }
     ensures { λ r. ⌜ codeOf r ≡ runStep (colourOf colour) (bitsOf (now (src .entry))) (sum at total) ⌝ }
 {

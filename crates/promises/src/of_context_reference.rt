@@ -1,5 +1,5 @@
 // Calls of the public functions of context::reference, each with the contract that its promises are about.
-use context::reference::Found;
+use context::reference::FoundChanges;
 ghost use mathlib.Core.Path.{_≡_};
 ghost use lib.ListN.{drop};
 ghost use Rattle.rules.specs.Lines.{headOr};
@@ -14,7 +14,7 @@ pub fn change_or(row: &[u32], place: usize, width: u32) -> u32
     context::reference::change_or(row, place, width)
 }
 
-pub fn find(reference: &[u32], seen: usize, width: u32, position: u32, colour: u32) -> Found
+pub fn find(reference: &[u32], seen: usize, width: u32, position: u32, colour: u32) -> FoundChanges
     requires { ⌜ Searches (now reference) seen width position colour ⌝ }
     ensures { λ r. ⌜ Finds (now (reference .entry)) width position (colourOf colour) r ⌝ }
 {

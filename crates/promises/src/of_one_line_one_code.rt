@@ -1,5 +1,5 @@
 // Calls of the public functions of one_line::one_code, each with the contract that its promises are about.
-use codes::run::Code;
+use codes::run::RunCode;
 use context::line::Line;
 use context::step::Rules;
 use context::step::Step;
@@ -37,7 +37,7 @@ pub fn run_code<'a>(
     at: usize,
     total: u32,
     plain: bool,
-) -> Code
+) -> RunCode
     requires { ⌜ CodeFrom (now white) (now black) (now src) at ⌝ }
     ensures { λ r. ⌜ codeOf r ≡ runStep (colourOf colour) (bitsOf (now (src .entry))) (sum at total) ⌝ }
 {

@@ -19,13 +19,13 @@ fn skip_to_digit(input: &[u8], from: usize) -> usize {
     at
 }
 
-struct Read {
+struct ReadNumber {
     value: u32,
     next: usize,
 }
 
 // The number whose digits begin at a place; every number of the sample is below 2^32.
-fn number(input: &[u8], from: usize) -> Read {
+fn number(input: &[u8], from: usize) -> ReadNumber {
     let mut at = from;
     let mut value: u64 = 0;
     while at < input.len() {
@@ -36,7 +36,7 @@ fn number(input: &[u8], from: usize) -> Read {
         value = (value * 10 + (byte % 48) as u64) % 4294967296;
         at += 1;
     }
-    Read {
+    ReadNumber {
         value: value as u32,
         next: at,
     }

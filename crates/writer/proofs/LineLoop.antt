@@ -14,7 +14,7 @@ use Rattle.rules.specs.Rising.{Rising}
 use Rattle.rules.proofs.Ascending.{rises-lower, head-low, head-fits, tail-rises}
 use Rattle.tables.specs.Tables.{colourOf}
 use Rattle.tables.specs.declared.Code.{Code}
-use Rattle.context.specs.declared.reference.Found.{Found}
+use Rattle.context.specs.declared.reference.FoundChanges.{FoundChanges}
 use Rattle.context.specs.Reference.{Passed, Finds}
 use Rattle.context.proofs.Search.{right-grows, passed-none, passed-on}
 use Rattle.rules.proofs.Ahead.{leftOver}
@@ -145,7 +145,7 @@ module _ {write : Bool} {width : ℕ} {reference row : List ℕ} {from : ℕ} {s
 
   -- ---- The code that comes next, by what was found
 
-  module _ (h : position < width) {found : Found} (f : Finds reference width position (colourOf colour) found) {a1 : ℕ}
+  module _ (h : position < width) {found : FoundChanges} (f : Finds reference width position (colourOf colour) found) {a1 : ℕ}
       (e : a1 ≡ headOr width (drop place row)) where
     -- a1 lies at the position or behind it
     pub a1-low : position ≤ a1

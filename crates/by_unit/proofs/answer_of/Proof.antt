@@ -1,6 +1,6 @@
 use mathlib.Core.Path.{sym, ap, _∙_}
 use borrow.Author.Needs.{needs}
-use Rattle.by_unit.specs.declared.End.{End}
+use Rattle.by_unit.specs.declared.PageEnd.{PageEnd}
 use Rattle.by_unit.specs.Reading.{answerFor}
 use Rattle.by_unit.proofs.answer_of.Statement.{statement}
 use Rattle.by_unit.proofs.answer_of.Tie as tie
@@ -48,25 +48,25 @@ counted-requires-7 : tie.Need-counted-requires-7
 counted-requires-7 c κs = search needs
 
 returns : tie.Need-returns
-returns c = c .counted .ensures ∙ sym (ap (λ (e : End). answerFor e (c .before .before .before .before .args .counts)) (c .before .before .end .given .1))
+returns c = c .counted .ensures ∙ sym (ap (λ (e : PageEnd). answerFor e (c .before .before .before .before .args .counts)) (c .before .before .end .given .1))
 
 returns-2 : tie.Need-returns-2
-returns-2 c = c .counted2 .ensures ∙ sym (ap (λ (e : End). answerFor e (c .before .before .before .before .args .counts)) (c .before .before .end2 .given .1))
+returns-2 c = c .counted2 .ensures ∙ sym (ap (λ (e : PageEnd). answerFor e (c .before .before .before .before .args .counts)) (c .before .before .end2 .given .1))
 
 returns-3 : tie.Need-returns-3
-returns-3 c = c .counted3 .ensures ∙ sym (ap (λ (e : End). answerFor e (c .before .before .before .before .args .counts)) (c .before .before .end3 .given .1))
+returns-3 c = c .counted3 .ensures ∙ sym (ap (λ (e : PageEnd). answerFor e (c .before .before .before .before .args .counts)) (c .before .before .end3 .given .1))
 
 returns-4 : tie.Need-returns-4
-returns-4 c = c .counted4 .ensures ∙ sym (ap (λ (e : End). answerFor e (c .before .before .before .before .args .counts)) (c .before .before .end4 .given .1))
+returns-4 c = c .counted4 .ensures ∙ sym (ap (λ (e : PageEnd). answerFor e (c .before .before .before .before .args .counts)) (c .before .before .end4 .given .1))
 
 returns-5 : tie.Need-returns-5
-returns-5 c = c .counted5 .ensures ∙ sym (ap (λ (e : End). answerFor e (c .before .before .before .before .args .counts)) (c .before .before .end5 .given .1))
+returns-5 c = c .counted5 .ensures ∙ sym (ap (λ (e : PageEnd). answerFor e (c .before .before .before .before .args .counts)) (c .before .before .end5 .given .1))
 
 returns-6 : tie.Need-returns-6
-returns-6 c = c .counted6 .ensures ∙ sym (ap (λ (e : End). answerFor e (c .before .before .before .before .args .counts)) (c .before .before .end6 .given .1))
+returns-6 c = c .counted6 .ensures ∙ sym (ap (λ (e : PageEnd). answerFor e (c .before .before .before .before .args .counts)) (c .before .before .end6 .given .1))
 
 returns-7 : tie.Need-returns-7
-returns-7 c = c .counted7 .ensures ∙ sym (ap (λ (e : End). answerFor e (c .before .before .before .args .counts)) (c .before .enum-told .given .1))
+returns-7 c = c .counted7 .ensures ∙ sym (ap (λ (e : PageEnd). answerFor e (c .before .before .before .args .counts)) (c .before .enum-told .given .1))
 
 pub answer-of-spec : {M : Type 1} → statement M
 answer-of-spec =
