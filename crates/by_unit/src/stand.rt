@@ -116,12 +116,6 @@ pub(crate) fn between(src: &[u8], settings: DecodeSettings, kept: Kept, eols: Eo
     }
 }
 
-fn wide(count: usize) -> u64
-    ensures { λ r. ⌜ r ≡ count ⌝ }
-{
-    count as u64
-}
-
 // A row's end and its mark lie at one place, for which both arrays need room.
 fn close_row(
     src: &[u8],
@@ -143,7 +137,7 @@ fn close_row(
         return Out::Done(said(answer::NO_ROW_END, 0, 0, kept, line.changes));
     }
     let base = kept.base + line.changes;
-    ends[rows] = wide(base);
+    ends[rows] = settings::row_end(base);
     marks[rows] = line.cut as u8;
     let next = Kept {
         rows: rows + 1,

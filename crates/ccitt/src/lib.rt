@@ -32,13 +32,6 @@ fn row<'a>(
     group3::swift_row(white, black, both, src, settings, &lent, changes, state)
 }
 
-// A count in the 64 bits that a row end has: more than 32, since a page may have more entries than those can count (A4).
-fn wide(count: usize) -> u64
-    ensures { λ r. ⌜ r ≡ count ⌝ }
-{
-    count as u64
-}
-
 // The answer after so many rows.
 fn counts(
     number: u32,
@@ -113,7 +106,7 @@ fn page<'a>(
                 if places <= rows {
                     return counts(answer::NO_ROW_END, 0, rows, state.base, count, 0);
                 }
-                ends[rows] = wide(state.base + count);
+                ends[rows] = settings::row_end(state.base + count);
                 marks[rows] = mark as u8;
                 state = behind(state, count, at, eols);
             }

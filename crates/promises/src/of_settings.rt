@@ -23,6 +23,12 @@ pub fn end_at(at: usize) -> Row
     settings::end_at(at)
 }
 
+pub fn row_end(count: usize) -> u64
+    ensures { λ r. ⌜ r ≡ count ⌝ }
+{
+    settings::row_end(count)
+}
+
 pub fn is_group4(settings: DecodeSettings) -> bool
     ensures { λ r. ⌜ r ≡ isGroup4 (settings .encoding) ⌝ }
 {

@@ -67,6 +67,13 @@ pub fn end_at(at: usize) -> Row
     Row::Stop(answer::COMPLETE, 0, bytes, 0)
 }
 
+// A count in the 64 bits that a row end has: more than 32, since a page may have more entries than those can count (A4).
+pub fn row_end(count: usize) -> u64
+    ensures { λ r. ⌜ r ≡ count ⌝ }
+{
+    count as u64
+}
+
 // The one encoding whose rows have no 1D lines and no tags.
 pub fn is_group4(settings: DecodeSettings) -> bool
     ensures { λ r. ⌜ r ≡ isGroup4 (settings .encoding) ⌝ }

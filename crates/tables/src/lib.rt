@@ -73,7 +73,7 @@ pub fn lookup<'a>(white: &'a [u16; 8192], black: &'a [u16; 8192], colour: usize,
 }
 
 // A cast of an element in place would ask each caller that the element fits.
-fn wide(x: u16) -> u32
+fn as_u32(x: u16) -> u32
     ensures { λ r. ⌜ r ≡ x ⌝ }
 {
     x as u32
@@ -83,8 +83,8 @@ fn from_row(row: [u16; 3]) -> Code
     ensures { λ r. ⌜ SameBits r (codeOf row) ⌝ }
 {
     Code {
-        size: wide(row[1]),
-        word: wide(row[2]),
+        size: as_u32(row[1]),
+        word: as_u32(row[2]),
     }
 }
 

@@ -4,7 +4,7 @@ use libc::STDOUT_FILENO;
 use reader::cursor;
 
 // A change as a field has it; that it fits is known of a parameter.
-fn wide(change: u32) -> u64 {
+fn as_u64(change: u32) -> u64 {
     change as u64
 }
 
@@ -31,7 +31,7 @@ fn show_run(width: u32, colour: u32, count: u32, strict: bool) {
     crate::field(line.changes as u64);
     crate::field(line.colour as u64);
     crate::field(line.cut as u64);
-    crate::field(wide(changes[0]));
+    crate::field(as_u64(changes[0]));
     io::write_all(STDOUT_FILENO, b"\n");
 }
 

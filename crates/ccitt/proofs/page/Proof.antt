@@ -60,11 +60,11 @@ same-length-6 c = search needs
 returns-2 : tie.Need-returns-2 Inv-loop μ-loop
 returns-2 c = rw (c .counts2 .ensures) (turn-full (c .before .before .before .before .before .before .before .before .before .loop .inv .1) (c .before .before .before .before .before .before .before .row .ensures) (c .before .before .before .count .given .1) (omega (arith, c .before .if1 .taken, c .before .before .before .before .before .before .before .before .before .loop .inv .0)))
 
-add-wide : tie.Need-add-wide Inv-loop μ-loop
-add-wide c = let h = turn-behind (c .before .before .before .before .before .before .before .before .before .loop .inv .1) (c .before .before .before .before .before .before .before .row .ensures) (c .before .before .before .count .given .1) (omega (arith, c .before .if1 .left, c .before .before .before .before .before .before .before .before .before .loop .inv .0)) in record { fits = omega (arith, h .few-entries) }
+add-row-end : tie.Need-add-row-end Inv-loop μ-loop
+add-row-end c = let h = turn-behind (c .before .before .before .before .before .before .before .before .before .loop .inv .1) (c .before .before .before .before .before .before .before .row .ensures) (c .before .before .before .count .given .1) (omega (arith, c .before .if1 .left, c .before .before .before .before .before .before .before .before .before .loop .inv .0)) in record { fits = omega (arith, h .few-entries) }
 
-wide-requires : tie.Need-wide-requires Inv-loop μ-loop
-wide-requires c κs = search needs
+row-end-requires : tie.Need-row-end-requires Inv-loop μ-loop
+row-end-requires c κs = search needs
 
 mul-ends : tie.Need-mul-ends Inv-loop μ-loop
 mul-ends c = let h = turn-behind (c .before .before .before .before .before .before .before .before .before .before .loop .inv .1) (c .before .before .before .before .before .before .before .before .row .ensures) (c .before .before .before .before .count .given .1) (omega (arith, c .before .before .if1 .left, c .before .before .before .before .before .before .before .before .before .before .loop .inv .0)) in record { fits = omega (arith, h .few-rows) }
@@ -85,7 +85,7 @@ loop-less : tie.Need-loop-less Inv-loop μ-loop
 loop-less c = rw (c .behind .ensures) (turn-falls (c .before .before .before .before .before .before .before .before .before .before .before .loop .inv .1) (c .before .before .before .before .before .before .before .before .before .row .ensures) (c .before .before .before .before .before .count .given .1) (omega (arith, c .before .before .before .if1 .left, c .before .before .before .before .before .before .before .before .before .before .before .loop .inv .0)))
 
 loop-again : tie.Need-loop-again Inv-loop μ-loop
-loop-again c = (c .before .before .before .before .before .before .before .before .before .before .before .loop .inv .0, rw (c .behind .ensures, c .before .wide .ensures) (turn-next (c .before .before .before .before .before .before .before .before .before .before .before .loop .inv .1) (c .before .before .before .before .before .before .before .before .before .row .ensures) (c .before .before .before .before .before .count .given .1) (omega (arith, c .before .before .before .if1 .left, c .before .before .before .before .before .before .before .before .before .before .before .loop .inv .0)) (c .before .before .before .before .before .before .before .before .changes .given)))
+loop-again c = (c .before .before .before .before .before .before .before .before .before .before .before .loop .inv .0, rw (c .behind .ensures, c .before .row-end .ensures) (turn-next (c .before .before .before .before .before .before .before .before .before .before .before .loop .inv .1) (c .before .before .before .before .before .before .before .before .before .row .ensures) (c .before .before .before .before .before .count .given .1) (omega (arith, c .before .before .before .if1 .left, c .before .before .before .before .before .before .before .before .before .before .before .loop .inv .0)) (c .before .before .before .before .before .before .before .before .changes .given)))
 
 pub page-spec : {M : Type 1} → statement M
 page-spec =
@@ -108,8 +108,8 @@ page-spec =
     same-length-5
     same-length-6
     returns-2
-    add-wide
-    wide-requires
+    add-row-end
+    row-end-requires
     mul-ends
     slice-write-ends
     cast-marks

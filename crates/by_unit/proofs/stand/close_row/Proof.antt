@@ -25,8 +25,8 @@ returns-2 c =
 add-base : tie.Need-add-base
 add-base c = search needs
 
-wide-requires : tie.Need-wide-requires
-wide-requires c κs = search needs
+row-end-requires : tie.Need-row-end-requires
+row-end-requires c κs = search needs
 
 mul-ends : tie.Need-mul-ends
 mul-ends c = search needs
@@ -61,7 +61,7 @@ same-length-2 c = search needs
 returns-3 : tie.Need-returns-3
 returns-3 c =
     let a = c .before .before .before .before .before .before .before .before .before .before .before .args in
-    close-kept (now (a .src)) (a .settings) (now (a .ends)) (now (a .marks)) (a .kept) (a .line) (a .at) (c .before .before .before .before .before .before .before .if1 .left) (c .before .before .before .before .before .before .if2 .left) (c .before .before .before .wide .result) (c .before .align-if .result) (c .before .before .before .wide .ensures) (c .before .align-if .ensures) _ (c .between .ensures)
+    close-kept (now (a .src)) (a .settings) (now (a .ends)) (now (a .marks)) (a .kept) (a .line) (a .at) (c .before .before .before .before .before .before .before .if1 .left) (c .before .before .before .before .before .before .if2 .left) (c .before .before .before .row-end .result) (c .before .align-if .result) (c .before .before .before .row-end .ensures) (c .before .align-if .ensures) _ (c .between .ensures)
 
 pub close-row-spec : {M : Type 1} → statement M
 close-row-spec =
@@ -72,7 +72,7 @@ close-row-spec =
     said-requires-2
     returns-2
     add-base
-    wide-requires
+    row-end-requires
     mul-ends
     slice-write-ends
     cast-marks

@@ -18,17 +18,17 @@ abbrev μ-loop : tie.MeasureT-loop
 μ-loop terminating makeup common taken word begun₀ i₀ begun i = 104 - i
 
 -- what a turn knows once it has the row
-turn : (c : tie.After-wide2 Inv-loop μ-loop) →
+turn : (c : tie.After-as-usize2 Inv-loop μ-loop) →
     let a = c .before .before .before .before .before .args in
     let l = c .before .before .before .before .loop in
-    Turn (now (a .terminating)) (now (a .makeup)) (now (a .common)) (a .taken) (a .word) (l .begun) (l .i) (c .before .before .row-at .result) (c .before .wide .result) (c .wide2 .result)
+    Turn (now (a .terminating)) (now (a .makeup)) (now (a .common)) (a .taken) (a .word) (l .begun) (l .i) (c .before .before .row-at .result) (c .before .as-usize .result) (c .as-usize2 .result)
 turn c = record {
   asked = c .before .before .before .before .before .pre;
   looking = c .before .before .before .before .loop .inv;
   more = c .before .before .before .loop-test .taken;
   row-is = c .before .before .row-at .ensures;
-  size-is = c .before .wide .ensures;
-  code-is = c .wide2 .ensures;
+  size-is = c .before .as-usize .ensures;
+  code-is = c .as-usize2 .ensures;
 }
 
 loop-holds : tie.Need-loop-holds Inv-loop μ-loop
@@ -37,31 +37,31 @@ loop-holds c = look-first _ _ _
 row-at-requires : tie.Need-row-at-requires Inv-loop μ-loop
 row-at-requires c κs = search needs
 
-array-read-wide : tie.Need-array-read-wide Inv-loop μ-loop
-array-read-wide c = search needs
+array-read-as-usize : tie.Need-array-read-as-usize Inv-loop μ-loop
+array-read-as-usize c = search needs
 
-wide-requires : tie.Need-wide-requires Inv-loop μ-loop
-wide-requires c κs = search needs
+as-usize-requires : tie.Need-as-usize-requires Inv-loop μ-loop
+as-usize-requires c κs = search needs
 
-array-read-wide-2 : tie.Need-array-read-wide-2 Inv-loop μ-loop
-array-read-wide-2 c = search needs
+array-read-as-usize-2 : tie.Need-array-read-as-usize-2 Inv-loop μ-loop
+array-read-as-usize-2 c = search needs
 
-wide-requires-2 : tie.Need-wide-requires-2 Inv-loop μ-loop
-wide-requires-2 c κs = search needs
+as-usize-requires-2 : tie.Need-as-usize-requires-2 Inv-loop μ-loop
+as-usize-requires-2 c κs = search needs
 
 begins-requires : tie.Need-begins-requires Inv-loop μ-loop
 begins-requires c κs = turn-words (turn c)
 
-array-read-wide-3 : tie.Need-array-read-wide-3 Inv-loop μ-loop
-array-read-wide-3 c = search needs
+array-read-as-usize-3 : tie.Need-array-read-as-usize-3 Inv-loop μ-loop
+array-read-as-usize-3 c = search needs
 
-wide-requires-3 : tie.Need-wide-requires-3 Inv-loop μ-loop
-wide-requires-3 c κs = search needs
+as-usize-requires-3 : tie.Need-as-usize-requires-3 Inv-loop μ-loop
+as-usize-requires-3 c κs = search needs
 
 returns : tie.Need-returns Inv-loop μ-loop
 returns c =
     let d = c .before .before .before in
-    ap is-code (c .wide3 .ensures) ∙ turn-is-code (turn (d .before)) (d .begins .result) (d .begins .ensures) (c .before .before .if1 .taken) (c .before .if2 .taken)
+    ap is-code (c .as-usize3 .ensures) ∙ turn-is-code (turn (d .before)) (d .begins .result) (d .begins .ensures) (c .before .before .if1 .taken) (c .before .if2 .taken)
 
 add-i : tie.Need-add-i Inv-loop μ-loop
 add-i c = search needs
@@ -97,13 +97,13 @@ verdict-on-spec =
     μ-loop
     loop-holds
     row-at-requires
-    array-read-wide
-    wide-requires
-    array-read-wide-2
-    wide-requires-2
+    array-read-as-usize
+    as-usize-requires
+    array-read-as-usize-2
+    as-usize-requires-2
     begins-requires
-    array-read-wide-3
-    wide-requires-3
+    array-read-as-usize-3
+    as-usize-requires-3
     returns
     add-i
     loop-less
