@@ -8,7 +8,7 @@ use lib.ListN.{length}
 use Rattle.rules.specs.Bits.{bitsOf}
 use Rattle.rules.specs.Pages.{mostBytes}
 use Rattle.rules.specs.Write.{mostMakeup}
-use Rattle.rules.specs.Damage2D.{Coming, comingPage, mayComeAll, SparedTo1D}
+use Rattle.rules.specs.Damage2D.{Arrived2D, arrivedPage2D, mayAll2D, SparedTo1D}
 use Rattle.settings.specs.declared.DecodeSettings.{DecodeSettings}
 use Rattle.settings.specs.declared.EncodingMode.the-variants.{«Group3_2D»}
 use Rattle.promises.specs.Rooms.{Call, rowsOf, marksOf, Reading}
@@ -24,14 +24,14 @@ pub record ForBadLines2D (columns rows : ℕ) (settings : DecodeSettings) : Type
   pub counted : settings .rows ≡ rows
 
 -- a page of lines as they arrive, the first under a white row, whatever follows it; and a call of `decode` on it
-pub record Arrival2D (columns fill : ℕ) (lines : List Coming) (bytes : List ℕ) (settings : DecodeSettings) (c : Call) : Type 0 where
+pub record Arrival2D (columns fill : ℕ) (lines : List Arrived2D) (bytes : List ℕ) (settings : DecodeSettings) (c : Call) : Type 0 where
   pub wide : 0 < columns
   pub narrow : columns < 4294967295
   pub three : 3 ≤ fill
   pub some-lines : 0 < length lines
-  pub allowed : mayComeAll columns lines ≡ true
+  pub allowed : mayAll2D columns lines ≡ true
   pub rest : List Bool
-  pub there : bitsOf bytes ≡ comingPage mostMakeup columns fill [] lines ++ rest
+  pub there : bitsOf bytes ≡ arrivedPage2D mostMakeup columns fill [] lines ++ rest
   pub small : length bytes ≤ mostBytes
   pub set : ForBadLines2D columns (length lines) settings
   pub reading : Reading bytes settings c
@@ -40,5 +40,5 @@ pub record Arrival2D (columns fill : ℕ) (lines : List Coming) (bytes : List �
 -- As many rows as lines; every row before the first bad line, and every row from the next whole 1D line on up to the next bad one, is unchanged and clean (`SparedTo1D`).
 abbrev pub BadLinesCostRowsTo1D : Type 0
 BadLinesCostRowsTo1D =
-    (columns fill : ℕ) (lines : List Coming) (bytes : List ℕ) (settings : DecodeSettings) (c : Call) → Arrival2D columns fill lines bytes settings c
+    (columns fill : ℕ) (lines : List Arrived2D) (bytes : List ℕ) (settings : DecodeSettings) (c : Call) → Arrival2D columns fill lines bytes settings c
     → (c .answer .number ≡ 0) × (c .answer .rows ≡ length lines) × SparedTo1D false lines (rowsOf c) (marksOf c)

@@ -14,7 +14,7 @@ use Rattle.rules.specs.Pages.{Answer, readPage}
 use Rattle.rules.specs.Write.{eolBits}
 use Rattle.rules.specs.WriteGroup3.{filled, times, framed}
 use Rattle.rules.specs.Damage.{found, noEol, Arrived, own, other, arrivedBits, arrivedLines, arrivedPage, mayArrive, mayAll, Spared, no-lines, unchanged, any-row}
-use Rattle.rules.specs.Damage2D.{Coming, whole, bad, SparedTo1D, no-lines as none-come, whole-1D, bad-line}
+use Rattle.rules.specs.Damage2D.{Arrived2D, own2D, other2D, SparedTo1D, no-lines as none-come, unchanged-1D, bad-line}
 use Rattle.rules.proofs.Bits.{both-true}
 use Rattle.rules.specs.Rising.{none as no-changes}
 use Rattle.rules.proofs.Ascending.{ascends-rises}
@@ -27,11 +27,11 @@ Mending S n = Mends untagged S n
 
 -- ---- As lines of which each is 1D
 
-abbrev pub comes : Arrived → Coming
-comes (own row) = whole true row
-comes (other bits) = bad [] true bits
+abbrev pub comes : Arrived → Arrived2D
+comes (own row) = own2D true row
+comes (other bits) = other2D [] true bits
 
-unfoldable pub come : List Arrived → List Coming
+unfoldable pub come : List Arrived → List Arrived2D
 come [] = []
 come (l ∷ ls) = comes l ∷ come ls
 
@@ -72,7 +72,7 @@ front most width fill above (l ∷ ls) rest =
 spared : {lost : Bool} (ls : List Arrived) {rows : List (List ℕ)} {marks : List ℕ} → SparedTo1D lost (come ls) rows marks → Spared ls rows marks
 unfolding come
 spared [] none-come = no-lines
-spared (own row ∷ ls) (whole-1D s) = unchanged (spared ls s)
+spared (own row ∷ ls) (unchanged-1D s) = unchanged (spared ls s)
 spared (other bits ∷ ls) (bad-line s) = any-row (spared ls s)
 
 -- ---- The page

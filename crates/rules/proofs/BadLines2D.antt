@@ -15,38 +15,38 @@ use Rattle.rules.specs.Pages.{Answer, mostBytes, ascends, decode, readPa
 use Rattle.rules.specs.Write.{eolBits}
 use Rattle.rules.specs.WriteGroup3.{times}
 use Rattle.rules.specs.Damage.{found, noEol, RoomFor}
-use Rattle.rules.specs.Damage2D.{Coming, whole, bad, sentRow, tagCome, codeCome, comingPage, strayTagged, mayCome, mayComeAll, SparedTo1D}
+use Rattle.rules.specs.Damage2D.{Arrived2D, own2D, other2D, sentRow, arrivedTag, arrivedBits2D, arrivedPage2D, stray2D, mayArrive2D, mayAll2D, SparedTo1D}
 use Rattle.rules.proofs.Bits.{both-true}
 use Rattle.rules.proofs.Ascending.{ascends-rises}
 use Rattle.rules.proofs.ExactPages.{exact-off}
 use Rattle.rules.proofs.Mending.{Mends, May, MayAll, none-left, and-then}
 use Rattle.rules.proofs.MendedPage.{Behind, front-on, Done, mended-page, mended-page-room}
 
-may-come : (width : ℕ) (ls : List Coming) → mayComeAll width ls ≡ true → MayAll tagged width ls
-unfolding mayComeAll
+may-come : (width : ℕ) (ls : List Arrived2D) → mayAll2D width ls ≡ true → MayAll tagged width ls
+unfolding mayAll2D
 may-come width [] q = none-left
 may-come width (l ∷ ls) q =
-    let p = both-true (mayCome width l) (mayComeAll width ls) q in
+    let p = both-true (mayArrive2D width l) (mayAll2D width ls) q in
     and-then (by l (p .0)) (may-come width ls (p .1))
   where
-    by : (l : Coming) → mayCome width l ≡ true → May tagged width l
-    by (whole tag row) h = (tt, ascends-rises width 0 row h)
-    by (bad row tag bits) h =
-        let p = both-true (ascends width row) (strayTagged tag bits) h in
+    by : (l : Arrived2D) → mayArrive2D width l ≡ true → May tagged width l
+    by (own2D tag row) h = (tt, ascends-rises width 0 row h)
+    by (other2D row tag bits) h =
+        let p = both-true (ascends width row) (stray2D tag bits) h in
         (ascends-rises width 0 row (p .0), both-true (found (zeroRun bits)) (noEol 0 (tag ∷ bits)) (p .1))
 
-front : (most width fill : ℕ) (above : List ℕ) (ls : List Coming) (rest : List Bool)
-    → comingPage most width fill above ls ++ rest ≡ replicate fill false ++ (eolBits ++ Behind most width tagged fill above ls rest)
-unfolding Behind comingPage times
+front : (most width fill : ℕ) (above : List ℕ) (ls : List Arrived2D) (rest : List Bool)
+    → arrivedPage2D most width fill above ls ++ rest ≡ replicate fill false ++ (eolBits ++ Behind most width tagged fill above ls rest)
+unfolding Behind arrivedPage2D times
 front most width fill above [] rest = simp append-assoc
 front most width fill above (l ∷ ls) rest =
-    front-on fill (tagCome l ∷ codeCome most width above l) (comingPage most width fill (sentRow l) ls) rest _ (front most width fill (sentRow l) ls rest)
+    front-on fill (arrivedTag l ∷ arrivedBits2D most width above l) (arrivedPage2D most width fill (sentRow l) ls) rest _ (front most width fill (sentRow l) ls rest)
 
 -- In bytes. Read leniently is without strict, and without exact, which implies it (A12).
 module _ (most : ℕ) (some-most : 1 ≤ most) (most-fits : most ≤ 40) (S : Settings) (inexact : S .exact ≡ false) (fill : ℕ) (three : 3 ≤ fill)
-    (ls : List Coming) (some-lines : 0 < length ls) (goods : mayComeAll (S .columns) ls ≡ true) (mending : Mends tagged S (length ls)) (narrow : S .columns < 4294967295)
+    (ls : List Arrived2D) (some-lines : 0 < length ls) (goods : mayAll2D (S .columns) ls ≡ true) (mending : Mends tagged S (length ls)) (narrow : S .columns < 4294967295)
     (bytes : List ℕ) (small : length bytes ≤ mostBytes) (rest : List Bool) (closed : S .rows ≡ 0 → zeroRun rest ≡ none)
-    (there : bitsOf bytes ≡ comingPage most (S .columns) fill [] ls ++ rest) (store places : ℕ) where
+    (there : bitsOf bytes ≡ arrivedPage2D most (S .columns) fill [] ls ++ rest) (store places : ℕ) where
   pub bad-lines-2d : RoomFor (length ls) (S .columns) store places (decode S bytes store places .number)
       → (decode S bytes store places .number ≡ 0) × SparedTo1D false ls (decode S bytes store places .rows) (decode S bytes store places .marks)
   bad-lines-2d = subst (λ (a : Answer). RoomFor (length ls) (S .columns) store places (a .number) → (a .number ≡ 0) × SparedTo1D false ls (a .rows) (a .marks)) (sym is) by

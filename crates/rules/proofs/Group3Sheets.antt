@@ -18,7 +18,7 @@ use Rattle.rules.specs.Pages.{entries, pageStep, rowOf, readPage, ascend
 use Rattle.rules.specs.Write.{mostMakeup, runCodes, codesBits, runBits, bits1D, bits2D, lineBits, eolBits, toByte, writtenAt, rowsIn, endsRise, allAscend, writes}
 use Rattle.rules.specs.WriteGroup3.{bare, filled, mixed, codedLines, times, framed, page3Bits, writeGroup3, write1D, write2D}
 use Rattle.rules.specs.Damage.{own, other, arrivedLines, arrivedPage}
-use Rattle.rules.specs.Damage2D.{whole, bad, comingPage}
+use Rattle.rules.specs.Damage2D.{own2D, other2D, arrivedPage2D}
 
 -- Four columns, the middle two black: white 1 (000111), black 2 (11), white 1. Two zeros of fill before the EOL, and before the first of the six alone;
 -- the same row twice without EOLs; three times with K = 2, which is 1D, 2D (three times V0), 1D, with EOL and a tag before each and six times EOL and a
@@ -76,11 +76,11 @@ lenient-2d : Settings
 lenient-2d = record { columns = 1; rows = 2; endOfBlock = true; endOfLine = true; aligned = false; encoding = group3-2D; strict = false; exact = false }
 
 bad-lines-2d-sheet :
-    (readPage lenient-2d (comingPage mostMakeup 1 2 [] (bad [] true (true ∷ []) ∷ whole true [] ∷ [])) 9 9 .rows ≡ [] ∷ [])
-    × (readPage lenient-2d (comingPage mostMakeup 1 3 [] (bad [] true (true ∷ []) ∷ whole true [] ∷ [])) 9 9 .marks ≡ 1 ∷ 0 ∷ [])
-    × (readPage lenient-2d (comingPage mostMakeup 1 3 [] (whole true [] ∷ bad [] true [] ∷ [])) 9 9 .rows ≡ [] ∷ [])
-    × (readPage lenient-2d (comingPage mostMakeup 1 3 [] (bad [] false (bitsFor 11 1) ∷ whole true [] ∷ [])) 9 9 .rows ≡ [] ∷ [])
-unfolding lenient-2d run ends bit bitsFor window codeBits whiteTerminating whiteMakeup blackTerminating blackMakeup commonMakeup terminatingOf makeupOf codesOf begins shared codeIn longestShared lookup runTake runStep readRun lastColour recorded add push pushRun lineStep lineEnd readLine zeroRun readEols skip betweenTags row3 entries pageStep rowOf readPage runCodes codesBits runBits bits1D lineBits eolBits times comingPage
+    (readPage lenient-2d (arrivedPage2D mostMakeup 1 2 [] (other2D [] true (true ∷ []) ∷ own2D true [] ∷ [])) 9 9 .rows ≡ [] ∷ [])
+    × (readPage lenient-2d (arrivedPage2D mostMakeup 1 3 [] (other2D [] true (true ∷ []) ∷ own2D true [] ∷ [])) 9 9 .marks ≡ 1 ∷ 0 ∷ [])
+    × (readPage lenient-2d (arrivedPage2D mostMakeup 1 3 [] (own2D true [] ∷ other2D [] true [] ∷ [])) 9 9 .rows ≡ [] ∷ [])
+    × (readPage lenient-2d (arrivedPage2D mostMakeup 1 3 [] (other2D [] false (bitsFor 11 1) ∷ own2D true [] ∷ [])) 9 9 .rows ≡ [] ∷ [])
+unfolding lenient-2d run ends bit bitsFor window codeBits whiteTerminating whiteMakeup blackTerminating blackMakeup commonMakeup terminatingOf makeupOf codesOf begins shared codeIn longestShared lookup runTake runStep readRun lastColour recorded add push pushRun lineStep lineEnd readLine zeroRun readEols skip betweenTags row3 entries pageStep rowOf readPage runCodes codesBits runBits bits1D lineBits eolBits times arrivedPage2D
 bad-lines-2d-sheet = (refl, refl, refl, refl)
 
 -- A cut between two lines tells nothing but by the number of rows: of two white rows on two columns the first two bytes are the first line, and are answered with 0 and one clean row, by a strict reading

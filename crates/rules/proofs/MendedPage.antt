@@ -17,7 +17,7 @@ use Rattle.rules.specs.Rows.{Settings, State, pageStart, readMark, RowOu
 use Rattle.rules.specs.Pages.{Answer, readPage}
 use Rattle.rules.specs.Write.{lineBits, eolBits}
 use Rattle.rules.specs.WriteGroup3.{times}
-use Rattle.rules.specs.Damage2D.{Coming, whole, bad, sentRow, tagCome, codeCome, SparedTo1D, no-lines, whole-1D, whole-2D, under-lost, bad-line}
+use Rattle.rules.specs.Damage2D.{Arrived2D, own2D, other2D, sentRow, arrivedTag, arrivedBits2D, SparedTo1D, no-lines, unchanged-1D, unchanged-2D, under-lost, bad-line}
 use Rattle.rules.proofs.Bits.{drop-after}
 use Rattle.rules.specs.Rising.{Rising, none as no-changes}
 use Rattle.rules.proofs.Ascending.{rises-length}
@@ -31,10 +31,10 @@ use Rattle.rules.proofs.NextEol.{here, Facing}
 use Rattle.rules.proofs.Mending.{Mends, tagBits, codesFrom, kindRead, Told, Fit, May, MayAll, none-left, and-then, sent-rises, to-line, to-end, may-fit, Rowed, read-piece}
 
 -- what a row, with its mark, must be, read under a reference, where the line was coded under the row sent before it
-abbrev Fits : (reference above : List ℕ) → Coming → List ℕ → ℕ → Type 0
-Fits reference above (whole true r) x mark = (x ≡ r) × (mark ≡ 0)
-Fits reference above (whole false r) x mark = reference ≡ above → (x ≡ r) × (mark ≡ 0)
-Fits reference above (bad r tag bits) x mark = Unit {0}
+abbrev Fits : (reference above : List ℕ) → Arrived2D → List ℕ → ℕ → Type 0
+Fits reference above (own2D true r) x mark = (x ≡ r) × (mark ≡ 0)
+Fits reference above (own2D false r) x mark = reference ≡ above → (x ≡ r) × (mark ≡ 0)
+Fits reference above (other2D r tag bits) x mark = Unit {0}
 
 -- what stands behind the first EOL of the page's end
 abbrev pub endBits : Tagging → List Bool
@@ -42,10 +42,10 @@ endBits untagged = times 5 eolBits
 endBits tagged = true ∷ times 5 (eolBits ++ true ∷ [])
 
 -- the row before the next line is the one that was sent, unless it is lost
-abbrev pub lostAfter : Bool → Coming → Bool
-lostAfter lost (whole true r) = false
-lostAfter lost (whole false r) = lost
-lostAfter lost (bad r tag bits) = true
+abbrev pub lostAfter : Bool → Arrived2D → Bool
+lostAfter lost (own2D true r) = false
+lostAfter lost (own2D false r) = lost
+lostAfter lost (other2D r tag bits) = true
 
 -- one line more before a page
 pub front-on : (fill : ℕ) (bits page rest later : List Bool) → page ++ rest ≡ later
@@ -56,16 +56,16 @@ front-on fill bits page rest later q =
 
 -- what stands behind the next EOL, under the row that was sent last
 module _ (most width : ℕ) (t : Tagging) (fill : ℕ) where
-  unfoldable pub Behind : List ℕ → List Coming → List Bool → List Bool
+  unfoldable pub Behind : List ℕ → List Arrived2D → List Bool → List Bool
   Behind above [] rest = endBits t ++ rest
-  Behind above (l ∷ ls) rest = (tagBits t (tagCome l) ++ codeCome most width above l) ++ (replicate fill false ++ (eolBits ++ Behind (sentRow l) ls rest))
+  Behind above (l ∷ ls) rest = (tagBits t (arrivedTag l) ++ arrivedBits2D most width above l) ++ (replicate fill false ++ (eolBits ++ Behind (sentRow l) ls rest))
 
   -- a page has no more lines than bits
-  lines-few : (above : List ℕ) (ls : List Coming) (rest : List Bool) → length ls ≤ length (Behind above ls rest)
+  lines-few : (above : List ℕ) (ls : List Arrived2D) (rest : List Bool) → length ls ≤ length (Behind above ls rest)
   unfolding Behind
   lines-few above [] rest = omega arith
   lines-few above (l ∷ ls) rest =
-      let P = tagBits t (tagCome l) ++ codeCome most width above l in
+      let P = tagBits t (arrivedTag l) ++ arrivedBits2D most width above l in
       let later = Behind (sentRow l) ls rest in
       omega (arith, length-append P (replicate fill false ++ (eolBits ++ later)), length-append (replicate fill false) (eolBits ++ later), length-append eolBits later, eol-long, lines-few (sentRow l) ls rest)
 
@@ -75,7 +75,7 @@ module _ (most : ℕ) (some-most : 1 ≤ most) (most-fits : most ≤ 40) (t : Ta
 
   module _ (bs : List Bool) where
     -- what holds between rows, of which these are to come
-    record Stands (lost : Bool) (st : State) (e : ℕ) (above : List ℕ) (ls : List Coming) (rest : List Bool) : Type 0 where
+    record Stands (lost : Bool) (st : State) (e : ℕ) (above : List ℕ) (ls : List Arrived2D) (rest : List Bool) : Type 0 where
       facing : Facing bs (st .at) e
       first : st .count ≡ 0 → facing .start ≡ st .at
       expected : 0 < st .count → st .eols ≡ true
@@ -116,7 +116,7 @@ module _ (most : ℕ) (some-most : 1 ≤ most) (most-fits : most ≤ 40) (t : Ta
             let s = blocks (eqb (S .rows) 0) refl in
             to-end t S n mending bs st (s .0) (h .facing) (h .expected some-read) some-read (omega (arith, h .counted)) (s .1)
 
-    module _ (room : ℕ) (roomy : W ≤ room) (lost : Bool) (st : State) (e : ℕ) (above : List ℕ) (l : Coming) (ls : List Coming) (rest : List Bool)
+    module _ (room : ℕ) (roomy : W ≤ room) (lost : Bool) (st : State) (e : ℕ) (above : List ℕ) (l : Arrived2D) (ls : List Arrived2D) (rest : List Bool)
         (may : May t W l) (h : Stands lost st e above (l ∷ ls) rest) where
       abbrev later : List Bool
       later = Behind most W t fill (sentRow l) ls rest
@@ -126,22 +126,22 @@ module _ (most : ℕ) (some-most : 1 ≤ most) (most-fits : most ≤ 40) (t : Ta
 
       -- the bit behind the next EOL
       abbrev e′ : ℕ
-      e′ = e + length (tagBits t (tagCome l) ++ codeCome most W above l) + (fill + 12)
+      e′ = e + length (tagBits t (arrivedTag l) ++ arrivedBits2D most W above l) + (fill + 12)
 
-      fit : Fit t (tagCome l) (codeCome most W above l)
+      fit : Fit t (arrivedTag l) (arrivedBits2D most W above l)
       fit = may-fit most some-most most-fits t S n mending bs fill three above (h .rises) l may
 
-      stands-there : drop e bs ≡ (tagBits t (tagCome l) ++ codeCome most W above l) ++ (replicate fill false ++ (eolBits ++ later))
+      stands-there : drop e bs ≡ (tagBits t (arrivedTag l) ++ arrivedBits2D most W above l) ++ (replicate fill false ++ (eolBits ++ later))
       unfolding Behind
       stands-there = h .there
 
       -- a row
-      row-goes : Rowed most some-most most-fits t S n mending bs fill three R st (kindRead t (tagCome l) (st .reference)) (codesFrom t e) e′ (row3 S t bs room st)
+      row-goes : Rowed most some-most most-fits t S n mending bs fill three R st (kindRead t (arrivedTag l) (st .reference)) (codesFrom t e) e′ (row3 S t bs room st)
       unfolding row3
       row-goes =
-          subst (Rowed most some-most most-fits t S n mending bs fill three R st (kindRead t (tagCome l) (st .reference)) (codesFrom t e) e′)
-          (sym (ap (rowFrom S t bs room st) (to-line t S n mending bs st (h .facing) (h .first) (h .expected) (omega (arith, h .counted)) (tagCome l) (codeCome most W above l) _ fit stands-there)))
-          (read-piece most some-most most-fits t S n mending bs fill three room roomy st e later (tagCome l) (codeCome most W above l) fit stands-there)
+          subst (Rowed most some-most most-fits t S n mending bs fill three R st (kindRead t (arrivedTag l) (st .reference)) (codesFrom t e) e′)
+          (sym (ap (rowFrom S t bs room st) (to-line t S n mending bs st (h .facing) (h .first) (h .expected) (omega (arith, h .counted)) (arrivedTag l) (arrivedBits2D most W above l) _ fit stands-there)))
+          (read-piece most some-most most-fits t S n mending bs fill three room roomy st e later (arrivedTag l) (arrivedBits2D most W above l) fit stands-there)
 
       -- its own, where the line is whole and its reference the one that was sent
       row-fits : Fits (st .reference) above l (row-goes .given) (row-goes .mark)
@@ -159,15 +159,15 @@ module _ (most : ℕ) (some-most : 1 ≤ most) (most-fits : most ≤ 40) (t : Ta
           reads kind proper r up rest at there same =
               same _ (read-line most some-most most-fits R (mending .wide) (mending .narrow) kind proper r up (omega (arith, rises-length {width = W} (omega arith) up)) bs rest at there .1)
 
-          by : (l : Coming) → May t W l → (rest : List Bool) → drop e bs ≡ (tagBits t (tagCome l) ++ codeCome most W above l) ++ rest
-              → ((u : Line) → readLine R (kindRead t (tagCome l) (st .reference)) bs (codesFrom t e) ≡ went u → (x ≡ u .changes) × (m ≡ readMark u)) → Fits (st .reference) above l x m
-          by (whole true r) (told, up) rest there same = tagging t there same
+          by : (l : Arrived2D) → May t W l → (rest : List Bool) → drop e bs ≡ (tagBits t (arrivedTag l) ++ arrivedBits2D most W above l) ++ rest
+              → ((u : Line) → readLine R (kindRead t (arrivedTag l) (st .reference)) bs (codesFrom t e) ≡ went u → (x ≡ u .changes) × (m ≡ readMark u)) → Fits (st .reference) above l x m
+          by (own2D true r) (told, up) rest there same = tagging t there same
             where
               tagging : (t : Tagging) → drop e bs ≡ (tagBits t true ++ lineBits most W one r) ++ rest
                   → ((u : Line) → readLine R (kindRead t true (st .reference)) bs (codesFrom t e) ≡ went u → (x ≡ u .changes) × (m ≡ readMark u)) → (x ≡ r) × (m ≡ 0)
               tagging untagged there same = reads one tt r up rest e there same
               tagging tagged there same = reads one tt r up rest (suc e) (after-bit bs e true _ there) same
-          by (whole false r) (told, up) rest there same = tagging t told there same
+          by (own2D false r) (told, up) rest there same = tagging t told there same
             where
               tagging : (t : Tagging) → Told t false → drop e bs ≡ (tagBits t false ++ lineBits most W (two above) r) ++ rest
                   → ((u : Line) → readLine R (kindRead t false (st .reference)) bs (codesFrom t e) ≡ went u → (x ≡ u .changes) × (m ≡ readMark u)) → st .reference ≡ above → (x ≡ r) × (m ≡ 0)
@@ -175,10 +175,10 @@ module _ (most : ℕ) (some-most : 1 ≤ most) (most-fits : most ≤ 40) (t : Ta
               tagging tagged told there same q =
                   reads (two (st .reference)) (subst (Rising W 0) (sym q) (h .rises)) r up rest (suc e)
                   (after-bit bs e false _ there ∙ ap (λ (a : List ℕ). lineBits most W (two a) r ++ rest) (sym q)) same
-          by (bad r tag bits) may rest there same = tt
+          by (other2D r tag bits) may rest there same = tt
 
     -- a row for each line, its own where the line is, and the end
-    record Mended (room : ℕ) (lost : Bool) (st : State) (ls : List Coming) : Type 0 where
+    record Mended (room : ℕ) (lost : Bool) (st : State) (ls : List Arrived2D) : Type 0 where
       rows : List (List ℕ)
       marks : List ℕ
       at : ℕ
@@ -186,19 +186,19 @@ module _ (most : ℕ) (some-most : 1 ≤ most) (most-fits : most ≤ 40) (t : Ta
       spared : SparedTo1D lost ls rows marks
 
     -- whether the row is the one that was sent
-    spared-on : (lost : Bool) {reference above x : List ℕ} {m : ℕ} (l : Coming) {ls : List Coming} {xs : List (List ℕ)} {ms : List ℕ} → Fits reference above l x m → (lost ≡ false → reference ≡ above)
+    spared-on : (lost : Bool) {reference above x : List ℕ} {m : ℕ} (l : Arrived2D) {ls : List Arrived2D} {xs : List (List ℕ)} {ms : List ℕ} → Fits reference above l x m → (lost ≡ false → reference ≡ above)
         → SparedTo1D (lostAfter lost l) ls xs ms → SparedTo1D lost (l ∷ ls) (x ∷ xs) (m ∷ ms)
-    spared-on lost (whole true r) f k s = rw (f .0, f .1) (whole-1D s)
-    spared-on false (whole false r) f k s = rw (f (k refl) .0, f (k refl) .1) (whole-2D s)
-    spared-on true (whole false r) f k s = under-lost s
-    spared-on lost (bad r tag bits) f k s = bad-line s
+    spared-on lost (own2D true r) f k s = rw (f .0, f .1) (unchanged-1D s)
+    spared-on false (own2D false r) f k s = rw (f (k refl) .0, f (k refl) .1) (unchanged-2D s)
+    spared-on true (own2D false r) f k s = under-lost s
+    spared-on lost (other2D r tag bits) f k s = bad-line s
 
-    known-on : (lost : Bool) {reference above x : List ℕ} (m : ℕ) (l : Coming) → Fits reference above l x m → (lost ≡ false → reference ≡ above) → lostAfter lost l ≡ false → x ≡ sentRow l
-    known-on lost m (whole true r) f k q = f .0
-    known-on lost m (whole false r) f k q = f (k q) .0
-    known-on lost m (bad r tag bits) f k q = absurd (true≢false q)
+    known-on : (lost : Bool) {reference above x : List ℕ} (m : ℕ) (l : Arrived2D) → Fits reference above l x m → (lost ≡ false → reference ≡ above) → lostAfter lost l ≡ false → x ≡ sentRow l
+    known-on lost m (own2D true r) f k q = f .0
+    known-on lost m (own2D false r) f k q = f (k q) .0
+    known-on lost m (other2D r tag bits) f k q = absurd (true≢false q)
 
-    arrived-rows : (ls : List Coming) (room : ℕ) (lost : Bool) (st : State) (e : ℕ) (above : List ℕ) (rest : List Bool) → 0 < n → MayAll t W ls → length ls * W ≤ room
+    arrived-rows : (ls : List Arrived2D) (room : ℕ) (lost : Bool) (st : State) (e : ℕ) (above : List ℕ) (rest : List Bool) → 0 < n → MayAll t W ls → length ls * W ≤ room
         → Stands lost st e above ls rest → Mended room lost st ls
     unfolding Behind
     arrived-rows [] room lost st e above rest some-rows none-left roomy h =
@@ -215,12 +215,12 @@ module _ (most : ℕ) (some-most : 1 ≤ most) (most-fits : most ≤ 40) (t : Ta
         }
       where
         e″ : ℕ
-        e″ = e + length (tagBits t (tagCome l) ++ codeCome most W above l) + (fill + 12)
+        e″ = e + length (tagBits t (arrivedTag l) ++ arrivedBits2D most W above l) + (fill + 12)
 
         enough : W + length ls * W ≤ room
         enough = omega (arith, suc-mul (length ls) W)
 
-        r : Rowed most some-most most-fits t S n mending bs fill three (rulesOf S room) st (kindRead t (tagCome l) (st .reference)) (codesFrom t e) e″ (row3 S t bs room st)
+        r : Rowed most some-most most-fits t S n mending bs fill three (rulesOf S room) st (kindRead t (arrivedTag l) (st .reference)) (codesFrom t e) e″ (row3 S t bs room st)
         r = row-goes room (omega (arith, enough)) lost st e above l ls rest may h
 
         fits : Fits (st .reference) above l (r .given) (r .mark)
@@ -232,8 +232,8 @@ module _ (most : ℕ) (some-most : 1 ≤ most) (most-fits : most ≤ 40) (t : Ta
           first = λ z. absurd (omega (arith, r .counted));
           expected = λ _. r .expected;
           counted = omega (arith, h .counted, r .counted);
-          there = fill-after bs fill (e + length (tagBits t (tagCome l) ++ codeCome most W above l)) (Behind most W t fill (sentRow l) ls rest)
-              (drop-after bs (tagBits t (tagCome l) ++ codeCome most W above l) (replicate fill false ++ (eolBits ++ Behind most W t fill (sentRow l) ls rest)) e (h .there));
+          there = fill-after bs fill (e + length (tagBits t (arrivedTag l) ++ arrivedBits2D most W above l)) (Behind most W t fill (sentRow l) ls rest)
+              (drop-after bs (tagBits t (arrivedTag l) ++ arrivedBits2D most W above l) (replicate fill false ++ (eolBits ++ Behind most W t fill (sentRow l) ls rest)) e (h .there));
           closed = h .closed;
           rises = sent-rises t W l may;
           known = λ q. r .reference ∙ known-on lost (r .mark) l fits (h .known) q;
@@ -242,15 +242,15 @@ module _ (most : ℕ) (some-most : 1 ≤ most) (most-fits : most ≤ 40) (t : Ta
 -- ---- The page
 
 -- a row for each line
-pub spared-count : {lost : Bool} {ls : List Coming} {rows : List (List ℕ)} {marks : List ℕ} → SparedTo1D lost ls rows marks → length rows ≡ length ls
+pub spared-count : {lost : Bool} {ls : List Arrived2D} {rows : List (List ℕ)} {marks : List ℕ} → SparedTo1D lost ls rows marks → length rows ≡ length ls
 spared-count no-lines = refl
-spared-count (whole-1D s) = ap suc (spared-count s)
-spared-count (whole-2D s) = ap suc (spared-count s)
+spared-count (unchanged-1D s) = ap suc (spared-count s)
+spared-count (unchanged-2D s) = ap suc (spared-count s)
 spared-count (under-lost s) = ap suc (spared-count s)
 spared-count (bad-line s) = ap suc (spared-count s)
 
 module _ (most : ℕ) (some-most : 1 ≤ most) (most-fits : most ≤ 40) (t : Tagging) (S : Settings) (fill : ℕ) (three : 3 ≤ fill)
-    (ls : List Coming) (some-lines : 0 < length ls) (mays : MayAll t (S .columns) ls) (mending : Mends t S (length ls))
+    (ls : List Arrived2D) (some-lines : 0 < length ls) (mays : MayAll t (S .columns) ls) (mending : Mends t S (length ls))
     (rest : List Bool) (closed : S .rows ≡ 0 → zeroRun rest ≡ none)
     (bs : List Bool) (page : bs ≡ replicate fill false ++ (eolBits ++ Behind most (S .columns) t fill [] ls rest)) where
   abbrev pub Done : Answer → Type 0

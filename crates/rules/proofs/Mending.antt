@@ -18,7 +18,7 @@ use Rattle.rules.specs.Group3.{Tagging, untagged, tagged, withTags, eols
 use Rattle.rules.specs.Rows.{Settings, State, readMark, recoveredMark, RowOut, row, rulesOf}
 use Rattle.rules.specs.Write.{lineBits, eolBits}
 use Rattle.rules.specs.Damage.{found, noEol, stray}
-use Rattle.rules.specs.Damage2D.{Coming, whole, bad, sentRow, tagCome, kindOf, codeCome}
+use Rattle.rules.specs.Damage2D.{Arrived2D, own2D, other2D, sentRow, arrivedTag, kindOf, arrivedBits2D}
 use Rattle.rules.specs.Rising.{Rising}
 use Rattle.rules.proofs.Ascending.{rises-length}
 use Rattle.rules.proofs.Lines.{Bound, read-whole}
@@ -189,17 +189,17 @@ module _ (t : Tagging) (S : Settings) (n : ℕ) (mending : Mends t S n) (bs : Li
 -- ---- A line, whole or bad
 
 -- the row was sent; the tag is one that the page has; other bits fit
-abbrev pub May : Tagging → ℕ → Coming → Type 0
-May t width (whole tag r) = Told t tag × Rising width 0 r
-May t width (bad r tag bits) = Rising width 0 r × Fit t tag bits
+abbrev pub May : Tagging → ℕ → Arrived2D → Type 0
+May t width (own2D tag r) = Told t tag × Rising width 0 r
+May t width (other2D r tag bits) = Rising width 0 r × Fit t tag bits
 
-pub data MayAll (t : Tagging) (width : ℕ) : List Coming → Type 0 where
+pub data MayAll (t : Tagging) (width : ℕ) : List Arrived2D → Type 0 where
   none-left : MayAll t width []
-  and-then : {l : Coming} {ls : List Coming} → May t width l → MayAll t width ls → MayAll t width (l ∷ ls)
+  and-then : {l : Arrived2D} {ls : List Arrived2D} → May t width l → MayAll t width ls → MayAll t width (l ∷ ls)
 
-pub sent-rises : (t : Tagging) (width : ℕ) (l : Coming) → May t width l → Rising width 0 (sentRow l)
-sent-rises t width (whole tag r) (_, h) = h
-sent-rises t width (bad r tag bits) (h, _) = h
+pub sent-rises : (t : Tagging) (width : ℕ) (l : Arrived2D) → May t width l → Rising width 0 (sentRow l)
+sent-rises t width (own2D tag r) (_, h) = h
+sent-rises t width (other2D r tag bits) (h, _) = h
 
 module _ (most : ℕ) (some-most : 1 ≤ most) (most-fits : most ≤ 40) (t : Tagging) (S : Settings) (n : ℕ) (mending : Mends t S n) (bs : List Bool) (fill : ℕ) (three : 3 ≤ fill) where
   abbrev W : ℕ
@@ -210,9 +210,9 @@ module _ (most : ℕ) (some-most : 1 ≤ most) (most-fits : most ≤ 40) (t : Ta
   gap later = replicate fill false ++ (eolBits ++ later)
 
   -- it fits between two EOLs
-  pub may-fit : (above : List ℕ) → Rising W 0 above → (l : Coming) → May t W l → Fit t (tagCome l) (codeCome most W above l)
-  may-fit above up (whole tag r) (told, up′) = own-fit most some-most most-fits W (mending .wide) (mending .narrow) t tag told above r up up′
-  may-fit above up (bad r tag bits) (_, fit) = fit
+  pub may-fit : (above : List ℕ) → Rising W 0 above → (l : Arrived2D) → May t W l → Fit t (arrivedTag l) (arrivedBits2D most W above l)
+  may-fit above up (own2D tag r) (told, up′) = own-fit most some-most most-fits W (mending .wide) (mending .narrow) t tag told above r up up′
+  may-fit above up (other2D r tag bits) (_, fit) = fit
 
   -- a row is given, that of the line's reading where this is whole; and the reader faces the EOL behind the line
   pub record Rowed (R : Rules) (st : State) (kind : Kind) (start e′ : ℕ) (o : RowOut) : Type 0 where
