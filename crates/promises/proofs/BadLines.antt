@@ -11,7 +11,7 @@ use Rattle.rules.specs.Bits.{bitsOf}
 use Rattle.rules.specs.Lines.{one}
 use Rattle.rules.specs.Pages as Page
 use Rattle.rules.specs.Pages.{mostBytes}
-use Rattle.rules.specs.Write.{mostMakeup, lineBits, toByte, rowsIn}
+use Rattle.rules.specs.Write.{lineBits, toByte, rowsIn}
 use Rattle.rules.specs.WriteGroup3.{filled, page3Bits, writeGroup3, write1D}
 use Rattle.rules.specs.Damage.{stray, Arrived, own, other, arrivedPage, mayAll, Spared, no-lines, unchanged, any-row, RoomFor, AllButOne}
 use Rattle.rules.specs.Rising.{Rows}
@@ -67,10 +67,10 @@ k-bad-lines columns fill lines bytes settings c a = (
 
     d : (answerIn bytes settings c .number ≡ 0) × Spared lines (answerIn bytes settings c .rows) (answerIn bytes settings c .marks)
     d =
-        bad-lines-decode mostMakeup (omega arith) (omega arith) (settingsOf settings) (a .set .inexact) fill (a .three) lines (a .some-lines)
+        bad-lines-decode (settingsOf settings) (a .set .inexact) fill (a .three) lines (a .some-lines)
         (subst (λ (n : ℕ). mayAll n lines ≡ true) (sym same) (a .allowed)) (mending columns (length lines) settings (a .wide) (a .narrow) (a .set)) (omega (arith, same, a .narrow))
         bytes (a .small) (a .rest) (λ e. absurd (omega (arith, e, a .set .counted, a .some-lines)))
-        (a .there ∙ ap (λ (n : ℕ). arrivedPage mostMakeup n fill lines ++ a .rest) (sym same)) (length (c .changes)) (places c)
+        (a .there ∙ ap (λ (n : ℕ). arrivedPage n fill lines ++ a .rest) (sym same)) (length (c .changes)) (places c)
         (room-is bytes settings c (a .reading) (length lines) columns same (a .roomy))
 
 -- ---- A row that is not clean
@@ -97,17 +97,17 @@ unfolding write1D
 one-bad-line-costs-one-row columns changes ends out fill w out′ narrow three written z first row last rows-is = ((toByte (length page), stands), spared)
   where
     page : List Bool
-    page = page3Bits mostMakeup columns (filled fill) (rowsIn 0 changes ends)
+    page = page3Bits columns (filled fill) (rowsIn 0 changes ends)
 
-    p : Page3Written mostMakeup (filled fill) (leb fill 64) columns changes ends out (writeGroup3 mostMakeup (filled fill) (leb fill 64) columns changes ends out)
-    p = page3-written mostMakeup (filled fill) (leb fill 64) columns changes ends out narrow (sym (ap (λ (x : Answer). x .number) (written .answer)) ∙ z)
+    p : Page3Written (filled fill) (leb fill 64) columns changes ends out (writeGroup3 (filled fill) (leb fill 64) columns changes ends out)
+    p = page3-written (filled fill) (leb fill 64) columns changes ends out narrow (sym (ap (λ (x : Answer). x .number) (written .answer)) ∙ z)
 
-    stands : bitsOf (take (w .bytes) out′) ≡ frontOf columns fill first ++ (lineBits mostMakeup columns one row ++ (backOf columns fill last ++ toByte (length page)))
+    stands : bitsOf (take (w .bytes) out′) ≡ frontOf columns fill first ++ (lineBits columns one row ++ (backOf columns fill last ++ toByte (length page)))
     stands =
         ap (λ (n : ℕ). bitsOf (take n out′)) (ap (λ (x : Answer). x .bytes) (written .answer) ∙ p .end-is)
         ∙ page-bytes page out out′ (p .fits) (written .size) (written .bits ∙ p .bits-are)
-        ∙ ap (λ (l : List Bool). l ++ toByte (length page)) (ap (page3Bits mostMakeup columns (filled fill)) rows-is ∙ written-line-at mostMakeup columns fill first last row)
-        ∙ behind (frontOf columns fill first) (lineBits mostMakeup columns one row) (backOf columns fill last) _
+        ∙ ap (λ (l : List Bool). l ++ toByte (length page)) (ap (page3Bits columns (filled fill)) rows-is ∙ written-line-at columns fill first last row)
+        ∙ behind (frontOf columns fill first) (lineBits columns one row) (backOf columns fill last) _
 
     size : length (first ++ row ∷ last) ≡ length ends
     size = sym (ap length rows-is) ∙ length-rowsIn 0 changes ends
@@ -125,7 +125,7 @@ one-bad-line-costs-one-row columns changes ends out fill w out′ narrow three w
 
         d : (answerIn bytes settings c .number ≡ 0) × AllButOne first last (answerIn bytes settings c .rows) (answerIn bytes settings c .marks)
         d =
-            one-bad-line mostMakeup (omega arith) (omega arith) (settingsOf settings) (s .inexact) fill three first row last
+            one-bad-line (settingsOf settings) (s .inexact) fill three first row last
             (subst (λ (n : ℕ). Rows n (first ++ row ∷ last)) (sym same) (subst (Rows columns) rows-is (p .rises)))
             (subst (Mending (settingsOf settings)) (sym size) (mending columns (length ends) settings (p .wide) (p .narrow) s)) (omega (arith, same, p .narrow))
             bits strays bytes small padding (λ e. absurd (omega (arith, e, s .counted, p .some-rows)))

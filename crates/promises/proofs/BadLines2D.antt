@@ -7,7 +7,6 @@ use Prim.Native.Nat.{ℕ}
 use native.Mathlib.Omega.{arith}
 use lib.ListN.{length}
 use Rattle.rules.specs.Group3.{tagged}
-use Rattle.rules.specs.Write.{mostMakeup}
 use Rattle.rules.specs.Damage2D.{arrivedPage2D, mayAll2D, SparedTo1D}
 use Rattle.rules.proofs.Mending.{Mends}
 use Rattle.rules.proofs.MendedPage.{spared-count}
@@ -40,8 +39,8 @@ bad-lines-cost-rows-to-1d columns fill lines bytes settings c a = (
 
     d : (answerIn bytes settings c .number ≡ 0) × SparedTo1D false lines (answerIn bytes settings c .rows) (answerIn bytes settings c .marks)
     d =
-        bad-lines-2d mostMakeup (omega arith) (omega arith) (settingsOf settings) (a .set .inexact) fill (a .three) lines (a .some-lines)
+        bad-lines-2d (settingsOf settings) (a .set .inexact) fill (a .three) lines (a .some-lines)
         (subst (λ (n : ℕ). mayAll2D n lines ≡ true) (sym same) (a .allowed)) mends (omega (arith, same, a .narrow))
         bytes (a .small) (a .rest) (λ e. absurd (omega (arith, e, a .set .counted, a .some-lines)))
-        (a .there ∙ ap (λ (n : ℕ). arrivedPage2D mostMakeup n fill [] lines ++ a .rest) (sym same)) (length (c .changes)) (places c)
+        (a .there ∙ ap (λ (n : ℕ). arrivedPage2D n fill [] lines ++ a .rest) (sym same)) (length (c .changes)) (places c)
         (room-is bytes settings c (a .reading) (length lines) columns same (a .roomy))

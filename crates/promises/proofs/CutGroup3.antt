@@ -14,7 +14,7 @@ use Rattle.rules.specs.Bits.{bitsOf}
 use Rattle.rules.specs.Eols.{zeroRun}
 use Rattle.rules.specs.Rows.{recoveredMark}
 use Rattle.rules.specs.Pages.{mostBytes}
-use Rattle.rules.specs.Write.{mostMakeup, toByte, rowsIn}
+use Rattle.rules.specs.Write.{toByte, rowsIn}
 use Rattle.rules.specs.WriteGroup3.{filled, page3Bits, writeGroup3, write1D}
 use Rattle.rules.specs.Cut.{CutTold, first-rows, marked}
 use Rattle.rules.specs.Rising.{Rows}
@@ -34,17 +34,17 @@ use Rattle.promises.proofs.BadLines.{number-is, handed-over}
 
 -- what the writer's 0 says
 wrote : (columns : ℕ) (changes ends out : List ℕ) (fill : ℕ) (w : Answer) (out′ : List ℕ) → columns ≤ 4294967295
-    → Answers (write1D mostMakeup true fill columns changes ends out) out w out′ → w .number ≡ 0
-    → Page3Written mostMakeup (filled fill) (leb fill 64) columns changes ends out (writeGroup3 mostMakeup (filled fill) (leb fill 64) columns changes ends out)
+    → Answers (write1D true fill columns changes ends out) out w out′ → w .number ≡ 0
+    → Page3Written (filled fill) (leb fill 64) columns changes ends out (writeGroup3 (filled fill) (leb fill 64) columns changes ends out)
 unfolding write1D
 wrote columns changes ends out fill w out′ narrow written z =
-    page3-written mostMakeup (filled fill) (leb fill 64) columns changes ends out narrow (sym (ap (λ (x : Answer). x .number) (written .answer)) ∙ z)
+    page3-written (filled fill) (leb fill 64) columns changes ends out narrow (sym (ap (λ (x : Answer). x .number) (written .answer)) ∙ z)
 
 pub cut-is-told : CutIsTold
 unfolding write1D bitsOf
 cut-is-told columns changes ends out fill w out′ narrow written z cut settings s c reading =
-    subst (λ (n : ℕ). CutTold mostMakeup columns fill rows (bitsOf bytes) n (rowsOf c) (marksOf c)) (sym (number-is bytes settings c reading))
-    (handed-over bytes settings c reading (CutTold mostMakeup columns fill rows (bitsOf bytes) (answerIn bytes settings c .number)) told)
+    subst (λ (n : ℕ). CutTold columns fill rows (bitsOf bytes) n (rowsOf c) (marksOf c)) (sym (number-is bytes settings c reading))
+    (handed-over bytes settings c reading (CutTold columns fill rows (bitsOf bytes) (answerIn bytes settings c .number)) told)
   where
     rows : List (List ℕ)
     rows = rowsIn 0 changes ends
@@ -56,9 +56,9 @@ cut-is-told columns changes ends out fill w out′ narrow written z cut settings
     bytes = take cut all-bytes
 
     page : List Bool
-    page = page3Bits mostMakeup columns (filled fill) rows
+    page = page3Bits columns (filled fill) rows
 
-    p : Page3Written mostMakeup (filled fill) (leb fill 64) columns changes ends out (writeGroup3 mostMakeup (filled fill) (leb fill 64) columns changes ends out)
+    p : Page3Written (filled fill) (leb fill 64) columns changes ends out (writeGroup3 (filled fill) (leb fill 64) columns changes ends out)
     p = wrote columns changes ends out fill w out′ narrow written z
 
     stands : bitsOf all-bytes ≡ page ++ toByte (length page)
@@ -69,13 +69,13 @@ cut-is-told columns changes ends out fill w out′ narrow written z cut settings
     same : settings .columns ≡ columns
     same = s .same-columns
 
-    told : CutTold mostMakeup columns fill rows (bitsOf bytes) (answerIn bytes settings c .number) (answerIn bytes settings c .rows) (answerIn bytes settings c .marks)
+    told : CutTold columns fill rows (bitsOf bytes) (answerIn bytes settings c .number) (answerIn bytes settings c .rows) (answerIn bytes settings c .marks)
     told =
-        subst (λ (n : ℕ). CutTold mostMakeup n fill rows (bitsOf bytes) (answerIn bytes settings c .number) (answerIn bytes settings c .rows) (answerIn bytes settings c .marks)) same
-        (cut-told mostMakeup (omega arith) (omega arith) (settingsOf settings) (ap encodingOf (s .group-3)) (omega (arith, same, p .wide)) (omega (arith, same, p .narrow)) fill
+        subst (λ (n : ℕ). CutTold n fill rows (bitsOf bytes) (answerIn bytes settings c .number) (answerIn bytes settings c .rows) (answerIn bytes settings c .marks)) same
+        (cut-told (settingsOf settings) (ap encodingOf (s .group-3)) (omega (arith, same, p .wide)) (omega (arith, same, p .narrow)) fill
         rows (omega (arith, size, p .some-rows)) (subst (λ (n : ℕ). Rows n rows) (sym same) (p .rises)) (subst (λ (n : ℕ). (settings .rows ≡ 0) ⊎ (settings .rows ≡ n)) (sym size) (s .counted))
         bytes small (bitsOf (drop cut all-bytes)) (toByte (length page)) padded
-        (bits-split cut all-bytes ∙ stands ∙ ap (λ (n : ℕ). page3Bits mostMakeup n (filled fill) rows ++ toByte (length page)) (sym same)) (length (c .changes)) (places c))
+        (bits-split cut all-bytes ∙ stands ∙ ap (λ (n : ℕ). page3Bits n (filled fill) rows ++ toByte (length page)) (sym same)) (length (c .changes)) (places c))
       where
         size : length rows ≡ length ends
         size = length-rowsIn 0 changes ends
@@ -94,8 +94,8 @@ mark-behind [] m = refl
 mark-behind (x ∷ first) m = mark-behind first m
 
 -- no fewer rows than were written, and none recovered: they are all there
-module _ (most width fill number : ℕ) (rows : List (List ℕ)) (bits : List Bool) where
-  all-given : (given : List (List ℕ)) (marks : List ℕ) → CutTold most width fill rows bits number given marks
+module _ (width fill number : ℕ) (rows : List (List ℕ)) (bits : List Bool) where
+  all-given : (given : List (List ℕ)) (marks : List ℕ) → CutTold width fill rows bits number given marks
       → length rows ≤ length given → ((n : ℕ) → n < length given → getD marks n 0 ≡ 0) → given ≡ rows
   all-given given marks (first-rows first last parts _ _) long clean = none-left last parts
     where
@@ -108,7 +108,7 @@ module _ (most width fill number : ℕ) (rows : List (List ℕ)) (bits : List Bo
 pub exact-tells-every-cut : ExactTellsEveryCut
 unfolding write1D
 exact-tells-every-cut columns changes ends out fill w out′ narrow written z cut settings s exact counted c reading zero-so =
-    all-given mostMakeup columns fill (c .answer .number) (rowsIn 0 changes ends) (bitsOf bytes) (rowsOf c) (marksOf c)
+    all-given columns fill (c .answer .number) (rowsIn 0 changes ends) (bitsOf bytes) (rowsOf c) (marksOf c)
     (cut-is-told columns changes ends out fill w out′ narrow written z cut settings s c reading)
     (omega (arith, as-many-rows, enough (leb (settings .rows) (c .answer .rows)) refl, counted, length-rowsIn 0 changes ends))
     (λ n h. getD-take (c .answer .rows) (c .marks′) n 0 (omega (arith, as-many-rows)) ∙ decode-marks bytes settings (c .changes) (c .ends) (c .marks) (c .answer) (c .changes′) (c .ends′) (c .marks′) reading n (omega (arith, as-many-rows)) .2 exact)

@@ -16,7 +16,7 @@ use Rattle.rules.specs.Lines.{Line, line, Went, went, failed, two, readLine}
 use Rattle.rules.specs.Rows.{group4, Settings, State, RowOut, row, stop, rulesOf}
 use Rattle.rules.specs.Group4.{row4, afterLine4, eolsBefore, over}
 use Rattle.rules.specs.Pages.{Answer, Kept, noneKept, withRow, endWith, entries, pageStep, rowOf, rowsLeft, pageOf, readPage, strictIfExact, unlessShort, mostBytes, decode}
-use Rattle.rules.specs.Write.{mostMakeup, lineBits, rowsBits, eofb, pageBits}
+use Rattle.rules.specs.Write.{lineBits, rowsBits, eofb, pageBits}
 use Rattle.rules.specs.Rising.{Rising, none, Rows, no-rows, row-then}
 use Rattle.rules.proofs.Machine.{Falls, ends-more, ends-done, ends-stops}
 use Rattle.rules.proofs.Bits.{drop-after}
@@ -46,7 +46,7 @@ fewer-asked S h (inr k) = inr (omega arith)
 
 module _ (S : Settings) (plain : Plain S) (all bs cut : List Bool) (first : bs ++ cut ≡ all) where
   abbrev L : List ℕ → List ℕ → List Bool
-  L above r = lineBits mostMakeup (S .columns) (two above) r
+  L above r = lineBits (S .columns) (two above) r
 
   -- ---- One row
 
@@ -58,7 +58,7 @@ module _ (S : Settings) (plain : Plain S) (all bs cut : List Bool) (first : bs +
     -- no EOL stands before the line
     no-eols-here : eolsBefore S bs st ≡ eolsTo 0 (st .at)
     no-eols-here =
-        let z = line-zeros mostMakeup (S .columns) (st .reference) r (plain .wide) rest in
+        let z = line-zeros (S .columns) (st .reference) r (plain .wide) rest in
         ap (λ (b : Bool). readEols (cond b 2 (length bs)) bs (st .at)) (plain .blocked)
         ∙ ⊎-elim (no-one 2 bs (st .at))
         (λ f. no-eols 2 bs (st .at) (z .0) (f ∙ ap zeroRun (bits-cut all bs cut first (st .at) inside ∙ there) ∙ z .1) (omega (arith, z .2)))
@@ -70,7 +70,7 @@ module _ (S : Settings) (plain : Plain S) (all bs cut : List Bool) (first : bs +
     row-only l q =
         let w = read-whole (rulesOf S room) (plain .wide) (two (st .reference)) bs (st .at) l q in
         let u = read-local (rulesOf S room) bs all (two (st .reference)) (st .at) l q (agrees all bs cut first (l .at) (w .inside)) in
-        let p = read-line mostMakeup (omega arith) (omega arith) (rulesOf S (room + length r)) (plain .wide) (plain .narrow) (two (st .reference)) up r up′ (omega arith) all rest (st .at) there in
+        let p = read-line (rulesOf S (room + length r)) (plain .wide) (plain .narrow) (two (st .reference)) up r up′ (omega arith) all rest (st .at) there in
         let g : l ≡ line (st .at + size) (S .columns) (p .0) r false =
         cc (line-went (S .columns) (S .strict) (S .exact) room (room + length r) (omega arith) (two (st .reference)) all (st .at) l u, p .1) in
         (omega (arith, w .inside, ap (λ (x : Line). x .at) g), rw (g, plain .unaligned))
@@ -85,7 +85,7 @@ module _ (S : Settings) (plain : Plain S) (all bs cut : List Bool) (first : bs +
             agree-word (record { same = sym (a .same); long = a .long′; long′ = a .long }) (st .at) (L (st .reference) r) rest (omega arith) there
 
         reads : (c : Colour) × (readLine (rulesOf S (room + length r)) (two (st .reference)) bs (st .at) ≡ went (line (st .at + size) (S .columns) c r false))
-        reads = read-line mostMakeup (omega arith) (omega arith) (rulesOf S (room + length r)) (plain .wide) (plain .narrow) (two (st .reference)) up r up′ (omega arith) bs _ (st .at) here
+        reads = read-line (rulesOf S (room + length r)) (plain .wide) (plain .narrow) (two (st .reference)) up r up′ (omega arith) bs _ (st .at) here
 
         cases : {v w : Went} → Cut room v w → v ≡ failed n place l → w ≡ went (line (st .at + size) (S .columns) (reads .0) r false) → ⊥
         cases (same f) x y = let z : _≡_ {A = ℕ} 0 1 = cc in omega arith
@@ -97,7 +97,7 @@ module _ (S : Settings) (plain : Plain S) (all bs cut : List Bool) (first : bs +
       where
         tests : (x a : Bool) → eqb (S .rows) 0 ≡ a → (b : Bool) → eqb (st .count) (S .rows) ≡ b → (c : Bool) → leb (length bs) (st .at) ≡ c
             → ((x && false) || ((not a && b) || c)) ≡ true → length bs < st .at + size
-        tests x a p b q true s e = omega (arith, leb-true (length bs) (st .at) s, line-long mostMakeup (S .columns) (st .reference) r (plain .wide))
+        tests x a p b q true s e = omega (arith, leb-true (length bs) (st .at) s, line-long (S .columns) (st .reference) r (plain .wide))
         tests x false p true q false s e = absurd (⊎-elim (eqb-false (S .rows) 0 p) (λ h. omega (arith, eqb-true (st .count) (S .rows) q)) asks)
         tests true true p b q false s e = absurd (true≢false (sym e))
         tests false true p b q false s e = absurd (true≢false (sym e))
@@ -138,7 +138,7 @@ module _ (S : Settings) (plain : Plain S) (all bs cut : List Bool) (first : bs +
 
   -- behind those kept the lines of m more lie in the bits, and they are wanted
   abbrev More : Kept → List (List ℕ) → ℕ → Type 0
-  More k rs m = (k .state .at + length (rowsBits mostMakeup (S .columns) (k .state .reference) (take m rs)) ≤ length bs) × Asks S (k .state .count + m)
+  More k rs m = (k .state .at + length (rowsBits (S .columns) (k .state .reference) (take m rs)) ≤ length bs) × Asks S (k .state .count + m)
 
   -- the answer has only such rows; and it has all such, unless it is 4 or 5
   record Bounds (k : Kept) (rs : List (List ℕ)) (a : Answer) : Type 0 where
@@ -158,7 +158,7 @@ module _ (S : Settings) (plain : Plain S) (all bs cut : List Bool) (first : bs +
 
     rows-bound : (rs : List (List ℕ)) (k : Kept) (a : Answer) (rest : List Bool) → Rows (S .columns) rs → Rising (S .columns) 0 (k .state .reference)
         → k .state .at ≤ length bs → Asks S (k .state .count)
-        → drop (k .state .at) all ≡ rowsBits mostMakeup (S .columns) (k .state .reference) rs ++ rest → ends step (rowsLeft bs) k ≡ done a → Bounds k rs a
+        → drop (k .state .at) all ≡ rowsBits (S .columns) (k .state .reference) rs ++ rest → ends step (rowsLeft bs) k ≡ done a → Bounds k rs a
     unfolding rowsBits rowOf
     rows-bound [] k a rest no-rows up inside asked e q = record {
       only = λ m h l. let z : m ≡ 0 = omega arith in rw z (omega arith, fewer-asked S (omega arith) asked);
@@ -174,17 +174,17 @@ module _ (S : Settings) (plain : Plain S) (all bs cut : List Bool) (first : bs +
         K = L (k .state .reference) r
 
         later : List Bool
-        later = rowsBits mostMakeup (S .columns) r rs ++ rest
+        later = rowsBits (S .columns) r rs ++ rest
 
         here : drop (k .state .at) all ≡ K ++ later
-        here = e ∙ append-assoc K (rowsBits mostMakeup (S .columns) r rs) rest
+        here = e ∙ append-assoc K (rowsBits (S .columns) r rs) rest
 
         k′ : Kept
         k′ = withRow k r 0 (afterRow (k .state) (length K) r)
 
         -- the line and those behind it
-        parts : (m : ℕ) → length (K ++ rowsBits mostMakeup (S .columns) r (take m rs)) ≡ length K + length (rowsBits mostMakeup (S .columns) r (take m rs))
-        parts m = length-append K (rowsBits mostMakeup (S .columns) r (take m rs))
+        parts : (m : ℕ) → length (K ++ rowsBits (S .columns) r (take m rs)) ≡ length K + length (rowsBits (S .columns) r (take m rs))
+        parts m = length-append K (rowsBits (S .columns) r (take m rs))
 
         none-more : More k (r ∷ rs) 0
         none-more = (omega arith, fewer-asked S (omega arith) asked)
@@ -235,7 +235,7 @@ pub record GivesDue (S : Settings) (rows : List (List ℕ)) (bs : List Bool) (a 
 
 -- bits of whole bytes with which a written page begins
 read-due : (S : Settings) → Plain S → (rows : List (List ℕ)) → Rows (S .columns) rows → (bs : List Bool) → Bytes bs → (cut rest : List Bool)
-    → bs ++ cut ≡ pageBits mostMakeup (S .columns) rows ++ rest → (store places : ℕ) → GivesDue S rows bs (readPage S bs store places)
+    → bs ++ cut ≡ pageBits (S .columns) rows ++ rest → (store places : ℕ) → GivesDue S rows bs (readPage S bs store places)
 unfolding pageBits rowOf
 read-due S plain rows rises bs bytes cut rest e store places = record {
   only = λ n h l. let d = b .only n h (omega arith) in record { of-page = h; whole = omega (arith, d .0); asked = fewer-asked S (omega arith) (d .1) };
@@ -248,10 +248,10 @@ read-due S plain rows rises bs bytes cut rest e store places = record {
     is : p .0 ≡ readPage S bs store places
     is = sym (ap pageOf (p .1)) ∙ sym (read-4 S (plain .encoded) bs store places)
 
-    b : Bounds S plain (pageBits mostMakeup (S .columns) rows ++ rest) bs cut e noneKept rows (readPage S bs store places)
+    b : Bounds S plain (pageBits (S .columns) rows ++ rest) bs cut e noneKept rows (readPage S bs store places)
     b =
-        rows-bound S plain (pageBits mostMakeup (S .columns) rows ++ rest) bs cut e bytes store places rows noneKept (readPage S bs store places) (eofb ++ rest) rises none (omega arith)
-        (inr (omega arith)) (append-assoc (rowsBits mostMakeup (S .columns) [] rows) eofb rest) (p .1 ∙ ap done is)
+        rows-bound S plain (pageBits (S .columns) rows ++ rest) bs cut e bytes store places rows noneKept (readPage S bs store places) (eofb ++ rest) rises none (omega arith)
+        (inr (omega arith)) (append-assoc (rowsBits (S .columns) [] rows) eofb rest) (p .1 ∙ ap done is)
 
 -- a page that lacks rows (A12) has the same ones
 short-due : (S : Settings) (rows : List (List ℕ)) (bs : List Bool) (a : Answer) → GivesDue (strictIfExact S) rows bs a → GivesDue S rows bs (unlessShort S a)
@@ -263,7 +263,7 @@ short-due S rows bs a g =
 -- Bytes with which a written page begins: `decode` gives the rows that are due.
 pub cut-gives-due : (S : Settings) → Plain S → S .columns < 4294967295 → (rows : List (List ℕ)) → Rows (S .columns) rows
     → (bytes : List ℕ) → length bytes ≤ mostBytes → (cut rest : List Bool)
-    → bitsOf bytes ++ cut ≡ pageBits mostMakeup (S .columns) rows ++ rest → (store places : ℕ) → GivesDue S rows (bitsOf bytes) (decode S bytes store places)
+    → bitsOf bytes ++ cut ≡ pageBits (S .columns) rows ++ rest → (store places : ℕ) → GivesDue S rows (bitsOf bytes) (decode S bytes store places)
 cut-gives-due S plain narrow rows rises bytes small cut rest e store places =
     rw (decode-reads S (plain .wide) narrow bytes small store places)
     (short-due S rows (bitsOf bytes) _ (read-due (strictIfExact S) plain′ rows rises (bitsOf bytes) (whole-bytes bytes) cut rest e store places))

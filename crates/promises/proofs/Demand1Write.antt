@@ -11,7 +11,7 @@ use lib.ListN.{length}
 use borrow.Author.Tests.{eqb-true, eqb-false}
 use Rattle.rules.specs.Lines.{two}
 use Rattle.rules.specs.Pages.{mostBytes, noLine, entries}
-use Rattle.rules.specs.Write.{mostMakeup, lineBits, pageBits, rowsIn, writes, writeLine, writePage, Written, unwritten}
+use Rattle.rules.specs.Write.{lineBits, pageBits, rowsIn, writes, writeLine, writePage, Written, unwritten}
 use Rattle.rules.proofs.Writes.{writes-cases}
 use Rattle.answer.specs.declared.Answer.{Answer}
 use Rattle.writer.specs.Outcome.{Answers}
@@ -130,9 +130,9 @@ module _ (columns : ℕ) (out : List ℕ) (good : Bool) (end : ℕ) where
 pub write-line-answers : WriteLineAnswers
 unfolding writeLine
 write-line-answers columns reference row out at r out′ g =
-    answered columns out _ _ (fine columns out _ _ (said columns out _ _ (lineBits mostMakeup columns (two reference) row) at _ refl)) r out′ g
+    answered columns out _ _ (fine columns out _ _ (said columns out _ _ (lineBits columns (two reference) row) at _ refl)) r out′ g
 
 pub write-page-answers : WritePageAnswers
 unfolding writePage
 write-page-answers columns changes ends out r out′ g =
-    answered columns out _ _ (fine columns out _ _ (said columns out _ _ (pageBits mostMakeup columns (rowsIn 0 changes ends)) 0 _ (sym (zero-add _)))) r out′ g
+    answered columns out _ _ (fine columns out _ _ (said columns out _ _ (pageBits columns (rowsIn 0 changes ends)) 0 _ (sym (zero-add _)))) r out′ g

@@ -12,7 +12,7 @@ use Rattle.rules.specs.Rows.{bytesTo}
 use Rattle.rules.specs.Lines.{two}
 use Rattle.rules.specs.Pages as Page
 use Rattle.rules.specs.Pages.{mostBytes, entries, joined, overlaid, decode, placesIn, readOneLine, changesAfter}
-use Rattle.rules.specs.Write.{mostMakeup, pageBits, rowsIn, writeLine, writePage}
+use Rattle.rules.specs.Write.{pageBits, rowsIn, writeLine, writePage}
 use Rattle.rules.proofs.Bits.{length-bitsOf}
 use Rattle.rules.specs.Rising.{Rows}
 use Rattle.rules.specs.Damage.{allClean}
@@ -52,12 +52,12 @@ back bytes at columns strict reference row changes after r changes′ e c =
 pub line-reads-back : LineReadsBack
 line-reads-back columns reference row wide narrow up up′ bytes at rest small e strict changes r changes′ roomy c =
     back bytes at columns strict reference row changes _ r changes′
-    (line-returns mostMakeup (omega arith) (omega arith) columns wide narrow strict reference row up up′ (length changes) roomy bytes small at rest e) c
+    (line-returns columns wide narrow strict reference row up up′ (length changes) roomy bytes small at rest e) c
 
 pub written-line-reads-back : WrittenLineReadsBack
 written-line-reads-back columns reference row out at w out′ narrow written z strict changes r changes′ roomy c =
-    let n : writeLine mostMakeup columns reference row out at .number ≡ 0 = sym (ap (λ (x : Answer). x .number) (written .answer)) ∙ z in
-    let l = line-written mostMakeup columns narrow reference row out at n in
+    let n : writeLine columns reference row out at .number ≡ 0 = sym (ap (λ (x : Answer). x .number) (written .answer)) ∙ z in
+    let l = line-written columns narrow reference row out at n in
     let end = ap (λ (x : Answer). x .bytes) (written .answer) ∙ l .end-is in
     subst (λ (after : ℕ). Back row after r changes′) (sym end)
     (line-reads-back columns reference row (l .wide) (l .narrow) (l .rises) (l .rises′) out′ at (l .rest) (omega (arith, written .size, l .short))
@@ -65,7 +65,7 @@ written-line-reads-back columns reference row out at w out′ narrow written z s
 
 pub lines-apart : LinesApart
 lines-apart columns reference row other wide narrow up up′ up″ rest e =
-    rows-same mostMakeup (omega arith) (omega arith) columns wide (omega arith) (two reference) up row other up′ up″ rest [] (e ∙ sym (append-nil _))
+    rows-same columns wide (omega arith) (two reference) up row other up′ up″ rest [] (e ∙ sym (append-nil _))
 
 -- ---- Pages
 
@@ -76,15 +76,15 @@ prefix xs ys zs ws e h =
     ∙ ap (λ (l : List Bool). l ++ drop (length zs) xs) (sym (take-append-le (length zs) xs ys h) ∙ ap (take (length zs)) e ∙ take-at zs ws (length zs) refl)
 
 module _ (columns : ℕ) (changes ends out : List ℕ) (w : Answer) (out′ : List ℕ) (narrow : columns ≤ 4294967295)
-    (written : Answers (writePage mostMakeup columns changes ends out) out w out′) (z : w .number ≡ 0) where
-  number : writePage mostMakeup columns changes ends out .number ≡ 0
+    (written : Answers (writePage columns changes ends out) out w out′) (z : w .number ≡ 0) where
+  number : writePage columns changes ends out .number ≡ 0
   number = sym (ap (λ (x : Answer). x .number) (written .answer)) ∙ z
 
-  p : PageWritten mostMakeup columns changes ends out (writePage mostMakeup columns changes ends out)
-  p = page-written mostMakeup columns narrow changes ends out number
+  p : PageWritten columns changes ends out (writePage columns changes ends out)
+  p = page-written columns narrow changes ends out number
 
   pub P : List Bool
-  P = pageBits mostMakeup columns (rowsIn 0 changes ends)
+  P = pageBits columns (rowsIn 0 changes ends)
 
   page-bytes : w .bytes ≡ bytesTo (length P)
   unfolding P
@@ -121,13 +121,13 @@ module _ (columns : ℕ) (changes ends out : List ℕ) (w : Answer) (out′ : Li
 
   -- the same bits for settings of these columns
   for-settings : (settings : DecodeSettings) → Plainly columns settings → (bytes : List ℕ) (rest : List Bool) → bitsOf bytes ≡ P ++ rest
-      → bitsOf bytes ≡ pageBits mostMakeup (settings .columns) (rowsIn 0 changes ends) ++ rest
+      → bitsOf bytes ≡ pageBits (settings .columns) (rowsIn 0 changes ends) ++ rest
   unfolding P
-  for-settings settings s bytes rest e = e ∙ ap (λ (n : ℕ). pageBits mostMakeup n (rowsIn 0 changes ends) ++ rest) (sym (s .same-columns))
+  for-settings settings s bytes rest e = e ∙ ap (λ (n : ℕ). pageBits n (rowsIn 0 changes ends) ++ rest) (sym (s .same-columns))
 
-  same-size : (settings : DecodeSettings) → Plainly columns settings → length (pageBits mostMakeup (settings .columns) (rowsIn 0 changes ends)) ≡ length P
+  same-size : (settings : DecodeSettings) → Plainly columns settings → length (pageBits (settings .columns) (rowsIn 0 changes ends)) ≡ length P
   unfolding P
-  same-size settings s = ap (λ (n : ℕ). length (pageBits mostMakeup n (rowsIn 0 changes ends))) (s .same-columns)
+  same-size settings s = ap (λ (n : ℕ). length (pageBits n (rowsIn 0 changes ends))) (s .same-columns)
 
   read-whole : (bytes : List ℕ) → length bytes ≤ mostBytes → take (w .bytes) bytes ≡ take (w .bytes) out′ → (settings : DecodeSettings) → Plainly columns settings
       → (settings .rows ≡ 0) ⊎ (settings .rows ≡ length (rowsIn 0 changes ends)) → (store places : ℕ)
@@ -135,7 +135,7 @@ module _ (columns : ℕ) (changes ends out : List ℕ) (w : Answer) (out′ : Li
       → decode (settingsOf settings) bytes store places ≡ whole (length P) (rowsIn 0 changes ends) (allClean (rowsIn 0 changes ends))
   read-whole bytes small e settings s counted store places roomy placed =
       let f = fronted bytes e in
-      page-returns mostMakeup (omega arith) (omega arith) (settingsOf settings) (plain settings s) (omega (arith, p .narrow, s .same-columns)) (rowsIn 0 changes ends)
+      page-returns (settingsOf settings) (plain settings s) (omega (arith, p .narrow, s .same-columns)) (rowsIn 0 changes ends)
       (rises settings s) bytes small (f .0) (for-settings settings s bytes (f .0) (f .1)) counted store places roomy placed
       ∙ ap (λ (n : ℕ). whole n (rowsIn 0 changes ends) (allClean (rowsIn 0 changes ends))) (same-size settings s)
 
@@ -152,7 +152,7 @@ module _ (columns : ℕ) (changes ends out : List ℕ) (w : Answer) (out′ : Li
   read-cut : length out′ ≤ mostBytes → (cut : ℕ) (settings : DecodeSettings) → Plainly columns settings → (store places : ℕ)
       → (n : ℕ) × (decode (settingsOf settings) (take cut out′) store places .rows ≡ take n (rowsIn 0 changes ends))
   read-cut small cut settings s store places =
-      page-cut mostMakeup (omega arith) (omega arith) (settingsOf settings) (plain settings s) (omega (arith, p .narrow, s .same-columns)) (rowsIn 0 changes ends)
+      page-cut (settingsOf settings) (plain settings s) (omega (arith, p .narrow, s .same-columns)) (rowsIn 0 changes ends)
       (rises settings s) out′ small (p .rest) (for-settings settings s out′ (p .rest) out-bits) cut store places
 
   due-cut : length out′ ≤ mostBytes → (cut : ℕ) (settings : DecodeSettings) → Plainly columns settings → (store places : ℕ)

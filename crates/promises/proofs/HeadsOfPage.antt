@@ -17,7 +17,7 @@ use Rattle.rules.specs.Group4.{afterLine4}
 use Rattle.rules.specs.Group3.{Tagging, untagged, tagged, kept, afterLine3, row3}
 use Rattle.rules.specs.Pages as Page
 use Rattle.rules.specs.Pages.{rowOf, joined, endsFrom, placesIn, strictIfExact, decode}
-use Rattle.rules.specs.Write.{mostMakeup, pageBits, endsRise, allAscend, rowsIn, writePage}
+use Rattle.rules.specs.Write.{pageBits, endsRise, allAscend, rowsIn, writePage}
 use Rattle.rules.specs.WriteGroup3.{layout1D, page3Bits, write1D}
 use Rattle.rules.specs.Damage.{Arrived, own, other, Spared, no-lines, unchanged, any-row}
 use Rattle.rules.specs.Pixels.{pixelsOf}
@@ -207,11 +207,11 @@ heads-of-page bytes settings c narrow read count enough form least quota r shape
 -- ---- A form that was written
 
 -- what was written passed the test of its rows
-written-good : (columns : ℕ) (changes ends out : List ℕ) (w : Answer) (out′ : List ℕ) → Writer.Answers (writePage mostMakeup columns changes ends out) out w out′ → w .number ≡ 0
+written-good : (columns : ℕ) (changes ends out : List ℕ) (w : Answer) (out′ : List ℕ) → Writer.Answers (writePage columns changes ends out) out w out′ → w .number ≡ 0
     → goodRows columns changes 0 ends ≡ true
 written-good columns changes ends out w out′ written z = by (goodRows columns changes 0 ends) refl
   where
-    l : WriteListed columns out (goodRows columns changes 0 ends) (length (pageBits mostMakeup columns (rowsIn 0 changes ends))) w out′
+    l : WriteListed columns out (goodRows columns changes 0 ends) (length (pageBits columns (rowsIn 0 changes ends))) w out′
     l = write-page-answers columns changes ends out w out′ written
 
     by : (b : Bool) → goodRows columns changes 0 ends ≡ b → goodRows columns changes 0 ends ≡ true
@@ -250,11 +250,11 @@ written-form-keeps-heads columns changes ends out w out′ narrow written z byte
 
 -- ---- A form with bad lines
 
-written-1d-good : (columns : ℕ) (changes ends out : List ℕ) (fill : ℕ) (w : Answer) (out′ : List ℕ) → Writer.Answers (write1D mostMakeup true fill columns changes ends out) out w out′ → w .number ≡ 0
+written-1d-good : (columns : ℕ) (changes ends out : List ℕ) (fill : ℕ) (w : Answer) (out′ : List ℕ) → Writer.Answers (write1D true fill columns changes ends out) out w out′ → w .number ≡ 0
     → goodRows columns changes 0 ends ≡ true
 written-1d-good columns changes ends out fill w out′ written z = by (goodRows columns changes 0 ends) refl
   where
-    l : Write3Listed (fill ≤ 64) columns changes ends out (length (page3Bits mostMakeup columns (layout1D true fill) (rowsIn 0 changes ends))) w out′
+    l : Write3Listed (fill ≤ 64) columns changes ends out (length (page3Bits columns (layout1D true fill) (rowsIn 0 changes ends))) w out′
     l = write-1d-answers columns changes ends out true fill w out′ written
 
     no-line : (columns ≡ 0) ⊎ (columns ≡ 4294967295) → ⊥

@@ -13,7 +13,7 @@ use Rattle.rules.specs.Lines.{Rules, Line, headOr, Went, went, failed, two, rea
 use Rattle.rules.specs.Rows.{readMark}
 use Rattle.rules.specs.Pages as Page
 use Rattle.rules.specs.Pages.{mostBytes, tooWide, noLine, ascends, placesIn, strictIfExact, decode, oneLine, readOneLine, changesAfter}
-use Rattle.rules.specs.Write.{mostMakeup, rowsIn}
+use Rattle.rules.specs.Write.{rowsIn}
 use Rattle.rules.proofs.Lines.{data-bound, read-broken}
 use Rattle.rules.specs.Marks.{Refused, refused, Came}
 use Rattle.rules.proofs.Clean.{Twin, alike, apart, cutOf, line-twins}
@@ -167,4 +167,4 @@ line-mark-tells bytes at columns reference changes r s changes′ changes″ len
 pub written-line-is-clean : WrittenLineIsClean
 written-line-is-clean columns reference row wide narrow up up′ bytes at rest small e strict changes r changes′ roomy c =
     ap (λ (x : Answer). x .mark) (c .answer)
-    ∙ ap markOf (line-returns mostMakeup (omega arith) (omega arith) columns wide narrow strict reference row up up′ (length changes) roomy bytes small at rest e)
+    ∙ ap markOf (line-returns columns wide narrow strict reference row up up′ (length changes) roomy bytes small at rest e)

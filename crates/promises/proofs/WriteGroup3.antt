@@ -11,7 +11,7 @@ use borrow.Author.Tests.{leb-true, leb-false, le-leb, ltb-true, ltb-false}
 use Rattle.rules.specs.Lines.{one}
 use Rattle.rules.specs.Pages as Page
 use Rattle.rules.specs.Pages.{mostBytes, entries, decode, placesIn}
-use Rattle.rules.specs.Write.{mostMakeup, lineBits, eolBits, rowsIn, endsRise, allAscend, Written, unwritten}
+use Rattle.rules.specs.Write.{lineBits, eolBits, rowsIn, endsRise, allAscend, Written, unwritten}
 use Rattle.rules.specs.WriteGroup3.{Layout, mixed, codedLines, framed, layout1D, page3Bits, writeGroup3, write1D, write2D}
 use Rattle.rules.proofs.Bits.{both-true}
 use Rattle.rules.specs.Damage.{allClean}
@@ -47,7 +47,7 @@ module _ (n : ℕ) (good : Bool) where
 
 module _ (layout : Layout) (fine : Bool) (Allowed : Type 0) (granted : fine ≡ true → Allowed) (denied : fine ≡ false → Allowed → ⊥) (columns : ℕ) (changes ends out : List ℕ) where
   abbrev size : ℕ
-  size = length (page3Bits mostMakeup columns layout (rowsIn 0 changes ends))
+  size = length (page3Bits columns layout (rowsIn 0 changes ends))
 
   abbrev Nothing : Type 0
   Nothing = (columns ≡ 0) ⊎ (columns ≡ 4294967295)
@@ -67,9 +67,9 @@ module _ (layout : Layout) (fine : Bool) (Allowed : Type 0) (granted : fine ≡ 
     is-nine : (Nothing → ⊥) → (Long → ⊥) → Allowed → (Bad → ⊥) → 8 * length out < size → Said (unwritten 9 out)
     is-done : (Nothing → ⊥) → (Long → ⊥) → Allowed → (Bad → ⊥) → size ≤ 8 * length out → (w : Written) → w .number ≡ 0 → Said w
 
-  said : Said (writeGroup3 mostMakeup layout fine columns changes ends out)
+  said : Said (writeGroup3 layout fine columns changes ends out)
   said =
-      write3-cases mostMakeup layout fine columns changes ends out Said
+      write3-cases layout fine columns changes ends out Said
       (λ i. is-six (none columns out true 0 i))
       (λ i h. is-seven (some columns out true 0 i) h)
       (λ i h f. is-ten (some columns out true 0 i) (λ l. omega arith) (denied f))
@@ -159,7 +159,7 @@ module _ (layout : Layout) (fine : Bool) (Allowed : Type 0) (granted : fine ≡ 
       number : r .number ≡ w .number
       number = ap (λ (x : Answer). x .number) (g .answer)
 
-  pub write3-answers : (r : Answer) (out′ : List ℕ) → Answers (writeGroup3 mostMakeup layout fine columns changes ends out) out r out′ → Write3Listed Allowed columns changes ends out size r out′
+  pub write3-answers : (r : Answer) (out′ : List ℕ) → Answers (writeGroup3 layout fine columns changes ends out) out r out′ → Write3Listed Allowed columns changes ends out size r out′
   write3-answers = answered (each said)
 
 pub write-1d-answers : Write1DAnswers
@@ -232,9 +232,9 @@ told columns eols rows settings wide narrow s = record {
 
 -- what a 0 says of the width and of the page's bytes
 module _ (layout : Layout) (fine : Bool) (columns : ℕ) (changes ends out : List ℕ) (w : Answer) (out′ : List ℕ) (narrow : columns ≤ 4294967295)
-    (written : Answers (writeGroup3 mostMakeup layout fine columns changes ends out) out w out′) (z : w .number ≡ 0) where
-  p : Page3Written mostMakeup layout fine columns changes ends out (writeGroup3 mostMakeup layout fine columns changes ends out)
-  p = page3-written mostMakeup layout fine columns changes ends out narrow (sym (ap (λ (x : Answer). x .number) (written .answer)) ∙ z)
+    (written : Answers (writeGroup3 layout fine columns changes ends out) out w out′) (z : w .number ≡ 0) where
+  p : Page3Written layout fine columns changes ends out (writeGroup3 layout fine columns changes ends out)
+  p = page3-written layout fine columns changes ends out narrow (sym (ap (λ (x : Answer). x .number) (written .answer)) ∙ z)
 
   pub wide : 0 < columns
   wide = p .wide
@@ -245,9 +245,9 @@ module _ (layout : Layout) (fine : Bool) (columns : ℕ) (changes ends out : Lis
 pub written-1d-before-zeros : Written1DBeforeZeros
 unfolding write1D
 written-1d-before-zeros columns changes ends out eols fill w out′ narrow written z settings s zeros small =
-    gives-back (write1D mostMakeup eols fill columns changes ends out) changes ends out w out′ written z settings
-    (subst (λ (n : ℕ). Returns (write1D mostMakeup eols fill n changes ends out) (settingsOf settings) changes ends out) (s .same-columns)
-    (write1D-returns mostMakeup (omega arith) (omega arith) (settingsOf settings) changes ends out eols fill
+    gives-back (write1D eols fill columns changes ends out) changes ends out w out′ written z settings
+    (subst (λ (n : ℕ). Returns (write1D eols fill n changes ends out) (settingsOf settings) changes ends out) (s .same-columns)
+    (write1D-returns (settingsOf settings) changes ends out eols fill
     (told columns eols (length ends) settings (wide (layout1D eols fill) (leb fill 64) columns changes ends out w out′ narrow written z) narrow s)))
     zeros small
 
@@ -261,9 +261,9 @@ written-1d-reads-back columns changes ends out eols fill w out′ narrow written
 pub written-2d-before-zeros : Written2DBeforeZeros
 unfolding write2D
 written-2d-before-zeros columns changes ends out k w out′ narrow written z settings s zeros small =
-    gives-back (write2D mostMakeup k columns changes ends out) changes ends out w out′ written z settings
-    (subst (λ (n : ℕ). Returns (write2D mostMakeup k n changes ends out) (settingsOf settings) changes ends out) (s .same-columns)
-    (write2D-returns mostMakeup (omega arith) (omega arith) (settingsOf settings) changes ends out k
+    gives-back (write2D k columns changes ends out) changes ends out w out′ written z settings
+    (subst (λ (n : ℕ). Returns (write2D k n changes ends out) (settingsOf settings) changes ends out) (s .same-columns)
+    (write2D-returns (settingsOf settings) changes ends out k
     (told-2d columns (length ends) settings (wide (mixed k) (leb 1 k && leb k 65535) columns changes ends out w out′ narrow written z) narrow s)))
     zeros small
 
@@ -280,6 +280,6 @@ pub k-one-is-all-1d : KOneIsAll1D
 unfolding page3Bits framed codedLines tagged1D
 k-one-is-all-1d columns rows = lines [] rows
   where
-    lines : (reference : List ℕ) (rows : List (List ℕ)) → framed (mixed 1) (codedLines mostMakeup columns 1 0 reference rows) ≡ tagged1D columns rows
+    lines : (reference : List ℕ) (rows : List (List ℕ)) → framed (mixed 1) (codedLines columns 1 0 reference rows) ≡ tagged1D columns rows
     lines reference [] = refl
-    lines reference (r ∷ rs) = ap (λ (l : List Bool). (eolBits ++ true ∷ []) ++ (lineBits mostMakeup columns one r ++ l)) (lines r rs)
+    lines reference (r ∷ rs) = ap (λ (l : List Bool). (eolBits ++ true ∷ []) ++ (lineBits columns one r ++ l)) (lines r rs)

@@ -8,7 +8,7 @@ use lib.ListN.{length, getD, take}
 use Rattle.rules.specs.Bits.{bitsOf}
 use Rattle.rules.specs.Lines.{one}
 use Rattle.rules.specs.Pages.{mostBytes}
-use Rattle.rules.specs.Write.{mostMakeup, lineBits, rowsIn}
+use Rattle.rules.specs.Write.{lineBits, rowsIn}
 use Rattle.rules.specs.WriteGroup3.{filled, page3Bits, write1D}
 use Rattle.rules.specs.Damage.{stray, Arrived, own, other, owns, arrivedPage, upTo, mayAll, Spared, RoomFor, AllButOne}
 use Rattle.answer.specs.declared.Answer.{Answer}
@@ -40,7 +40,7 @@ pub record Arrival (columns fill : ℕ) (lines : List Arrived) (bytes : List ℕ
   pub some-lines : 0 < length lines
   pub allowed : mayAll columns lines ≡ true
   pub rest : List Bool
-  pub there : bitsOf bytes ≡ arrivedPage mostMakeup columns fill lines ++ rest
+  pub there : bitsOf bytes ≡ arrivedPage columns fill lines ++ rest
   pub small : length bytes ≤ mostBytes
   pub set : ForBadLines columns (length lines) settings
   pub reading : Reading bytes settings c
@@ -62,10 +62,10 @@ MarkedAreBad =
 
 -- the bits of a page before the code bits of the line behind the rows `first`, and behind those of the line before the rows `last`
 abbrev pub frontOf : ℕ → ℕ → List (List ℕ) → List Bool
-frontOf columns fill first = upTo mostMakeup columns fill (owns first)
+frontOf columns fill first = upTo columns fill (owns first)
 
 abbrev pub backOf : ℕ → ℕ → List (List ℕ) → List Bool
-backOf columns fill last = page3Bits mostMakeup columns (filled fill) last
+backOf columns fill last = page3Bits columns (filled fill) last
 
 -- "Take one line's code bits, fill aside, and put any others in their place, of any number within limit 7, holding at least one one and no run of eleven or more zeros before a one. Padding at the
 -- page's end may change to suit. Read leniently, with room enough, the page gives the same number of rows, and every row but that one is unchanged." First it says where the row's code bits stand
@@ -73,9 +73,9 @@ backOf columns fill last = page3Bits mostMakeup columns (filled fill) last
 abbrev pub OneBadLineCostsOneRow : Type 0
 OneBadLineCostsOneRow =
     (columns : ℕ) (changes ends out : List ℕ) (fill : ℕ) (w : Answer) (out′ : List ℕ) → columns ≤ 4294967295 → 3 ≤ fill
-    → Answers (write1D mostMakeup true fill columns changes ends out) out w out′ → w .number ≡ 0
+    → Answers (write1D true fill columns changes ends out) out w out′ → w .number ≡ 0
     → (first : List (List ℕ)) (row : List ℕ) (last : List (List ℕ)) → rowsIn 0 changes ends ≡ first ++ row ∷ last
-    → ((padding : List Bool) × (bitsOf (take (w .bytes) out′) ≡ frontOf columns fill first ++ (lineBits mostMakeup columns one row ++ (backOf columns fill last ++ padding))))
+    → ((padding : List Bool) × (bitsOf (take (w .bytes) out′) ≡ frontOf columns fill first ++ (lineBits columns one row ++ (backOf columns fill last ++ padding))))
     × ((bits : List Bool) → stray bits ≡ true
     → (bytes : List ℕ) (padding : List Bool) → length bytes ≤ mostBytes → bitsOf bytes ≡ frontOf columns fill first ++ (bits ++ (backOf columns fill last ++ padding))
     → (settings : DecodeSettings) → ForBadLines columns (length ends) settings

@@ -7,7 +7,6 @@ use Prim.Native.Nat.{ℕ, _≤_, _<_}
 use lib.ListN.{length}
 use Rattle.rules.specs.Bits.{bitsOf}
 use Rattle.rules.specs.Pages.{mostBytes}
-use Rattle.rules.specs.Write.{mostMakeup}
 use Rattle.rules.specs.Damage2D.{Arrived2D, arrivedPage2D, mayAll2D, SparedTo1D}
 use Rattle.settings.specs.declared.DecodeSettings.{DecodeSettings}
 use Rattle.settings.specs.declared.EncodingMode.the-variants.{«Group3_2D»}
@@ -31,7 +30,7 @@ pub record Arrival2D (columns fill : ℕ) (lines : List Arrived2D) (bytes : List
   pub some-lines : 0 < length lines
   pub allowed : mayAll2D columns lines ≡ true
   pub rest : List Bool
-  pub there : bitsOf bytes ≡ arrivedPage2D mostMakeup columns fill [] lines ++ rest
+  pub there : bitsOf bytes ≡ arrivedPage2D columns fill [] lines ++ rest
   pub small : length bytes ≤ mostBytes
   pub set : ForBadLines2D columns (length lines) settings
   pub reading : Reading bytes settings c

@@ -7,7 +7,7 @@ use Prim.Native.Nat.{ℕ, _+_, _*_, _≤_}
 use lib.ListN.{length, take}
 use Rattle.rules.specs.Lines.{two}
 use Rattle.rules.specs.Pages.{mostBytes}
-use Rattle.rules.specs.Write.{mostMakeup, lineBits, rowsIn, writeLine}
+use Rattle.rules.specs.Write.{lineBits, rowsIn, writeLine}
 use Rattle.answer.specs.declared.Answer.{Answer}
 use Rattle.settings.specs.declared.DecodeSettings.{DecodeSettings}
 use Rattle.one_line.specs.OneLine.{ReadOne}
@@ -26,8 +26,8 @@ RowsGoBack =
     → Decodes bytes settings changes ends marks r changes′ ends′ marks′
     → (reference row : List ℕ) → Follows (rowsIn 0 changes′ (take (r .rows) ends′)) reference row
     → (out : List ℕ) (at : ℕ) (w : Answer) (out′ : List ℕ) → length out ≤ mostBytes
-    → at + length (lineBits mostMakeup (settings .columns) (two reference) row) ≤ 8 * length out
-    → Answers (writeLine mostMakeup (settings .columns) reference row out at) out w out′
+    → at + length (lineBits (settings .columns) (two reference) row) ≤ 8 * length out
+    → Answers (writeLine (settings .columns) reference row out at) out w out′
     → (w .number ≡ 0)
     × ((strict : Bool) (store : List ℕ) (s : Answer) (store′ : List ℕ) → length row ≤ length store
     → ReadOne out′ at (settings .columns) strict reference store s store′ → Back row (w .bytes) s store′)

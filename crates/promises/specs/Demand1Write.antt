@@ -7,7 +7,7 @@ use Prim.Native.Nat.{ℕ, _+_, _*_, _≤_, _<_}
 use lib.ListN.{length}
 use Rattle.rules.specs.Lines.{two}
 use Rattle.rules.specs.Pages.{mostBytes, ascends}
-use Rattle.rules.specs.Write.{mostMakeup, lineBits, pageBits, rowsIn, endsRise, allAscend, writeLine, writePage}
+use Rattle.rules.specs.Write.{lineBits, pageBits, rowsIn, endsRise, allAscend, writeLine, writePage}
 use Rattle.answer.specs.declared.Answer.{Answer}
 use Rattle.writer.specs.Outcome.{Answers}
 
@@ -31,11 +31,11 @@ module _ (columns : ℕ) (out : List ℕ) (good : Bool) (end : ℕ) (r : Answer)
 abbrev pub WriteLineAnswers : Type 0
 WriteLineAnswers =
     (columns : ℕ) (reference row out : List ℕ) (at : ℕ) (r : Answer) (out′ : List ℕ)
-    → Answers (writeLine mostMakeup columns reference row out at) out r out′
-    → WriteListed columns out (ascends columns reference && ascends columns row) (at + length (lineBits mostMakeup columns (two reference) row)) r out′
+    → Answers (writeLine columns reference row out at) out r out′
+    → WriteListed columns out (ascends columns reference && ascends columns row) (at + length (lineBits columns (two reference) row)) r out′
 
 abbrev pub WritePageAnswers : Type 0
 WritePageAnswers =
     (columns : ℕ) (changes ends out : List ℕ) (r : Answer) (out′ : List ℕ)
-    → Answers (writePage mostMakeup columns changes ends out) out r out′
-    → WriteListed columns out (endsRise (length changes) 0 ends && allAscend columns (rowsIn 0 changes ends)) (length (pageBits mostMakeup columns (rowsIn 0 changes ends))) r out′
+    → Answers (writePage columns changes ends out) out r out′
+    → WriteListed columns out (endsRise (length changes) 0 ends && allAscend columns (rowsIn 0 changes ends)) (length (pageBits columns (rowsIn 0 changes ends))) r out′

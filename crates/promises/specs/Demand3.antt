@@ -10,7 +10,7 @@ use lib.ListN.{length, take, drop}
 use Rattle.rules.specs.Bits.{bitsOf}
 use Rattle.rules.specs.Lines.{two}
 use Rattle.rules.specs.Pages.{mostBytes, entries}
-use Rattle.rules.specs.Write.{mostMakeup, lineBits, rowsBits, rowsIn, writeLine, writePage}
+use Rattle.rules.specs.Write.{lineBits, rowsBits, rowsIn, writeLine, writePage}
 use Rattle.rules.specs.Rising.{Rising}
 use Rattle.answer.specs.declared.Answer.{Answer}
 use Rattle.settings.specs.declared.DecodeSettings.{DecodeSettings}
@@ -33,16 +33,16 @@ pub record Back (row : List ℕ) (after : ℕ) (r : Answer) (changes′ : List �
 abbrev pub LineReadsBack : Type 0
 LineReadsBack =
     (columns : ℕ) (reference row : List ℕ) → 0 < columns → columns < 4294967295 → Rising columns 0 reference → Rising columns 0 row
-    → (bytes : List ℕ) (at : ℕ) (rest : List Bool) → length bytes ≤ mostBytes → drop at (bitsOf bytes) ≡ lineBits mostMakeup columns (two reference) row ++ rest
+    → (bytes : List ℕ) (at : ℕ) (rest : List Bool) → length bytes ≤ mostBytes → drop at (bitsOf bytes) ≡ lineBits columns (two reference) row ++ rest
     → (strict : Bool) (changes : List ℕ) (r : Answer) (changes′ : List ℕ) → length row ≤ length changes
     → ReadOne bytes at columns strict reference changes r changes′
-    → Back row (at + length (lineBits mostMakeup columns (two reference) row)) r changes′
+    → Back row (at + length (lineBits columns (two reference) row)) r changes′
 
 -- the two functions, one after the other: what `write_line` wrote, `read_line` reads
 abbrev pub WrittenLineReadsBack : Type 0
 WrittenLineReadsBack =
     (columns : ℕ) (reference row out : List ℕ) (at : ℕ) (w : Answer) (out′ : List ℕ) → columns ≤ 4294967295
-    → Answers (writeLine mostMakeup columns reference row out at) out w out′ → w .number ≡ 0
+    → Answers (writeLine columns reference row out at) out w out′ → w .number ≡ 0
     → (strict : Bool) (changes : List ℕ) (r : Answer) (changes′ : List ℕ) → length row ≤ length changes
     → ReadOne out′ at columns strict reference changes r changes′
     → Back row (w .bytes) r changes′
@@ -51,7 +51,7 @@ WrittenLineReadsBack =
 abbrev pub LinesApart : Type 0
 LinesApart =
     (columns : ℕ) (reference row other : List ℕ) → 0 < columns → columns < 4294967295 → Rising columns 0 reference → Rising columns 0 row → Rising columns 0 other
-    → (rest : List Bool) → lineBits mostMakeup columns (two reference) row ++ rest ≡ lineBits mostMakeup columns (two reference) other
+    → (rest : List Bool) → lineBits columns (two reference) row ++ rest ≡ lineBits columns (two reference) other
     → row ≡ other
 
 -- ---- Pages
@@ -67,7 +67,7 @@ pub record Plainly (columns : ℕ) (settings : DecodeSettings) : Type 0 where
 abbrev pub WrittenPageReadsBack : Type 0
 WrittenPageReadsBack =
     (columns : ℕ) (changes ends out : List ℕ) (w : Answer) (out′ : List ℕ) → columns ≤ 4294967295
-    → Answers (writePage mostMakeup columns changes ends out) out w out′ → w .number ≡ 0
+    → Answers (writePage columns changes ends out) out w out′ → w .number ≡ 0
     → (bytes : List ℕ) → length bytes ≤ mostBytes → take (w .bytes) bytes ≡ take (w .bytes) out′
     → (settings : DecodeSettings) → Plainly columns settings → (settings .rows ≡ 0) ⊎ (settings .rows ≡ length ends)
     → (store places marks : List ℕ) (r : Answer) (store′ places′ marks′ : List ℕ) → entries (rowsIn 0 changes ends) ≤ length store → length ends ≤ length places → length ends ≤ length marks
@@ -78,7 +78,7 @@ WrittenPageReadsBack =
 -- or n or more). A line has no bits but its codes', so it does not matter where the next line or EOFB was cut.
 pub record Due (columns wanted : ℕ) (rows : List (List ℕ)) (bits : List Bool) (n : ℕ) : Type 0 where
   pub of-page : n ≤ length rows
-  pub whole : length (rowsBits mostMakeup columns [] (take n rows)) ≤ length bits
+  pub whole : length (rowsBits columns [] (take n rows)) ≤ length bits
   pub asked : (wanted ≡ 0) ⊎ (n ≤ wanted)
 
 -- Cut after any byte, it gives only its own first rows, each whole, with any `rows` and any room: no row that is not due, and all that are due, unless 4 or
@@ -86,7 +86,7 @@ pub record Due (columns wanted : ℕ) (rows : List (List ℕ)) (bits : List Bool
 abbrev pub CutPageGivesFirstRows : Type 0
 CutPageGivesFirstRows =
     (columns : ℕ) (changes ends out : List ℕ) (w : Answer) (out′ : List ℕ) → columns ≤ 4294967295
-    → Answers (writePage mostMakeup columns changes ends out) out w out′ → w .number ≡ 0
+    → Answers (writePage columns changes ends out) out w out′ → w .number ≡ 0
     → (cut : ℕ) (settings : DecodeSettings) → Plainly columns settings
     → (store places marks : List ℕ) (r : Answer) (store′ places′ marks′ : List ℕ)
     → Decodes (take cut out′) settings store places marks r store′ places′ marks′

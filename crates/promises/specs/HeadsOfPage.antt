@@ -10,7 +10,7 @@ use lib.ListN.{length, getD, take, replicate}
 use Rattle.rules.specs.Bits.{bitsOf}
 use Rattle.rules.specs.Rows.{Settings, State}
 use Rattle.rules.specs.Pages.{mostBytes, entries, strictIfExact}
-use Rattle.rules.specs.Write.{mostMakeup, rowsIn, writePage}
+use Rattle.rules.specs.Write.{rowsIn, writePage}
 use Rattle.rules.specs.WriteGroup3.{write1D}
 use Rattle.rules.specs.Damage.{Arrived, own, other}
 use Rattle.rules.specs.Marks.{Came, Told}
@@ -76,7 +76,7 @@ HeadsOfPage =
 abbrev pub WrittenFormKeepsHeads : Type 0
 WrittenFormKeepsHeads =
     (columns : ℕ) (changes ends out : List ℕ) (w : Answer) (out′ : List ℕ) → columns ≤ 4294967295
-    → Writer.Answers (writePage mostMakeup columns changes ends out) out w out′ → w .number ≡ 0
+    → Writer.Answers (writePage columns changes ends out) out w out′ → w .number ≡ 0
     → (bytes : List ℕ) → length bytes ≤ mostBytes → take (w .bytes) bytes ≡ take (w .bytes) out′
     → (settings : DecodeSettings) → Plainly columns settings → (settings .rows ≡ 0) ⊎ (settings .rows ≡ length ends)
     → (c : Call) → entries (rowsIn 0 changes ends) ≤ length (c .changes) → length ends ≤ length (c .ends) → length ends ≤ length (c .marks)
@@ -97,7 +97,7 @@ pub record LinesOf (rows : List (List ℕ)) (lines : List Arrived) : Type 0 wher
 -- they are those of the rows that were written, each of them clean. So a bad line changes no heads unless a box touches its row; and there a row that is not marked clean is 13.
 abbrev pub BadLinesKeepHeads : Type 0
 BadLinesKeepHeads =
-    (columns : ℕ) (changes ends out : List ℕ) (fill : ℕ) (w : Answer) (out′ : List ℕ) → Writer.Answers (write1D mostMakeup true fill columns changes ends out) out w out′ → w .number ≡ 0
+    (columns : ℕ) (changes ends out : List ℕ) (fill : ℕ) (w : Answer) (out′ : List ℕ) → Writer.Answers (write1D true fill columns changes ends out) out w out′ → w .number ≡ 0
     → (lines : List Arrived) → LinesOf (rowsIn 0 changes ends) lines
     → (bytes : List ℕ) (settings : DecodeSettings) (c : Call) → Arrival columns fill lines bytes settings c
     → (count : ℕ) → c .answer .rows ≤ count

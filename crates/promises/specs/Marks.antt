@@ -10,7 +10,7 @@ use Rattle.rules.specs.Bits.{bitsOf}
 use Rattle.rules.specs.Lines.{two}
 use Rattle.rules.specs.Rows.{State}
 use Rattle.rules.specs.Pages.{mostBytes, entries, strictIfExact}
-use Rattle.rules.specs.Write.{mostMakeup, lineBits, rowsIn, writePage}
+use Rattle.rules.specs.Write.{lineBits, rowsIn, writePage}
 use Rattle.rules.specs.Rising.{Rising}
 use Rattle.rules.specs.Marks.{Came}
 use Rattle.answer.specs.declared.Answer.{Answer}
@@ -44,7 +44,7 @@ MarksTell =
 abbrev pub WrittenPageIsClean : Type 0
 WrittenPageIsClean =
     (columns : ℕ) (changes ends out : List ℕ) (w : Answer) (out′ : List ℕ) → columns ≤ 4294967295
-    → Answers (writePage mostMakeup columns changes ends out) out w out′ → w .number ≡ 0
+    → Answers (writePage columns changes ends out) out w out′ → w .number ≡ 0
     → (bytes : List ℕ) → length bytes ≤ mostBytes → take (w .bytes) bytes ≡ take (w .bytes) out′
     → (settings : DecodeSettings) → Plainly columns settings → (settings .rows ≡ 0) ⊎ (settings .rows ≡ length ends)
     → (store places marks : List ℕ) (r : Answer) (store′ places′ marks′ : List ℕ) → entries (rowsIn 0 changes ends) ≤ length store → length ends ≤ length places → length ends ≤ length marks
@@ -73,7 +73,7 @@ LineMarkTells =
 abbrev pub WrittenLineIsClean : Type 0
 WrittenLineIsClean =
     (columns : ℕ) (reference row : List ℕ) → 0 < columns → columns < 4294967295 → Rising columns 0 reference → Rising columns 0 row
-    → (bytes : List ℕ) (at : ℕ) (rest : List Bool) → length bytes ≤ mostBytes → drop at (bitsOf bytes) ≡ lineBits mostMakeup columns (two reference) row ++ rest
+    → (bytes : List ℕ) (at : ℕ) (rest : List Bool) → length bytes ≤ mostBytes → drop at (bitsOf bytes) ≡ lineBits columns (two reference) row ++ rest
     → (strict : Bool) (changes : List ℕ) (r : Answer) (changes′ : List ℕ) → length row ≤ length changes
     → ReadOne bytes at columns strict reference changes r changes′
     → r .mark ≡ 0

@@ -7,7 +7,7 @@ use Prim.Native.Nat.{ℕ, _+_, _*_, _≤_, _<_}
 use lib.ListN.{length, getD, take, replicate}
 use Rattle.rules.specs.Lines.{one}
 use Rattle.rules.specs.Pages.{mostBytes, entries}
-use Rattle.rules.specs.Write.{mostMakeup, lineBits, eolBits, rowsIn, endsRise, allAscend}
+use Rattle.rules.specs.Write.{lineBits, eolBits, rowsIn, endsRise, allAscend}
 use Rattle.rules.specs.WriteGroup3.{mixed, times, layout1D, page3Bits, write1D, write2D}
 use Rattle.answer.specs.declared.Answer.{Answer}
 use Rattle.settings.specs.declared.DecodeSettings.{DecodeSettings}
@@ -43,15 +43,15 @@ module _ (Allowed : Type 0) (columns : ℕ) (changes ends out : List ℕ) (size 
 abbrev pub Write1DAnswers : Type 0
 Write1DAnswers =
     (columns : ℕ) (changes ends out : List ℕ) (eols : Bool) (fill : ℕ) (r : Answer) (out′ : List ℕ)
-    → Answers (write1D mostMakeup eols fill columns changes ends out) out r out′
-    → Write3Listed (fill ≤ 64) columns changes ends out (length (page3Bits mostMakeup columns (layout1D eols fill) (rowsIn 0 changes ends))) r out′
+    → Answers (write1D eols fill columns changes ends out) out r out′
+    → Write3Listed (fill ≤ 64) columns changes ends out (length (page3Bits columns (layout1D eols fill) (rowsIn 0 changes ends))) r out′
 
 -- A10: "a caller's K from 1 to 65,535 .. Any other K answers 10"
 abbrev pub Write2DAnswers : Type 0
 Write2DAnswers =
     (columns : ℕ) (changes ends out : List ℕ) (k : ℕ) (r : Answer) (out′ : List ℕ)
-    → Answers (write2D mostMakeup k columns changes ends out) out r out′
-    → Write3Listed ((1 ≤ k) × (k ≤ 65535)) columns changes ends out (length (page3Bits mostMakeup columns (mixed k) (rowsIn 0 changes ends))) r out′
+    → Answers (write2D k columns changes ends out) out r out′
+    → Write3Listed ((1 ≤ k) × (k ≤ 65535)) columns changes ends out (length (page3Bits columns (mixed k) (rowsIn 0 changes ends))) r out′
 
 -- ---- Reading back
 
@@ -83,7 +83,7 @@ GivesBack changes ends w settings bytes =
 abbrev pub Written1DReadsBack : Type 0
 Written1DReadsBack =
     (columns : ℕ) (changes ends out : List ℕ) (eols : Bool) (fill : ℕ) (w : Answer) (out′ : List ℕ) → columns ≤ 4294967295
-    → Answers (write1D mostMakeup eols fill columns changes ends out) out w out′ → w .number ≡ 0
+    → Answers (write1D eols fill columns changes ends out) out w out′ → w .number ≡ 0
     → (settings : DecodeSettings) → For1D columns eols (length ends) settings
     → GivesBack changes ends w settings (take (w .bytes) out′)
 
@@ -91,7 +91,7 @@ Written1DReadsBack =
 abbrev pub Written1DBeforeZeros : Type 0
 Written1DBeforeZeros =
     (columns : ℕ) (changes ends out : List ℕ) (eols : Bool) (fill : ℕ) (w : Answer) (out′ : List ℕ) → columns ≤ 4294967295
-    → Answers (write1D mostMakeup eols fill columns changes ends out) out w out′ → w .number ≡ 0
+    → Answers (write1D eols fill columns changes ends out) out w out′ → w .number ≡ 0
     → (settings : DecodeSettings) → For1D columns eols (length ends) settings
     → (zeros : ℕ) → w .bytes + zeros ≤ mostBytes
     → GivesBack changes ends w settings (take (w .bytes) out′ ++ replicate zeros 0)
@@ -100,7 +100,7 @@ Written1DBeforeZeros =
 abbrev pub Written2DReadsBack : Type 0
 Written2DReadsBack =
     (columns : ℕ) (changes ends out : List ℕ) (k : ℕ) (w : Answer) (out′ : List ℕ) → columns ≤ 4294967295
-    → Answers (write2D mostMakeup k columns changes ends out) out w out′ → w .number ≡ 0
+    → Answers (write2D k columns changes ends out) out w out′ → w .number ≡ 0
     → (settings : DecodeSettings) → For2D columns (length ends) settings
     → GivesBack changes ends w settings (take (w .bytes) out′)
 
@@ -108,7 +108,7 @@ Written2DReadsBack =
 abbrev pub Written2DBeforeZeros : Type 0
 Written2DBeforeZeros =
     (columns : ℕ) (changes ends out : List ℕ) (k : ℕ) (w : Answer) (out′ : List ℕ) → columns ≤ 4294967295
-    → Answers (write2D mostMakeup k columns changes ends out) out w out′ → w .number ≡ 0
+    → Answers (write2D k columns changes ends out) out w out′ → w .number ≡ 0
     → (settings : DecodeSettings) → For2D columns (length ends) settings
     → (zeros : ℕ) → w .bytes + zeros ≤ mostBytes
     → GivesBack changes ends w settings (take (w .bytes) out′ ++ replicate zeros 0)
@@ -118,8 +118,8 @@ Written2DBeforeZeros =
 -- 1D lines, each behind an EOL and a one, and six times EOL and a one
 unfoldable pub tagged1D : ℕ → List (List ℕ) → List Bool
 tagged1D columns [] = times 6 (eolBits ++ true ∷ [])
-tagged1D columns (r ∷ rs) = (eolBits ++ true ∷ []) ++ (lineBits mostMakeup columns one r ++ tagged1D columns rs)
+tagged1D columns (r ∷ rs) = (eolBits ++ true ∷ []) ++ (lineBits columns one r ++ tagged1D columns rs)
 
 -- "after each 1D line at most K−1 2D lines": with K = 1 every line is 1D, and tagged
 abbrev pub KOneIsAll1D : Type 0
-KOneIsAll1D = (columns : ℕ) (rows : List (List ℕ)) → page3Bits mostMakeup columns (mixed 1) rows ≡ tagged1D columns rows
+KOneIsAll1D = (columns : ℕ) (rows : List (List ℕ)) → page3Bits columns (mixed 1) rows ≡ tagged1D columns rows

@@ -5,7 +5,7 @@ use heads::HeadsAnswer;
 ghost use Rattle.settings.specs.declared.EncodingMode.the-variants.{Group4, «Group3_1D», «Group3_2D»};
 ghost use Rattle.ccitt.specs.Decode.{Decodes};
 ghost use Rattle.one_line.specs.OneLine.{ReadOne};
-ghost use Rattle.rules.specs.Write.{mostMakeup, writeLine, writePage};
+ghost use Rattle.rules.specs.Write.{writeLine, writePage};
 ghost use Rattle.rules.specs.WriteGroup3.{write1D, write2D};
 ghost use Rattle.writer.specs.Outcome.{Answers};
 ghost use Rattle.heads.specs.Numbers.{headsFrom};
@@ -197,13 +197,13 @@ pub fn ccitt_write_line(
     out: &mut [u8],
     at: u64,
 ) -> Answer
-    ensures { λ r. ⌜ Answers (writeLine mostMakeup columns (now (reference .entry)) (now (row .entry)) (now (out .entry)) at) (now (out .entry)) r (now (out .exit)) ⌝ }
+    ensures { λ r. ⌜ Answers (writeLine columns (now (reference .entry)) (now (row .entry)) (now (out .entry)) at) (now (out .entry)) r (now (out .exit)) ⌝ }
 {
     exports::ccitt_write_line(columns, reference, row, out, at)
 }
 
 pub fn ccitt_write_page(columns: u32, changes: &[u32], ends: &[u64], out: &mut [u8]) -> Answer
-    ensures { λ r. ⌜ Answers (writePage mostMakeup columns (now (changes .entry)) (now (ends .entry)) (now (out .entry))) (now (out .entry)) r (now (out .exit)) ⌝ }
+    ensures { λ r. ⌜ Answers (writePage columns (now (changes .entry)) (now (ends .entry)) (now (out .entry))) (now (out .entry)) r (now (out .exit)) ⌝ }
 {
     exports::ccitt_write_page(columns, changes, ends, out)
 }
@@ -216,7 +216,7 @@ pub fn ccitt_write_group3_1d(
     fill: u32,
     out: &mut [u8],
 ) -> Answer
-    ensures { λ r. ⌜ Answers (write1D mostMakeup eols fill columns (now (changes .entry)) (now (ends .entry)) (now (out .entry))) (now (out .entry)) r (now (out .exit)) ⌝ }
+    ensures { λ r. ⌜ Answers (write1D eols fill columns (now (changes .entry)) (now (ends .entry)) (now (out .entry))) (now (out .entry)) r (now (out .exit)) ⌝ }
 {
     exports::ccitt_write_group3_1d(columns, changes, ends, eols, fill, out)
 }
@@ -228,7 +228,7 @@ pub fn ccitt_write_group3_2d(
     k: u32,
     out: &mut [u8],
 ) -> Answer
-    ensures { λ r. ⌜ Answers (write2D mostMakeup k columns (now (changes .entry)) (now (ends .entry)) (now (out .entry))) (now (out .entry)) r (now (out .exit)) ⌝ }
+    ensures { λ r. ⌜ Answers (write2D k columns (now (changes .entry)) (now (ends .entry)) (now (out .entry))) (now (out .entry)) r (now (out .exit)) ⌝ }
 {
     exports::ccitt_write_group3_2d(columns, changes, ends, k, out)
 }

@@ -1,17 +1,17 @@
 // Calls of the public functions of writer, each with the contract that its promises are about.
 use answer::Answer;
-ghost use Rattle.rules.specs.Write.{mostMakeup, writeLine, writePage};
+ghost use Rattle.rules.specs.Write.{writeLine, writePage};
 ghost use Rattle.rules.specs.WriteGroup3.{write1D, write2D};
 ghost use Rattle.writer.specs.Outcome.{Answers};
 
 pub fn write_line(columns: u32, reference: &[u32], row: &[u32], out: &mut [u8], at: u64) -> Answer
-    ensures { λ r. ⌜ Answers (writeLine mostMakeup columns (now (reference .entry)) (now (row .entry)) (now (out .entry)) at) (now (out .entry)) r (now (out .exit)) ⌝ }
+    ensures { λ r. ⌜ Answers (writeLine columns (now (reference .entry)) (now (row .entry)) (now (out .entry)) at) (now (out .entry)) r (now (out .exit)) ⌝ }
 {
     writer::write_line(columns, reference, row, out, at)
 }
 
 pub fn write_page(columns: u32, changes: &[u32], ends: &[u64], out: &mut [u8]) -> Answer
-    ensures { λ r. ⌜ Answers (writePage mostMakeup columns (now (changes .entry)) (now (ends .entry)) (now (out .entry))) (now (out .entry)) r (now (out .exit)) ⌝ }
+    ensures { λ r. ⌜ Answers (writePage columns (now (changes .entry)) (now (ends .entry)) (now (out .entry))) (now (out .entry)) r (now (out .exit)) ⌝ }
 {
     writer::write_page(columns, changes, ends, out)
 }
@@ -24,7 +24,7 @@ pub fn write_group3_1d(
     fill: u32,
     out: &mut [u8],
 ) -> Answer
-    ensures { λ r. ⌜ Answers (write1D mostMakeup eols fill columns (now (changes .entry)) (now (ends .entry)) (now (out .entry))) (now (out .entry)) r (now (out .exit)) ⌝ }
+    ensures { λ r. ⌜ Answers (write1D eols fill columns (now (changes .entry)) (now (ends .entry)) (now (out .entry))) (now (out .entry)) r (now (out .exit)) ⌝ }
 {
     writer::write_group3_1d(columns, changes, ends, eols, fill, out)
 }
@@ -36,7 +36,7 @@ pub fn write_group3_2d(
     k: u32,
     out: &mut [u8],
 ) -> Answer
-    ensures { λ r. ⌜ Answers (write2D mostMakeup k columns (now (changes .entry)) (now (ends .entry)) (now (out .entry))) (now (out .entry)) r (now (out .exit)) ⌝ }
+    ensures { λ r. ⌜ Answers (write2D k columns (now (changes .entry)) (now (ends .entry)) (now (out .entry))) (now (out .entry)) r (now (out .exit)) ⌝ }
 {
     writer::write_group3_2d(columns, changes, ends, k, out)
 }

@@ -52,20 +52,20 @@ may-come width (l ∷ ls) q =
     by (other bits) h = (no-changes, both-true (found (zeroRun bits)) (noEol 0 bits) h)
 
 -- the page
-pub front : (most width fill : ℕ) (above : List ℕ) (ls : List Arrived) (rest : List Bool)
-    → framed (filled fill) (arrivedLines most width ls) ++ rest ≡ replicate fill false ++ (eolBits ++ Behind most width untagged fill above (come ls) rest)
+pub front : (width fill : ℕ) (above : List ℕ) (ls : List Arrived) (rest : List Bool)
+    → framed (filled fill) (arrivedLines width ls) ++ rest ≡ replicate fill false ++ (eolBits ++ Behind width untagged fill above (come ls) rest)
 unfolding Behind come framed arrivedLines times
-front most width fill above [] rest =
+front width fill above [] rest =
     append-assoc (replicate fill false) (eolBits ++ times 5 eolBits) rest ∙ ap (λ (l : List Bool). replicate fill false ++ l) (append-assoc eolBits (times 5 eolBits) rest)
-front most width fill above (l ∷ ls) rest =
-    ap (λ (x : List Bool). x ++ rest) (append-assoc (replicate fill false) eolBits (arrivedBits most width l ++ page)) ∙ by l (λ x. front most width fill x ls rest)
+front width fill above (l ∷ ls) rest =
+    ap (λ (x : List Bool). x ++ rest) (append-assoc (replicate fill false) eolBits (arrivedBits width l ++ page)) ∙ by l (λ x. front width fill x ls rest)
   where
     page : List Bool
-    page = framed (filled fill) (arrivedLines most width ls)
+    page = framed (filled fill) (arrivedLines width ls)
 
-    by : (l : Arrived) → ((x : List ℕ) → page ++ rest ≡ replicate fill false ++ (eolBits ++ Behind most width untagged fill x (come ls) rest))
-        → (replicate fill false ++ (eolBits ++ (arrivedBits most width l ++ page))) ++ rest ≡ replicate fill false ++ (eolBits ++ Behind most width untagged fill above (comes l ∷ come ls) rest)
-    by (own row) ahead = front-on fill (arrivedBits most width (own row)) page rest _ (ahead row)
+    by : (l : Arrived) → ((x : List ℕ) → page ++ rest ≡ replicate fill false ++ (eolBits ++ Behind width untagged fill x (come ls) rest))
+        → (replicate fill false ++ (eolBits ++ (arrivedBits width l ++ page))) ++ rest ≡ replicate fill false ++ (eolBits ++ Behind width untagged fill above (comes l ∷ come ls) rest)
+    by (own row) ahead = front-on fill (arrivedBits width (own row)) page rest _ (ahead row)
     by (other bits) ahead = front-on fill bits page rest _ (ahead [])
 
 -- what it costs
@@ -83,19 +83,19 @@ spared-length no-lines = refl
 spared-length (unchanged s) = ap suc (spared-length s)
 spared-length (any-row s) = ap suc (spared-length s)
 
-module _ (most : ℕ) (some-most : 1 ≤ most) (most-fits : most ≤ 40) (S : Settings) (fill : ℕ) (three : 3 ≤ fill)
+module _ (S : Settings) (fill : ℕ) (three : 3 ≤ fill)
     (ls : List Arrived) (some-lines : 0 < length ls) (goods : mayAll (S .columns) ls ≡ true) (mending : Mending S (length ls))
     (rest : List Bool) (closed : S .rows ≡ 0 → zeroRun rest ≡ none) where
   abbrev page : List Bool
-  page = arrivedPage most (S .columns) fill ls ++ rest
+  page = arrivedPage (S .columns) fill ls ++ rest
 
   -- done, and no row is lost but those of bad lines
   abbrev pub Done : Answer → Type 0
   Done a = (a .number ≡ 0) × Spared ls (a .rows) (a .marks)
 
-  there : page ≡ replicate fill false ++ (eolBits ++ Behind most (S .columns) untagged fill [] (come ls) rest)
+  there : page ≡ replicate fill false ++ (eolBits ++ Behind (S .columns) untagged fill [] (come ls) rest)
   unfolding arrivedPage
-  there = front most (S .columns) fill [] ls rest
+  there = front (S .columns) fill [] ls rest
 
   some-come : 0 < length (come ls)
   some-come = omega (arith, as-many-come ls)
@@ -109,12 +109,12 @@ module _ (most : ℕ) (some-most : 1 ≤ most) (most-fits : most ≤ 40) (S : Se
   -- Any lines of a page may be bad: with room for its lines it gives a row for each, and each row whose line is its own, clean.
   pub bad-lines : (store places : ℕ) → length ls * S .columns ≤ store → length ls ≤ places → Done (readPage S page store places)
   bad-lines store places roomy placed =
-      let d = mended-page most some-most most-fits untagged S fill three (come ls) some-come mays mends rest closed page there store places
+      let d = mended-page untagged S fill three (come ls) some-come mays mends rest closed page there store places
       (subst (λ (n : ℕ). n * S .columns ≤ store) (sym (as-many-come ls)) roomy) (omega (arith, as-many-come ls)) in
       (d .0, spared ls (d .1))
 
   -- and so with any room that was enough, where the answer is neither 4 nor 5
   pub bad-lines-room : (store places : ℕ) → readPage S page store places .number ≤ 3 → Done (readPage S page store places)
   bad-lines-room store places h =
-      let d = mended-page-room most some-most most-fits untagged S fill three (come ls) some-come mays mends rest closed page there store places h in
+      let d = mended-page-room untagged S fill three (come ls) some-come mays mends rest closed page there store places h in
       (d .0, spared ls (d .1))

@@ -35,18 +35,18 @@ may-come width (l ∷ ls) q =
         let p = both-true (ascends width row) (stray2D tag bits) h in
         (ascends-rises width 0 row (p .0), both-true (found (zeroRun bits)) (noEol 0 (tag ∷ bits)) (p .1))
 
-front : (most width fill : ℕ) (above : List ℕ) (ls : List Arrived2D) (rest : List Bool)
-    → arrivedPage2D most width fill above ls ++ rest ≡ replicate fill false ++ (eolBits ++ Behind most width tagged fill above ls rest)
+front : (width fill : ℕ) (above : List ℕ) (ls : List Arrived2D) (rest : List Bool)
+    → arrivedPage2D width fill above ls ++ rest ≡ replicate fill false ++ (eolBits ++ Behind width tagged fill above ls rest)
 unfolding Behind arrivedPage2D times
-front most width fill above [] rest = simp append-assoc
-front most width fill above (l ∷ ls) rest =
-    front-on fill (arrivedTag l ∷ arrivedBits2D most width above l) (arrivedPage2D most width fill (sentRow l) ls) rest _ (front most width fill (sentRow l) ls rest)
+front width fill above [] rest = simp append-assoc
+front width fill above (l ∷ ls) rest =
+    front-on fill (arrivedTag l ∷ arrivedBits2D width above l) (arrivedPage2D width fill (sentRow l) ls) rest _ (front width fill (sentRow l) ls rest)
 
 -- In bytes. Read leniently is without strict, and without exact, which implies it (A12).
-module _ (most : ℕ) (some-most : 1 ≤ most) (most-fits : most ≤ 40) (S : Settings) (inexact : S .exact ≡ false) (fill : ℕ) (three : 3 ≤ fill)
+module _ (S : Settings) (inexact : S .exact ≡ false) (fill : ℕ) (three : 3 ≤ fill)
     (ls : List Arrived2D) (some-lines : 0 < length ls) (goods : mayAll2D (S .columns) ls ≡ true) (mending : Mends tagged S (length ls)) (narrow : S .columns < 4294967295)
     (bytes : List ℕ) (small : length bytes ≤ mostBytes) (rest : List Bool) (closed : S .rows ≡ 0 → zeroRun rest ≡ none)
-    (there : bitsOf bytes ≡ arrivedPage2D most (S .columns) fill [] ls ++ rest) (store places : ℕ) where
+    (there : bitsOf bytes ≡ arrivedPage2D (S .columns) fill [] ls ++ rest) (store places : ℕ) where
   pub bad-lines-2d : RoomFor (length ls) (S .columns) store places (decode S bytes store places .number)
       → (decode S bytes store places .number ≡ 0) × SparedTo1D false ls (decode S bytes store places .rows) (decode S bytes store places .marks)
   bad-lines-2d = subst (λ (a : Answer). RoomFor (length ls) (S .columns) store places (a .number) → (a .number ≡ 0) × SparedTo1D false ls (a .rows) (a .marks)) (sym is) by
@@ -54,13 +54,13 @@ module _ (most : ℕ) (some-most : 1 ≤ most) (most-fits : most ≤ 40) (S : Se
       is : decode S bytes store places ≡ readPage S (bitsOf bytes) store places
       is = exact-off S inexact bytes (record { wide = mending .wide; narrow = λ e. omega arith; small = small }) store places
 
-      page : bitsOf bytes ≡ replicate fill false ++ (eolBits ++ Behind most (S .columns) tagged fill [] ls rest)
-      page = there ∙ front most (S .columns) fill [] ls rest
+      page : bitsOf bytes ≡ replicate fill false ++ (eolBits ++ Behind (S .columns) tagged fill [] ls rest)
+      page = there ∙ front (S .columns) fill [] ls rest
 
       mays : MayAll tagged (S .columns) ls
       mays = may-come (S .columns) ls goods
 
       by : RoomFor (length ls) (S .columns) store places (readPage S (bitsOf bytes) store places .number)
-          → Done most some-most most-fits tagged S fill three ls some-lines mays mending rest closed (bitsOf bytes) page (readPage S (bitsOf bytes) store places)
-      by (inl h) = mended-page-room most some-most most-fits tagged S fill three ls some-lines mays mending rest closed (bitsOf bytes) page store places h
-      by (inr (roomy, placed)) = mended-page most some-most most-fits tagged S fill three ls some-lines mays mending rest closed (bitsOf bytes) page store places roomy placed
+          → Done tagged S fill three ls some-lines mays mending rest closed (bitsOf bytes) page (readPage S (bitsOf bytes) store places)
+      by (inl h) = mended-page-room tagged S fill three ls some-lines mays mending rest closed (bitsOf bytes) page store places h
+      by (inr (roomy, placed)) = mended-page tagged S fill three ls some-lines mays mending rest closed (bitsOf bytes) page store places roomy placed

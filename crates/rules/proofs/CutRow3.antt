@@ -40,15 +40,15 @@ use Rattle.rules.proofs.LostRow.{Unread, Lost, unread-row, lost-row, To
 -- ---- The bits of some rows
 
 -- one row more
-up-to-snoc : (most width fill : ℕ) (first : List (List ℕ)) (r : List ℕ)
-    → upTo most width fill (owns (first ++ r ∷ [])) ≡ upTo most width fill (owns first) ++ (lineBits most width one r ++ (replicate fill false ++ eolBits))
+up-to-snoc : (width fill : ℕ) (first : List (List ℕ)) (r : List ℕ)
+    → upTo width fill (owns (first ++ r ∷ [])) ≡ upTo width fill (owns first) ++ (lineBits width one r ++ (replicate fill false ++ eolBits))
 unfolding upTo owns
-up-to-snoc most width fill [] r = refl
-up-to-snoc most width fill (x ∷ first) r =
+up-to-snoc width fill [] r = refl
+up-to-snoc width fill (x ∷ first) r =
     let G = replicate fill false ++ eolBits in
-    let X = lineBits most width one x in
-    ap (λ (l : List Bool). G ++ (X ++ l)) (up-to-snoc most width fill first r)
-    ∙ sym (append-assoc G (X ++ upTo most width fill (owns first)) _ ∙ ap (λ (l : List Bool). G ++ l) (append-assoc X (upTo most width fill (owns first)) _))
+    let X = lineBits width one x in
+    ap (λ (l : List Bool). G ++ (X ++ l)) (up-to-snoc width fill first r)
+    ∙ sym (append-assoc G (X ++ upTo width fill (owns first)) _ ∙ ap (λ (l : List Bool). G ++ l) (append-assoc X (upTo width fill (owns first)) _))
 
 -- and clean
 pub clean-snoc : (rows : List (List ℕ)) (r : List ℕ) → allClean rows ++ 0 ∷ [] ≡ allClean (rows ++ r ∷ [])
@@ -63,7 +63,7 @@ grouped′ a b c d = simp append-assoc
 
 -- ---- The rows before the cut
 
-module _ (most : ℕ) (some-most : 1 ≤ most) (most-fits : most ≤ 40) (S : Settings) (wide : 0 < S .columns) (narrow : S .columns ≤ 4294967295) (fill : ℕ)
+module _ (S : Settings) (wide : 0 < S .columns) (narrow : S .columns ≤ 4294967295) (fill : ℕ)
     (rows : List (List ℕ)) (some-rows : 0 < length rows) (counted : (S .rows ≡ 0) ⊎ (S .rows ≡ length rows))
     (all bs cut : List Bool) (first-bits : bs ++ cut ≡ all) (rest : List Bool) (closed : zeroRun rest ≡ none) where
   abbrev pub W : ℕ
@@ -71,13 +71,13 @@ module _ (most : ℕ) (some-most : 1 ≤ most) (most-fits : most ≤ 40) (S : Se
 
   -- what stands behind the next EOL
   abbrev pub later : List ℕ → List (List ℕ) → List Bool
-  later above last = Behind most W untagged fill above (come (owns last)) rest
+  later above last = Behind W untagged fill above (come (owns last)) rest
 
   abbrev pub Between : List (List ℕ) → Type 0
-  Between first = BetweenLines most W fill first bs
+  Between first = BetweenLines W fill first bs
 
   abbrev pub Before-end : List (List ℕ) → List (List ℕ) → Type 0
-  Before-end first last = CutBefore most W fill first last bs
+  Before-end first last = CutBefore W fill first last bs
 
   -- some rows are read, and some are to come; the reader stands behind the last line
   pub record At (st : State) (above : List ℕ) (first last : List (List ℕ)) : Type 0 where
@@ -85,7 +85,7 @@ module _ (most : ℕ) (some-most : 1 ≤ most) (most-fits : most ≤ 40) (S : Se
     pub split : all ≡ done-bits ++ (replicate fill false ++ (eolBits ++ later above last))
     pub at-is : st .at ≡ length done-bits
     pub reached : st .at ≤ length bs
-    pub upto : done-bits ++ (replicate fill false ++ eolBits) ≡ upTo most W fill (owns first)
+    pub upto : done-bits ++ (replicate fill false ++ eolBits) ≡ upTo W fill (owns first)
     pub parts : rows ≡ first ++ last
     pub count-is : st .count ≡ length first
     pub expected : 0 < st .count → st .eols ≡ true
@@ -108,7 +108,7 @@ module _ (most : ℕ) (some-most : 1 ≤ most) (most-fits : most ≤ 40) (S : Se
     there-e : drop e all ≡ later above last
     there-e = fill-after all fill pos (later above last) there
 
-    size : length (upTo most W fill (owns first)) ≡ e
+    size : length (upTo W fill (owns first)) ≡ e
     size = sym (ap length (h .upto)) ∙ omega (arith, h .at-is, length-append (h .done-bits) (replicate fill false ++ eolBits), length-append (replicate fill false) eolBits, length-replicate fill false, eol-long)
 
     -- data that ends where some first bits do is these bits
@@ -236,7 +236,7 @@ module _ (most : ℕ) (some-most : 1 ≤ most) (most-fits : most ≤ 40) (S : Se
 
       module _ (r : List ℕ) (rs : List (List ℕ)) (q : last ≡ r ∷ rs) where
         abbrev L : List Bool
-        L = lineBits most W one r
+        L = lineBits W one r
 
         later-is : later above last ≡ L ++ (replicate fill false ++ (eolBits ++ later r rs))
         unfolding Behind come owns
@@ -259,7 +259,7 @@ module _ (most : ℕ) (some-most : 1 ≤ most) (most-fits : most ≤ 40) (S : Se
 
         -- with room for it, from all bits, the line is read
         reads : (room : ℕ) → (colour : Colour) × (readLine (rulesOf S (room + length r)) one all e ≡ went (line (e + length L) W colour r false))
-        reads room = read-line most some-most most-fits (rulesOf S (room + length r)) wide narrow one tt r up (omega arith) all _ e line-here
+        reads room = read-line (rulesOf S (room + length r)) wide narrow one tt r up (omega arith) all _ e line-here
 
         -- cut: it is not read, and no EOL is left
         module _ (k : length bs < e + length L) where
@@ -275,7 +275,7 @@ module _ (most : ℕ) (some-most : 1 ≤ most) (most-fits : most ≤ 40) (S : Se
               omega (arith, w .inside, ap (λ (x : Line). x .at) y)
 
           bare-cut : Bare bs e
-          bare-cut = bare-bits bs e (ap (noEol 0) part ∙ no-eol-first 0 (take m L) (drop m L) (ap (noEol 0) (take-append-drop m L) ∙ written-no-eol most some-most most-fits W wide narrow one tt r up 0 (omega arith)))
+          bare-cut = bare-bits bs e (ap (noEol 0) part ∙ no-eol-first 0 (take m L) (drop m L) (ap (noEol 0) (take-append-drop m L) ∙ written-no-eol W wide narrow one tt r up 0 (omega arith)))
             where
               m : ℕ
               m = length (drop e bs)
@@ -305,7 +305,7 @@ module _ (most : ℕ) (some-most : 1 ≤ most) (most-fits : most ≤ 40) (S : Se
                 grouped (h .done-bits) (replicate fill false) eolBits L (replicate fill false ++ eolBits)
                 ∙ sym (grouped′ (h .done-bits) (replicate fill false) eolBits (L ++ (replicate fill false ++ eolBits)))
                 ∙ ap (λ (l : List Bool). l ++ (L ++ (replicate fill false ++ eolBits))) (h .upto)
-                ∙ sym (up-to-snoc most W fill first r);
+                ∙ sym (up-to-snoc W fill first r);
             parts = h .parts ∙ ap (λ (l : List (List ℕ)). first ++ l) q ∙ sym (append-assoc first (r ∷ []) rs);
             count-is = omega (arith, h .count-is, length-append first (r ∷ []));
             expected = λ _. refl;
@@ -336,7 +336,7 @@ module _ (most : ℕ) (some-most : 1 ≤ most) (most-fits : most ≤ 40) (S : Se
         at-line = tests (eqb (st .count) 0) refl
           where
             begins : Soon 7 (L ++ (replicate fill false ++ (eolBits ++ later r rs)))
-            begins = line-begins most some-most most-fits W wide one r (replicate fill false ++ (eolBits ++ later r rs))
+            begins = line-begins W wide one r (replicate fill false ++ (eolBits ++ later r rs))
 
             quiet : Quiet bs e
             quiet =
@@ -352,14 +352,14 @@ module _ (most : ℕ) (some-most : 1 ≤ most) (most-fits : most ≤ 40) (S : Se
             -- the data ends behind the EOL
             ended : 0 < st .count → length bs ≤ e → C (rowFrom S untagged bs room st (end-at e))
             ended some-read k =
-                let y : bs ≡ upTo most W fill (owns first) =
+                let y : bs ≡ upTo W fill (owns first) =
                 ends-there (h .done-bits ++ (replicate fill false ++ eolBits)) (later above last) (h .split ∙ sym (grouped′ (h .done-bits) (replicate fill false) eolBits (later above last))) (omega (arith, ap length (h .upto), size))
                 ∙ h .upto in
                 stops 0 0 _ [] (λ _. inr (omega (arith, h .count-is), inr y)) (λ _ _. subst (Before-end first) (sym q) (omega (arith, size, some-bits)))
               where
                 some-bits : 0 < length L
                 some-bits =
-                    let z = line-begins most some-most most-fits W wide one r [] in
+                    let z = line-begins W wide one r [] in
                     omega (arith, zeros-inside (L ++ []) (z .0) (z .1), length-append L [])
 
             later-tests : 0 < st .count → (d : Bool) → eqb (st .count) (S .rows) ≡ d → (b : Bool) → leb (length bs) e ≡ b

@@ -51,14 +51,14 @@ made-begins {colour} (last {c = c} f h) rest = rw (append-assoc (codeBits c) [] 
 made-begins {colour} (next {c = c} {cs = cs} f h m) rest = rw (append-assoc (codeBits c) (codesBits cs) rest) (code-begins colour c f (codesBits cs ++ rest))
 
 -- a line of either kind begins with seven zeros at most
-pub line-begins : (most : ℕ) → 1 ≤ most → most ≤ 40 → (width : ℕ) → 0 < width → (kind : Kind) (r : List ℕ) (rest : List Bool)
-    → Soon 7 (lineBits most width kind r ++ rest)
+pub line-begins : (width : ℕ) → 0 < width → (kind : Kind) (r : List ℕ) (rest : List Bool)
+    → Soon 7 (lineBits width kind r ++ rest)
 unfolding lineBits bits1D runBits
-line-begins most some-most most-fits width wide one [] rest = made-begins (made-run most some-most most-fits white (width - 0)) rest
-line-begins most some-most most-fits width wide one (x ∷ xs) rest =
-    rw (append-assoc (runBits most white (x - 0)) _ rest) (made-begins (made-run most some-most most-fits white (x - 0)) _)
-line-begins most some-most most-fits width wide (two reference) r rest =
-    let z = line-zeros most width reference r wide rest in
+line-begins width wide one [] rest = made-begins (made-run white (width - 0)) rest
+line-begins width wide one (x ∷ xs) rest =
+    rw (append-assoc (runBits white (x - 0)) _ rest) (made-begins (made-run white (x - 0)) _)
+line-begins width wide (two reference) r rest =
+    let z = line-zeros width reference r wide rest in
     (z .0, z .1, omega (arith, z .2))
 
 -- ---- Before a row, by the EOLs that stand there
@@ -277,7 +277,7 @@ module _ (S : Settings) (n : ℕ) where
 
 -- ---- The rows of a page
 
-module _ (most : ℕ) (some-most : 1 ≤ most) (most-fits : most ≤ 40) (S : Settings) (n : ℕ) (layout : Layout) (told : Told S n layout) (bs : List Bool) where
+module _ (S : Settings) (n : ℕ) (layout : Layout) (told : Told S n layout) (bs : List Bool) where
   abbrev rowAt : ℕ → State → RowOut
   rowAt = row3 S (taggingFor layout) bs
 
@@ -286,7 +286,7 @@ module _ (most : ℕ) (some-most : 1 ≤ most) (most-fits : most ≤ 40) (S : Se
   front left above = ahead layout (kindNext left above)
 
   abbrev line : ℕ → List ℕ → List ℕ → List Bool
-  line left above r = lineBits most (S .columns) (kindNext left above) r
+  line left above r = lineBits (S .columns) (kindNext left above) r
 
   -- the state after a row of so many bits
   abbrev after : ℕ → State → List ℕ → State
@@ -312,7 +312,7 @@ module _ (most : ℕ) (some-most : 1 ≤ most) (most-fits : most ≤ 40) (S : Se
       → rowAt room st ≡ row r 0 (after (length (front left (st .reference)) + length (line left (st .reference) r)) st r)
   unfolding row3
   read-row3 room left later st r rest h up roomy e =
-      ap (rowFrom S t bs room st) (lands S n bs layout (told .says) st kind (L ++ rest) (omega (arith, h .counted)) (h .expects) e (line-begins most some-most most-fits (S .columns) (told .wide) kind r rest))
+      ap (rowFrom S t bs room st) (lands S n bs layout (told .says) st kind (L ++ rest) (omega (arith, h .counted)) (h .expects) e (line-begins (S .columns) (told .wide) kind r rest))
       ∙ ap (afterLine3 S t bs (rulesOf S room) st (st .at + lead layout) (hasEols layout)) (line-behind bs S layout (rulesOf S room) left (st .reference) (h .few-left) (st .at) (L ++ rest) e ∙ reads .1)
       ∙ ap (λ (a : ℕ). row r 0 (record { at = a; reference = r; count = suc (st .count); eols = hasEols layout })) (let q : st .at + length F + length L ≡ st .at + (length F + length L) = omega arith in q)
     where
@@ -333,7 +333,7 @@ module _ (most : ℕ) (some-most : 1 ≤ most) (most-fits : most ≤ 40) (S : Se
       proper (suc left) = h .rises
 
       reads : Reads (rulesOf S room) kind bs (st .at + length F) (length L) r
-      reads = read-line most some-most most-fits (rulesOf S room) (told .wide) (told .narrow) kind (proper left) r up roomy bs rest (st .at + length F) (drop-after bs F (L ++ rest) (st .at) e)
+      reads = read-line (rulesOf S room) (told .wide) (told .narrow) kind (proper left) r up roomy bs rest (st .at + length F) (drop-after bs F (L ++ rest) (st .at) e)
 
   -- the end of the page
   read-end3 : (room left : ℕ) (st : State) (rest : List Bool) → 0 < n → Standing left st 0 → drop (st .at) bs ≡ ending layout ++ rest → zeroRun rest ≡ none
@@ -345,7 +345,7 @@ module _ (most : ℕ) (some-most : 1 ≤ most) (most-fits : most ≤ 40) (S : Se
       ∙ ap (rowFrom S (taggingFor layout) bs room st) (stops-here S n bs layout (told .says) st rest (omega (arith, h .counted)) (h .expects some-read) e q)
 
   abbrev lines : ℕ → List ℕ → List (List ℕ) → List Bool
-  lines left reference rs = framed layout (codedLines most (S .columns) (kOf layout) left reference rs)
+  lines left reference rs = framed layout (codedLines (S .columns) (kOf layout) left reference rs)
 
   -- all its rows, and its end
   read-rows3 : (rs : List (List ℕ)) (room left : ℕ) (st : State) (rest : List Bool) → 0 < n → Standing left st (length rs) → Rows (S .columns) rs → entries rs ≤ room → zeroRun rest ≡ none
@@ -393,41 +393,41 @@ rows-are S t e bs = ap (λ (c : Encoding). rowOf c S bs) e ∙ by t
     by tagged = refl
 
 -- a page has no more rows than bits
-lines-long : (most : ℕ) → 1 ≤ most → most ≤ 40 → (width : ℕ) → 0 < width → (layout : Layout) (left : ℕ) (reference : List ℕ) (rows : List (List ℕ))
-    → length rows ≤ length (framed layout (codedLines most width (kOf layout) left reference rows))
+lines-long : (width : ℕ) → 0 < width → (layout : Layout) (left : ℕ) (reference : List ℕ) (rows : List (List ℕ))
+    → length rows ≤ length (framed layout (codedLines width (kOf layout) left reference rows))
 unfolding codedLines framed
-lines-long most some-most most-fits width wide layout left reference [] = omega arith
-lines-long most some-most most-fits width wide layout left reference (r ∷ rs) =
+lines-long width wide layout left reference [] = omega arith
+lines-long width wide layout left reference (r ∷ rs) =
     let kind = kindNext left reference in
-    let line = lineBits most width kind r in
-    let later = framed layout (codedLines most width (kOf layout) (leftNext (kOf layout) left) r rs) in
-    let z = line-begins most some-most most-fits width wide kind r [] in
+    let line = lineBits width kind r in
+    let later = framed layout (codedLines width (kOf layout) (leftNext (kOf layout) left) r rs) in
+    let z = line-begins width wide kind r [] in
     omega (
       arith,
       length-append (ahead layout kind) (line ++ later),
       length-append line later,
       zeros-inside (line ++ []) (z .0) (z .1),
       length-append line [],
-      lines-long most some-most most-fits width wide layout (leftNext (kOf layout) left) r rs,
+      lines-long width wide layout (leftNext (kOf layout) left) r rs,
     )
 
 -- A Group 3 page of some rows, of any layout, is read back, strict, lenient or exact: its rows, all clean, and its length, with room for them, where no one follows it.
-pub read-page3 : (most : ℕ) → 1 ≤ most → most ≤ 40 → (S : Settings) (layout : Layout) (rows : List (List ℕ)) → Told S (length rows) layout → 0 < length rows → Rows (S .columns) rows
+pub read-page3 : (S : Settings) (layout : Layout) (rows : List (List ℕ)) → Told S (length rows) layout → 0 < length rows → Rows (S .columns) rows
     → (store places : ℕ) → entries rows ≤ store → length rows ≤ places → (rest : List Bool) → zeroRun rest ≡ none
-    → readPage S (page3Bits most (S .columns) layout rows ++ rest) store places ≡ whole (length (page3Bits most (S .columns) layout rows)) rows (allClean rows)
+    → readPage S (page3Bits (S .columns) layout rows ++ rest) store places ≡ whole (length (page3Bits (S .columns) layout rows)) rows (allClean rows)
 unfolding page3Bits
-read-page3 most some-most most-fits S layout rows told some-rows rises store places roomy placed rest q =
+read-page3 S layout rows told some-rows rises store places roomy placed rest q =
     given-page S bs store places
     (subst (λ (f : ℕ → State → RowOut). Given f store pageStart rows (allClean rows) (0 + length page)) (sym (rows-are S (taggingFor layout) (told .encoded) bs))
-    (read-rows3 most some-most most-fits S (length rows) layout told bs rows store 0 pageStart rest some-rows stands rises roomy q refl))
-    placed (omega (arith, length-append page rest, lines-long most some-most most-fits (S .columns) (told .wide) layout 0 [] rows))
+    (read-rows3 S (length rows) layout told bs rows store 0 pageStart rest some-rows stands rises roomy q refl))
+    placed (omega (arith, length-append page rest, lines-long (S .columns) (told .wide) layout 0 [] rows))
     ∙ ap (λ (a : ℕ). whole a rows (allClean rows)) (zero-add (length page))
   where
     page : List Bool
-    page = page3Bits most (S .columns) layout rows
+    page = page3Bits (S .columns) layout rows
 
     bs : List Bool
     bs = page ++ rest
 
-    stands : Standing most some-most most-fits S (length rows) layout told bs 0 pageStart (length rows)
+    stands : Standing S (length rows) layout told bs 0 pageStart (length rows)
     stands = record { few-left = omega arith; counted = omega arith; expects = λ h. absurd (omega arith); rises = no-changes }

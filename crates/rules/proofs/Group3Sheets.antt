@@ -15,7 +15,7 @@ use Rattle.rules.specs.Eols.{zeroRun, readEols, skip}
 use Rattle.rules.specs.Rows.{Settings, group3-1D, group3-2D}
 use Rattle.rules.specs.Group3.{betweenTags, row3}
 use Rattle.rules.specs.Pages.{entries, pageStep, rowOf, readPage, ascendsFrom}
-use Rattle.rules.specs.Write.{mostMakeup, runCodes, codesBits, runBits, bits1D, bits2D, lineBits, eolBits, toByte, writtenAt, rowsIn, endsRise, allAscend, writes}
+use Rattle.rules.specs.Write.{runCodes, codesBits, runBits, bits1D, bits2D, lineBits, eolBits, toByte, writtenAt, rowsIn, endsRise, allAscend, writes}
 use Rattle.rules.specs.WriteGroup3.{bare, filled, mixed, codedLines, times, framed, page3Bits, writeGroup3, write1D, write2D}
 use Rattle.rules.specs.Damage.{own, other, arrivedLines, arrivedPage}
 use Rattle.rules.specs.Damage2D.{own2D, other2D, arrivedPage2D}
@@ -24,27 +24,27 @@ use Rattle.rules.specs.Damage2D.{own2D, other2D, arrivedPage2D}
 -- the same row twice without EOLs; three times with K = 2, which is 1D, 2D (three times V0), 1D, with EOL and a tag before each and six times EOL and a
 -- one behind; and with K = 1, where every line is 1D and tagged.
 pages :
-    (page3Bits mostMakeup 4 (filled 2) ((1 ∷ 3 ∷ []) ∷ []) ≡ bitsFor 14 1 ++ (bitsFor 14 0b00011111000111 ++ (bitsFor 14 1 ++ times 5 (bitsFor 12 1))))
-    × (page3Bits mostMakeup 4 bare ((1 ∷ 3 ∷ []) ∷ (1 ∷ 3 ∷ []) ∷ []) ≡ bitsFor 28 0b0001111100011100011111000111)
-    × (page3Bits mostMakeup 4 (mixed 2) ((1 ∷ 3 ∷ []) ∷ (1 ∷ 3 ∷ []) ∷ (1 ∷ 3 ∷ []) ∷ [])
+    (page3Bits 4 (filled 2) ((1 ∷ 3 ∷ []) ∷ []) ≡ bitsFor 14 1 ++ (bitsFor 14 0b00011111000111 ++ (bitsFor 14 1 ++ times 5 (bitsFor 12 1))))
+    × (page3Bits 4 bare ((1 ∷ 3 ∷ []) ∷ (1 ∷ 3 ∷ []) ∷ []) ≡ bitsFor 28 0b0001111100011100011111000111)
+    × (page3Bits 4 (mixed 2) ((1 ∷ 3 ∷ []) ∷ (1 ∷ 3 ∷ []) ∷ (1 ∷ 3 ∷ []) ∷ [])
     ≡ bitsFor 27 0b000000000001100011111000111 ++ (bitsFor 16 0b0000000000010111 ++ (bitsFor 27 0b000000000001100011111000111 ++ times 6 (bitsFor 13 3))))
-    × (page3Bits mostMakeup 4 (mixed 1) ((1 ∷ 3 ∷ []) ∷ (1 ∷ 3 ∷ []) ∷ [])
+    × (page3Bits 4 (mixed 1) ((1 ∷ 3 ∷ []) ∷ (1 ∷ 3 ∷ []) ∷ [])
     ≡ bitsFor 27 0b000000000001100011111000111 ++ (bitsFor 27 0b000000000001100011111000111 ++ times 6 (bitsFor 13 3)))
 unfolding page3Bits framed codedLines times lineBits bits1D bits2D runBits runCodes codesBits codeBits modeBits whiteTerminating blackTerminating terminatingOf makeupOf bit bitsFor eolBits rightOfA0 fromB1
 pages = (refl, refl, refl, refl)
 
 -- The order of answers: 6 before 10, 10 before 8, 8 for no rows before 9; fill above 64 is 10 also where no EOLs are written; K is from 1 to 65,535.
 answers-in-order :
-    (write1D mostMakeup true 65 0 [] [] [] .number ≡ 6)
-    × (write1D mostMakeup true 65 4 [] [] [] .number ≡ 10)
-    × (write1D mostMakeup false 65 4 [] [] [] .number ≡ 10)
-    × (write1D mostMakeup true 64 4 [] [] [] .number ≡ 8)
-    × (write1D mostMakeup true 64 4 (1 ∷ 3 ∷ []) (2 ∷ []) [] .number ≡ 9)
-    × (write1D mostMakeup false 0 4 (1 ∷ 3 ∷ []) (2 ∷ []) (255 ∷ 255 ∷ []) .number ≡ 0)
-    × (write2D mostMakeup 0 0 [] [] [] .number ≡ 6)
-    × (write2D mostMakeup 0 4 [] [] [] .number ≡ 10)
-    × (write2D mostMakeup 65536 4 [] [] [] .number ≡ 10)
-    × (write2D mostMakeup 65535 4 [] [] [] .number ≡ 8)
+    (write1D true 65 0 [] [] [] .number ≡ 6)
+    × (write1D true 65 4 [] [] [] .number ≡ 10)
+    × (write1D false 65 4 [] [] [] .number ≡ 10)
+    × (write1D true 64 4 [] [] [] .number ≡ 8)
+    × (write1D true 64 4 (1 ∷ 3 ∷ []) (2 ∷ []) [] .number ≡ 9)
+    × (write1D false 0 4 (1 ∷ 3 ∷ []) (2 ∷ []) (255 ∷ 255 ∷ []) .number ≡ 0)
+    × (write2D 0 0 [] [] [] .number ≡ 6)
+    × (write2D 0 4 [] [] [] .number ≡ 10)
+    × (write2D 65536 4 [] [] [] .number ≡ 10)
+    × (write2D 65535 4 [] [] [] .number ≡ 8)
 unfolding write1D write2D writeGroup3 writes rowsIn endsRise allAscend ascendsFrom bitsOf bit bitsFor toByte writtenAt page3Bits framed codedLines times lineBits bits1D runBits runCodes codesBits codeBits whiteTerminating blackTerminating terminatingOf makeupOf eolBits
 answers-in-order = (refl, refl, refl, refl, refl, refl, refl, refl, refl, refl)
 
@@ -52,7 +52,7 @@ answers-in-order = (refl, refl, refl, refl, refl, refl, refl, refl, refl, refl)
 strictly : Settings
 strictly = record { columns = 4; rows = 0; endOfBlock = true; endOfLine = true; aligned = false; encoding = group3-1D; strict = true; exact = false }
 
-six-alone : readPage strictly (page3Bits mostMakeup 4 (filled 0) []) 9 9 .number ≡ 2
+six-alone : readPage strictly (page3Bits 4 (filled 0) []) 9 9 .number ≡ 2
 unfolding strictly run ends bit bitsFor window codeBits whiteTerminating whiteMakeup blackTerminating blackMakeup commonMakeup terminatingOf makeupOf codesOf begins shared codeIn longestShared lookup runTake runStep readRun pushRun lineStep lineEnd readLine zeroRun readEols row3 entries pageStep rowOf readPage eolBits times codedLines framed page3Bits
 six-alone = refl
 
@@ -63,10 +63,10 @@ lenient : Settings
 lenient = record { columns = 1; rows = 2; endOfBlock = true; endOfLine = true; aligned = false; encoding = group3-1D; strict = false; exact = false }
 
 bad-lines-sheet :
-    (readPage lenient (arrivedPage mostMakeup 1 2 (other (true ∷ []) ∷ own [] ∷ []) ++ replicate 6 false) 9 9 .rows ≡ [] ∷ [])
-    × (readPage lenient (arrivedPage mostMakeup 1 3 (other (true ∷ []) ∷ own [] ∷ []) ++ replicate 2 false) 9 9 .rows ≡ [] ∷ [] ∷ [])
-    × (readPage lenient (arrivedPage mostMakeup 1 3 (other (true ∷ []) ∷ own [] ∷ []) ++ replicate 2 false) 9 9 .marks ≡ 1 ∷ 0 ∷ [])
-    × (readPage lenient (arrivedPage mostMakeup 1 3 (other (bitsFor 7 0b0001111) ∷ own [] ∷ [])) 9 9 .marks ≡ 0 ∷ 0 ∷ [])
+    (readPage lenient (arrivedPage 1 2 (other (true ∷ []) ∷ own [] ∷ []) ++ replicate 6 false) 9 9 .rows ≡ [] ∷ [])
+    × (readPage lenient (arrivedPage 1 3 (other (true ∷ []) ∷ own [] ∷ []) ++ replicate 2 false) 9 9 .rows ≡ [] ∷ [] ∷ [])
+    × (readPage lenient (arrivedPage 1 3 (other (true ∷ []) ∷ own [] ∷ []) ++ replicate 2 false) 9 9 .marks ≡ 1 ∷ 0 ∷ [])
+    × (readPage lenient (arrivedPage 1 3 (other (bitsFor 7 0b0001111) ∷ own [] ∷ [])) 9 9 .marks ≡ 0 ∷ 0 ∷ [])
 unfolding lenient run ends bit bitsFor window codeBits whiteTerminating whiteMakeup blackTerminating blackMakeup commonMakeup terminatingOf makeupOf codesOf begins shared codeIn longestShared lookup runTake runStep readRun lastColour recorded add push pushRun lineStep lineEnd readLine zeroRun readEols skip row3 entries pageStep rowOf readPage runCodes codesBits runBits bits1D lineBits eolBits times framed arrivedLines arrivedPage
 bad-lines-sheet = (refl, refl, refl, refl)
 
@@ -76,10 +76,10 @@ lenient-2d : Settings
 lenient-2d = record { columns = 1; rows = 2; endOfBlock = true; endOfLine = true; aligned = false; encoding = group3-2D; strict = false; exact = false }
 
 bad-lines-2d-sheet :
-    (readPage lenient-2d (arrivedPage2D mostMakeup 1 2 [] (other2D [] true (true ∷ []) ∷ own2D true [] ∷ [])) 9 9 .rows ≡ [] ∷ [])
-    × (readPage lenient-2d (arrivedPage2D mostMakeup 1 3 [] (other2D [] true (true ∷ []) ∷ own2D true [] ∷ [])) 9 9 .marks ≡ 1 ∷ 0 ∷ [])
-    × (readPage lenient-2d (arrivedPage2D mostMakeup 1 3 [] (own2D true [] ∷ other2D [] true [] ∷ [])) 9 9 .rows ≡ [] ∷ [])
-    × (readPage lenient-2d (arrivedPage2D mostMakeup 1 3 [] (other2D [] false (bitsFor 11 1) ∷ own2D true [] ∷ [])) 9 9 .rows ≡ [] ∷ [])
+    (readPage lenient-2d (arrivedPage2D 1 2 [] (other2D [] true (true ∷ []) ∷ own2D true [] ∷ [])) 9 9 .rows ≡ [] ∷ [])
+    × (readPage lenient-2d (arrivedPage2D 1 3 [] (other2D [] true (true ∷ []) ∷ own2D true [] ∷ [])) 9 9 .marks ≡ 1 ∷ 0 ∷ [])
+    × (readPage lenient-2d (arrivedPage2D 1 3 [] (own2D true [] ∷ other2D [] true [] ∷ [])) 9 9 .rows ≡ [] ∷ [])
+    × (readPage lenient-2d (arrivedPage2D 1 3 [] (other2D [] false (bitsFor 11 1) ∷ own2D true [] ∷ [])) 9 9 .rows ≡ [] ∷ [])
 unfolding lenient-2d run ends bit bitsFor window codeBits whiteTerminating whiteMakeup blackTerminating blackMakeup commonMakeup terminatingOf makeupOf codesOf begins shared codeIn longestShared lookup runTake runStep readRun lastColour recorded add push pushRun lineStep lineEnd readLine zeroRun readEols skip betweenTags row3 entries pageStep rowOf readPage runCodes codesBits runBits bits1D lineBits eolBits times arrivedPage2D
 bad-lines-2d-sheet = (refl, refl, refl, refl)
 
@@ -89,7 +89,7 @@ two-rows : Settings
 two-rows = record { columns = 2; rows = 2; endOfBlock = true; endOfLine = true; aligned = false; encoding = group3-1D; strict = true; exact = false }
 
 cut-sheet :
-    (take 16 (page3Bits mostMakeup 2 (filled 0) ([] ∷ [] ∷ [])) ≡ bitsOf (0x00 ∷ 0x17 ∷ []))
+    (take 16 (page3Bits 2 (filled 0) ([] ∷ [] ∷ [])) ≡ bitsOf (0x00 ∷ 0x17 ∷ []))
     × (readPage two-rows (bitsOf (0x00 ∷ 0x17 ∷ [])) 9 9 ≡ record { number = 0; place = 0; bytes = 2; rows = [] ∷ []; marks = 0 ∷ []; loose = [] })
 unfolding two-rows run ends bit bitsOf bitsFor window codeBits whiteTerminating whiteMakeup blackTerminating blackMakeup commonMakeup terminatingOf makeupOf codesOf begins shared codeIn longestShared lookup runTake runStep readRun lastColour recorded add push pushRun lineStep lineEnd readLine zeroRun readEols row3 entries pageStep rowOf readPage runCodes codesBits runBits bits1D lineBits eolBits times codedLines framed page3Bits
 cut-sheet = (refl, refl)

@@ -50,23 +50,23 @@ strict-told S n layout t = record { encoded = t .encoded; wide = t .wide; narrow
     same true h = h
 
 -- A Group 3 page in bytes, with zeros behind it, is answered with its rows, all clean, and its length.
-pub page3-returns : (most : ℕ) → 1 ≤ most → most ≤ 40 → (S : Settings) (layout : Layout) (rows : List (List ℕ)) → Told S (length rows) layout → S .columns < 4294967295
+pub page3-returns : (S : Settings) (layout : Layout) (rows : List (List ℕ)) → Told S (length rows) layout → S .columns < 4294967295
     → 0 < length rows → Rows (S .columns) rows → (bytes : List ℕ) → length bytes ≤ mostBytes
-    → (rest : List Bool) → zeroRun rest ≡ none → bitsOf bytes ≡ page3Bits most (S .columns) layout rows ++ rest
+    → (rest : List Bool) → zeroRun rest ≡ none → bitsOf bytes ≡ page3Bits (S .columns) layout rows ++ rest
     → (store places : ℕ) → entries rows ≤ store → length rows ≤ places
-    → decode S bytes store places ≡ whole (length (page3Bits most (S .columns) layout rows)) rows (allClean rows)
-page3-returns most some-most most-fits S layout rows told narrow some-rows rises bytes small rest q there store places roomy placed =
+    → decode S bytes store places ≡ whole (length (page3Bits (S .columns) layout rows)) rows (allClean rows)
+page3-returns S layout rows told narrow some-rows rises bytes small rest q there store places roomy placed =
     decode-reads S (told .wide) narrow bytes small store places
     ∙ ap (unlessShort S)
     (ap (λ (bs : List Bool). readPage (strictIfExact S) bs store places) there
-    ∙ read-page3 most some-most most-fits (strictIfExact S) layout rows (strict-told S (length rows) layout told) some-rows rises store places roomy placed rest q)
-    ∙ all-there S (length (page3Bits most (S .columns) layout rows)) rows (allClean rows) (true-rows S (length rows) (hasEols layout) (told .says))
+    ∙ read-page3 (strictIfExact S) layout rows (strict-told S (length rows) layout told) some-rows rises store places roomy placed rest q)
+    ∙ all-there S (length (page3Bits (S .columns) layout rows)) rows (allClean rows) (true-rows S (length rows) (hasEols layout) (told .says))
 
 -- ---- Writing
 
-module _ (most : ℕ) (layout : Layout) (fine : Bool) (columns : ℕ) (changes ends out : List ℕ) where
+module _ (layout : Layout) (fine : Bool) (columns : ℕ) (changes ends out : List ℕ) where
   abbrev xs : List Bool
-  xs = bits3 most layout fine columns changes ends out
+  xs = bits3 layout fine columns changes ends out
 
   -- what a Group 3 writer's 0 says: an allowed number, a width, rows and an output that are allowed, the page's bits and zeros to a byte, and its bytes
   pub record Page3Written (w : Written) : Type 0 where
@@ -81,9 +81,9 @@ module _ (most : ℕ) (layout : Layout) (fine : Bool) (columns : ℕ) (changes e
     pub end-is : w .end ≡ bytesTo (length xs)
 
   -- so it does
-  pub page3-written : columns ≤ 4294967295 → writeGroup3 most layout fine columns changes ends out .number ≡ 0 → Page3Written (writeGroup3 most layout fine columns changes ends out)
+  pub page3-written : columns ≤ 4294967295 → writeGroup3 layout fine columns changes ends out .number ≡ 0 → Page3Written (writeGroup3 layout fine columns changes ends out)
   page3-written in-32 =
-      write3-cases most layout fine columns changes ends out (λ w. w .number ≡ 0 → Page3Written w)
+      write3-cases layout fine columns changes ends out (λ w. w .number ≡ 0 → Page3Written w)
       (λ n e. absurd (omega arith))
       (λ n l e. absurd (omega arith))
       (λ n l f e. absurd (omega arith))
@@ -130,24 +130,24 @@ Returns w S changes ends out =
     → decode S (take (w .end) out′ ++ replicate zeros 0) store places
     ≡ record { number = 0; place = 0; bytes = w .end; rows = rowsIn 0 changes ends; marks = allClean (rowsIn 0 changes ends); loose = [] }
 
-module _ (most : ℕ) (some-most : 1 ≤ most) (most-fits : most ≤ 40) (S : Settings) (changes ends out : List ℕ) where
+module _ (S : Settings) (changes ends out : List ℕ) where
   -- a page of any layout
-  written3-returns : (layout : Layout) (fine : Bool) → Told S (length ends) layout → Returns (writeGroup3 most layout fine (S .columns) changes ends out) S changes ends out
+  written3-returns : (layout : Layout) (fine : Bool) → Told S (length ends) layout → Returns (writeGroup3 layout fine (S .columns) changes ends out) S changes ends out
   written3-returns layout fine told out′ zeros small z same bits store places roomy placed =
       ap (λ (n : ℕ). decode S (take n out′ ++ replicate zeros 0) store places) (p .end-is)
-      ∙ page3-returns most some-most most-fits S layout rows (subst (λ (n : ℕ). Told S n layout) (sym as-many) told) (p .narrow) (omega (arith, p .some-rows, as-many)) (p .rises)
+      ∙ page3-returns S layout rows (subst (λ (n : ℕ). Told S n layout) (sym as-many) told) (p .narrow) (omega (arith, p .some-rows, as-many)) (p .rises)
       (take size out′ ++ replicate zeros 0) (omega (arith, p .end-is, length-append (take size out′) (replicate zeros 0), length-take size out′, length-replicate {A = ℕ} zeros 0))
       (toByte (length page) ++ bitsOf (replicate zeros 0)) (blank-none (length page) zeros) there store places roomy (omega (arith, as-many))
       ∙ ap (λ (n : ℕ). record { number = 0; place = 0; bytes = n; rows = rows; marks = allClean rows; loose = [] }) (sym (p .end-is))
     where
-      p : Page3Written most layout fine (S .columns) changes ends out (writeGroup3 most layout fine (S .columns) changes ends out)
-      p = page3-written most layout fine (S .columns) changes ends out (told .narrow) z
+      p : Page3Written layout fine (S .columns) changes ends out (writeGroup3 layout fine (S .columns) changes ends out)
+      p = page3-written layout fine (S .columns) changes ends out (told .narrow) z
 
       rows : List (List ℕ)
       rows = rowsIn 0 changes ends
 
       page : List Bool
-      page = page3Bits most (S .columns) layout rows
+      page = page3Bits (S .columns) layout rows
 
       size : ℕ
       size = bytesTo (length page)
@@ -201,11 +201,11 @@ told-2D S k n t = record { encoded = t .encoded; wide = t .wide; narrow = t .nar
 
 -- ---- Both
 
-module _ (most : ℕ) (some-most : 1 ≤ most) (most-fits : most ≤ 40) (S : Settings) (changes ends out : List ℕ) where
-  pub write1D-returns : (eols : Bool) (fill : ℕ) → Told1D S eols (length ends) → Returns (write1D most eols fill (S .columns) changes ends out) S changes ends out
+module _ (S : Settings) (changes ends out : List ℕ) where
+  pub write1D-returns : (eols : Bool) (fill : ℕ) → Told1D S eols (length ends) → Returns (write1D eols fill (S .columns) changes ends out) S changes ends out
   unfolding write1D
-  write1D-returns eols fill t = written3-returns most some-most most-fits S changes ends out (layout1D eols fill) (leb fill 64) (told-1D S eols fill (length ends) t)
+  write1D-returns eols fill t = written3-returns S changes ends out (layout1D eols fill) (leb fill 64) (told-1D S eols fill (length ends) t)
 
-  pub write2D-returns : (k : ℕ) → Told2D S (length ends) → Returns (write2D most k (S .columns) changes ends out) S changes ends out
+  pub write2D-returns : (k : ℕ) → Told2D S (length ends) → Returns (write2D k (S .columns) changes ends out) S changes ends out
   unfolding write2D
-  write2D-returns k t = written3-returns most some-most most-fits S changes ends out (mixed k) (leb 1 k && leb k 65535) (told-2D S k (length ends) t)
+  write2D-returns k t = written3-returns S changes ends out (mixed k) (leb 1 k && leb k 65535) (told-2D S k (length ends) t)

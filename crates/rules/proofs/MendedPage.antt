@@ -55,21 +55,21 @@ front-on fill bits page rest later q =
     r ∙ ap (λ (l : List Bool). replicate fill false ++ (eolBits ++ (bits ++ l))) q
 
 -- what stands behind the next EOL, under the row that was sent last
-module _ (most width : ℕ) (t : Tagging) (fill : ℕ) where
+module _ (width : ℕ) (t : Tagging) (fill : ℕ) where
   unfoldable pub Behind : List ℕ → List Arrived2D → List Bool → List Bool
   Behind above [] rest = endBits t ++ rest
-  Behind above (l ∷ ls) rest = (tagBits t (arrivedTag l) ++ arrivedBits2D most width above l) ++ (replicate fill false ++ (eolBits ++ Behind (sentRow l) ls rest))
+  Behind above (l ∷ ls) rest = (tagBits t (arrivedTag l) ++ arrivedBits2D width above l) ++ (replicate fill false ++ (eolBits ++ Behind (sentRow l) ls rest))
 
   -- a page has no more lines than bits
   lines-few : (above : List ℕ) (ls : List Arrived2D) (rest : List Bool) → length ls ≤ length (Behind above ls rest)
   unfolding Behind
   lines-few above [] rest = omega arith
   lines-few above (l ∷ ls) rest =
-      let P = tagBits t (arrivedTag l) ++ arrivedBits2D most width above l in
+      let P = tagBits t (arrivedTag l) ++ arrivedBits2D width above l in
       let later = Behind (sentRow l) ls rest in
       omega (arith, length-append P (replicate fill false ++ (eolBits ++ later)), length-append (replicate fill false) (eolBits ++ later), length-append eolBits later, eol-long, lines-few (sentRow l) ls rest)
 
-module _ (most : ℕ) (some-most : 1 ≤ most) (most-fits : most ≤ 40) (t : Tagging) (S : Settings) (n : ℕ) (mending : Mends t S n) (fill : ℕ) (three : 3 ≤ fill) where
+module _ (t : Tagging) (S : Settings) (n : ℕ) (mending : Mends t S n) (fill : ℕ) (three : 3 ≤ fill) where
   abbrev W : ℕ
   W = S .columns
 
@@ -80,7 +80,7 @@ module _ (most : ℕ) (some-most : 1 ≤ most) (most-fits : most ≤ 40) (t : Ta
       first : st .count ≡ 0 → facing .start ≡ st .at
       expected : 0 < st .count → st .eols ≡ true
       counted : st .count + length ls ≡ n
-      there : drop e bs ≡ Behind most W t fill above ls rest
+      there : drop e bs ≡ Behind W t fill above ls rest
       closed : S .rows ≡ 0 → zeroRun rest ≡ none
       rises : Rising W 0 above
       known : lost ≡ false → st .reference ≡ above
@@ -119,29 +119,29 @@ module _ (most : ℕ) (some-most : 1 ≤ most) (most-fits : most ≤ 40) (t : Ta
     module _ (room : ℕ) (roomy : W ≤ room) (lost : Bool) (st : State) (e : ℕ) (above : List ℕ) (l : Arrived2D) (ls : List Arrived2D) (rest : List Bool)
         (may : May t W l) (h : Stands lost st e above (l ∷ ls) rest) where
       abbrev later : List Bool
-      later = Behind most W t fill (sentRow l) ls rest
+      later = Behind W t fill (sentRow l) ls rest
 
       abbrev R : Rules
       R = rulesOf S room
 
       -- the bit behind the next EOL
       abbrev e′ : ℕ
-      e′ = e + length (tagBits t (arrivedTag l) ++ arrivedBits2D most W above l) + (fill + 12)
+      e′ = e + length (tagBits t (arrivedTag l) ++ arrivedBits2D W above l) + (fill + 12)
 
-      fit : Fit t (arrivedTag l) (arrivedBits2D most W above l)
-      fit = may-fit most some-most most-fits t S n mending bs fill three above (h .rises) l may
+      fit : Fit t (arrivedTag l) (arrivedBits2D W above l)
+      fit = may-fit t S n mending bs fill three above (h .rises) l may
 
-      stands-there : drop e bs ≡ (tagBits t (arrivedTag l) ++ arrivedBits2D most W above l) ++ (replicate fill false ++ (eolBits ++ later))
+      stands-there : drop e bs ≡ (tagBits t (arrivedTag l) ++ arrivedBits2D W above l) ++ (replicate fill false ++ (eolBits ++ later))
       unfolding Behind
       stands-there = h .there
 
       -- a row
-      row-goes : Rowed most some-most most-fits t S n mending bs fill three R st (kindRead t (arrivedTag l) (st .reference)) (codesFrom t e) e′ (row3 S t bs room st)
+      row-goes : Rowed t S n mending bs fill three R st (kindRead t (arrivedTag l) (st .reference)) (codesFrom t e) e′ (row3 S t bs room st)
       unfolding row3
       row-goes =
-          subst (Rowed most some-most most-fits t S n mending bs fill three R st (kindRead t (arrivedTag l) (st .reference)) (codesFrom t e) e′)
-          (sym (ap (rowFrom S t bs room st) (to-line t S n mending bs st (h .facing) (h .first) (h .expected) (omega (arith, h .counted)) (arrivedTag l) (arrivedBits2D most W above l) _ fit stands-there)))
-          (read-piece most some-most most-fits t S n mending bs fill three room roomy st e later (arrivedTag l) (arrivedBits2D most W above l) fit stands-there)
+          subst (Rowed t S n mending bs fill three R st (kindRead t (arrivedTag l) (st .reference)) (codesFrom t e) e′)
+          (sym (ap (rowFrom S t bs room st) (to-line t S n mending bs st (h .facing) (h .first) (h .expected) (omega (arith, h .counted)) (arrivedTag l) (arrivedBits2D W above l) _ fit stands-there)))
+          (read-piece t S n mending bs fill three room roomy st e later (arrivedTag l) (arrivedBits2D W above l) fit stands-there)
 
       -- its own, where the line is whole and its reference the one that was sent
       row-fits : Fits (st .reference) above l (row-goes .given) (row-goes .mark)
@@ -154,27 +154,27 @@ module _ (most : ℕ) (some-most : 1 ≤ most) (most-fits : most ≤ 40) (t : Ta
           m = row-goes .mark
 
           -- a whole line of a kind is read
-          reads : (kind : Kind) → Proper W kind → (r : List ℕ) → Rising W 0 r → (rest : List Bool) (at : ℕ) → drop at bs ≡ lineBits most W kind r ++ rest
+          reads : (kind : Kind) → Proper W kind → (r : List ℕ) → Rising W 0 r → (rest : List Bool) (at : ℕ) → drop at bs ≡ lineBits W kind r ++ rest
               → ((u : Line) → readLine R kind bs at ≡ went u → (x ≡ u .changes) × (m ≡ readMark u)) → (x ≡ r) × (m ≡ 0)
           reads kind proper r up rest at there same =
-              same _ (read-line most some-most most-fits R (mending .wide) (mending .narrow) kind proper r up (omega (arith, rises-length {width = W} (omega arith) up)) bs rest at there .1)
+              same _ (read-line R (mending .wide) (mending .narrow) kind proper r up (omega (arith, rises-length {width = W} (omega arith) up)) bs rest at there .1)
 
-          by : (l : Arrived2D) → May t W l → (rest : List Bool) → drop e bs ≡ (tagBits t (arrivedTag l) ++ arrivedBits2D most W above l) ++ rest
+          by : (l : Arrived2D) → May t W l → (rest : List Bool) → drop e bs ≡ (tagBits t (arrivedTag l) ++ arrivedBits2D W above l) ++ rest
               → ((u : Line) → readLine R (kindRead t (arrivedTag l) (st .reference)) bs (codesFrom t e) ≡ went u → (x ≡ u .changes) × (m ≡ readMark u)) → Fits (st .reference) above l x m
           by (own2D true r) (told, up) rest there same = tagging t there same
             where
-              tagging : (t : Tagging) → drop e bs ≡ (tagBits t true ++ lineBits most W one r) ++ rest
+              tagging : (t : Tagging) → drop e bs ≡ (tagBits t true ++ lineBits W one r) ++ rest
                   → ((u : Line) → readLine R (kindRead t true (st .reference)) bs (codesFrom t e) ≡ went u → (x ≡ u .changes) × (m ≡ readMark u)) → (x ≡ r) × (m ≡ 0)
               tagging untagged there same = reads one tt r up rest e there same
               tagging tagged there same = reads one tt r up rest (suc e) (after-bit bs e true _ there) same
           by (own2D false r) (told, up) rest there same = tagging t told there same
             where
-              tagging : (t : Tagging) → Told t false → drop e bs ≡ (tagBits t false ++ lineBits most W (two above) r) ++ rest
+              tagging : (t : Tagging) → Told t false → drop e bs ≡ (tagBits t false ++ lineBits W (two above) r) ++ rest
                   → ((u : Line) → readLine R (kindRead t false (st .reference)) bs (codesFrom t e) ≡ went u → (x ≡ u .changes) × (m ≡ readMark u)) → st .reference ≡ above → (x ≡ r) × (m ≡ 0)
               tagging untagged told there same q = absurd (true≢false (sym told))
               tagging tagged told there same q =
                   reads (two (st .reference)) (subst (Rising W 0) (sym q) (h .rises)) r up rest (suc e)
-                  (after-bit bs e false _ there ∙ ap (λ (a : List ℕ). lineBits most W (two a) r ++ rest) (sym q)) same
+                  (after-bit bs e false _ there ∙ ap (λ (a : List ℕ). lineBits W (two a) r ++ rest) (sym q)) same
           by (other2D r tag bits) may rest there same = tt
 
     -- a row for each line, its own where the line is, and the end
@@ -215,12 +215,12 @@ module _ (most : ℕ) (some-most : 1 ≤ most) (most-fits : most ≤ 40) (t : Ta
         }
       where
         e″ : ℕ
-        e″ = e + length (tagBits t (arrivedTag l) ++ arrivedBits2D most W above l) + (fill + 12)
+        e″ = e + length (tagBits t (arrivedTag l) ++ arrivedBits2D W above l) + (fill + 12)
 
         enough : W + length ls * W ≤ room
         enough = omega (arith, suc-mul (length ls) W)
 
-        r : Rowed most some-most most-fits t S n mending bs fill three (rulesOf S room) st (kindRead t (arrivedTag l) (st .reference)) (codesFrom t e) e″ (row3 S t bs room st)
+        r : Rowed t S n mending bs fill three (rulesOf S room) st (kindRead t (arrivedTag l) (st .reference)) (codesFrom t e) e″ (row3 S t bs room st)
         r = row-goes room (omega (arith, enough)) lost st e above l ls rest may h
 
         fits : Fits (st .reference) above l (r .given) (r .mark)
@@ -232,8 +232,8 @@ module _ (most : ℕ) (some-most : 1 ≤ most) (most-fits : most ≤ 40) (t : Ta
           first = λ z. absurd (omega (arith, r .counted));
           expected = λ _. r .expected;
           counted = omega (arith, h .counted, r .counted);
-          there = fill-after bs fill (e + length (tagBits t (arrivedTag l) ++ arrivedBits2D most W above l)) (Behind most W t fill (sentRow l) ls rest)
-              (drop-after bs (tagBits t (arrivedTag l) ++ arrivedBits2D most W above l) (replicate fill false ++ (eolBits ++ Behind most W t fill (sentRow l) ls rest)) e (h .there));
+          there = fill-after bs fill (e + length (tagBits t (arrivedTag l) ++ arrivedBits2D W above l)) (Behind W t fill (sentRow l) ls rest)
+              (drop-after bs (tagBits t (arrivedTag l) ++ arrivedBits2D W above l) (replicate fill false ++ (eolBits ++ Behind W t fill (sentRow l) ls rest)) e (h .there));
           closed = h .closed;
           rises = sent-rises t W l may;
           known = λ q. r .reference ∙ known-on lost (r .mark) l fits (h .known) q;
@@ -249,10 +249,10 @@ spared-count (unchanged-2D s) = ap suc (spared-count s)
 spared-count (under-lost s) = ap suc (spared-count s)
 spared-count (bad-line s) = ap suc (spared-count s)
 
-module _ (most : ℕ) (some-most : 1 ≤ most) (most-fits : most ≤ 40) (t : Tagging) (S : Settings) (fill : ℕ) (three : 3 ≤ fill)
+module _ (t : Tagging) (S : Settings) (fill : ℕ) (three : 3 ≤ fill)
     (ls : List Arrived2D) (some-lines : 0 < length ls) (mays : MayAll t (S .columns) ls) (mending : Mends t S (length ls))
     (rest : List Bool) (closed : S .rows ≡ 0 → zeroRun rest ≡ none)
-    (bs : List Bool) (page : bs ≡ replicate fill false ++ (eolBits ++ Behind most (S .columns) t fill [] ls rest)) where
+    (bs : List Bool) (page : bs ≡ replicate fill false ++ (eolBits ++ Behind (S .columns) t fill [] ls rest)) where
   abbrev pub Done : Answer → Type 0
   Done a = (a .number ≡ 0) × SparedTo1D false ls (a .rows) (a .marks)
 
@@ -265,10 +265,10 @@ module _ (most : ℕ) (some-most : 1 ≤ most) (most-fits : most ≤ 40) (t : Ta
       (refl, m .spared)
     where
       tail′ : List Bool
-      tail′ = Behind most (S .columns) t fill [] ls rest
+      tail′ = Behind (S .columns) t fill [] ls rest
 
-      m : Mended most some-most most-fits t S (length ls) mending fill three bs store false pageStart ls
-      m = arrived-rows most some-most most-fits t S (length ls) mending fill three bs ls store false pageStart (0 + (fill + 12)) [] rest some-lines mays roomy (record {
+      m : Mended t S (length ls) mending fill three bs store false pageStart ls
+      m = arrived-rows t S (length ls) mending fill three bs ls store false pageStart (0 + (fill + 12)) [] rest some-lines mays roomy (record {
         facing = record { start = 0; past = here; eol = fill-eol bs fill 0 tail′ page; to = omega arith };
         first = λ _. refl;
         expected = λ h. absurd (omega arith);
@@ -283,7 +283,7 @@ module _ (most : ℕ) (some-most : 1 ≤ most) (most-fits : most ≤ 40) (t : Ta
       as-many = spared-count (m .spared)
 
       few : length ls ≤ length bs
-      few = omega (arith, ap length page, length-append (replicate fill false) (eolBits ++ tail′), length-append eolBits tail′, lines-few most (S .columns) t fill [] ls rest)
+      few = omega (arith, ap length page, length-append (replicate fill false) (eolBits ++ tail′), length-append eolBits tail′, lines-few (S .columns) t fill [] ls rest)
 
   -- and so with any room that was enough, where the answer is neither 4 nor 5
   pub mended-page-room : (store places : ℕ) → readPage S bs store places .number ≤ 3 → Done (readPage S bs store places)

@@ -79,19 +79,19 @@ fit-stray tagged false code (f, q) = rw q (ap (λ (b : Bool). b && true) (one-mo
     one-more (some z) h = refl
 
 -- a line that was written fits
-own-fit : (most : ℕ) → 1 ≤ most → most ≤ 40 → (width : ℕ) → 0 < width → width ≤ 4294967295 → (t : Tagging) (tag : Bool) → Told t tag
-    → (above r : List ℕ) → Rising width 0 above → Rising width 0 r → Fit t tag (lineBits most width (kindOf tag above) r)
+own-fit : (width : ℕ) → 0 < width → width ≤ 4294967295 → (t : Tagging) (tag : Bool) → Told t tag
+    → (above r : List ℕ) → Rising width 0 above → Rising width 0 r → Fit t tag (lineBits width (kindOf tag above) r)
 unfolding noEol
-own-fit most some-most most-fits width wide narrow t tag told above r up up′ = (written-one most some-most most-fits width wide narrow (kindOf tag above) (proper tag) r up′, none-in t tag)
+own-fit width wide narrow t tag told above r up up′ = (written-one width wide narrow (kindOf tag above) (proper tag) r up′, none-in t tag)
   where
     proper : (tag : Bool) → Proper width (kindOf tag above)
     proper true = tt
     proper false = up
 
-    calm : (tag : Bool) (zeros : ℕ) → zeros ≤ 3 → noEol zeros (lineBits most width (kindOf tag above) r) ≡ true
-    calm tag = written-no-eol most some-most most-fits width wide narrow (kindOf tag above) (proper tag) r up′
+    calm : (tag : Bool) (zeros : ℕ) → zeros ≤ 3 → noEol zeros (lineBits width (kindOf tag above) r) ≡ true
+    calm tag = written-no-eol width wide narrow (kindOf tag above) (proper tag) r up′
 
-    none-in : (t : Tagging) (tag : Bool) → noEol 0 (tagBits t tag ++ lineBits most width (kindOf tag above) r) ≡ true
+    none-in : (t : Tagging) (tag : Bool) → noEol 0 (tagBits t tag ++ lineBits width (kindOf tag above) r) ≡ true
     none-in untagged tag = calm tag 0 (omega arith)
     none-in tagged true = calm true 0 (omega arith)
     none-in tagged false = calm false 1 (omega arith)
@@ -201,7 +201,7 @@ pub sent-rises : (t : Tagging) (width : ℕ) (l : Arrived2D) → May t width l �
 sent-rises t width (own2D tag r) (_, h) = h
 sent-rises t width (other2D r tag bits) (h, _) = h
 
-module _ (most : ℕ) (some-most : 1 ≤ most) (most-fits : most ≤ 40) (t : Tagging) (S : Settings) (n : ℕ) (mending : Mends t S n) (bs : List Bool) (fill : ℕ) (three : 3 ≤ fill) where
+module _ (t : Tagging) (S : Settings) (n : ℕ) (mending : Mends t S n) (bs : List Bool) (fill : ℕ) (three : 3 ≤ fill) where
   abbrev W : ℕ
   W = S .columns
 
@@ -210,8 +210,8 @@ module _ (most : ℕ) (some-most : 1 ≤ most) (most-fits : most ≤ 40) (t : Ta
   gap later = replicate fill false ++ (eolBits ++ later)
 
   -- it fits between two EOLs
-  pub may-fit : (above : List ℕ) → Rising W 0 above → (l : Arrived2D) → May t W l → Fit t (arrivedTag l) (arrivedBits2D most W above l)
-  may-fit above up (own2D tag r) (told, up′) = own-fit most some-most most-fits W (mending .wide) (mending .narrow) t tag told above r up up′
+  pub may-fit : (above : List ℕ) → Rising W 0 above → (l : Arrived2D) → May t W l → Fit t (arrivedTag l) (arrivedBits2D W above l)
+  may-fit above up (own2D tag r) (told, up′) = own-fit W (mending .wide) (mending .narrow) t tag told above r up up′
   may-fit above up (other2D r tag bits) (_, fit) = fit
 
   -- a row is given, that of the line's reading where this is whole; and the reader faces the EOL behind the line

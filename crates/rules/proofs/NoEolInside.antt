@@ -50,14 +50,14 @@ eol-somewhere (true ∷ bits) zeros q = tests (ltb zeros 11) refl q (eol-somewhe
     tests true e f ih = later (ih f)
     tests false e f ih = inl (0, refl, omega (arith, ltb-false zeros 11 e))
 
-module _ (most : ℕ) (some-most : 1 ≤ most) (most-fits : most ≤ 40) (width : ℕ) (wide : 0 < width) (narrow : width ≤ 4294967295)
+module _ (width : ℕ) (wide : 0 < width) (narrow : width ≤ 4294967295)
     (kind : Kind) (proper : Proper width kind) (r : List ℕ) (rises : Rising width 0 r) where
   abbrev L : List Bool
-  L = lineBits most width kind r
+  L = lineBits width kind r
 
   -- it holds a one,
   pub written-one : found (zeroRun L) ≡ true
-  written-one = ap found (ap zeroRun (sym (append-nil L)) ∙ line-begins most some-most most-fits width wide kind r [] .1)
+  written-one = ap found (ap zeroRun (sym (append-nil L)) ∙ line-begins width wide kind r [] .1)
 
   -- and no EOL
   pub written-no-eol : (zeros : ℕ) → zeros ≤ 3 → noEol zeros L ≡ true
@@ -65,12 +65,12 @@ module _ (most : ℕ) (some-most : 1 ≤ most) (most-fits : most ≤ 40) (width 
     where
       none-there : Eol zeros L → ⊥
       none-there (inl (z, e, h)) =
-          let b = line-begins most some-most most-fits width wide kind r [] in
+          let b = line-begins width wide kind r [] in
           let y : b .0 ≡ z = cc (sym (b .1) ∙ ap zeroRun (append-nil L) ∙ e) in
           omega (arith, b .2)
       none-there (inr (i, z, e, h)) =
           let R : Rules = record { width = width; strict = false; exact = false; room = length r } in
-          let p = read-line most some-most most-fits R wide narrow kind proper r rises (omega arith) L [] 0 (sym (append-nil L)) in
+          let p = read-line R wide narrow kind proper r rises (omega arith) L [] 0 (sym (append-nil L)) in
           let s = line-stays R kind L (i + 3) (eol-bound L i z e h) 0 (omega arith) _ (p .1) in
           omega (arith, s .1, zeros-inside (drop i L) z e, length-drop i L)
 

@@ -23,59 +23,59 @@ use Rattle.rules.proofs.BadLines.{Mending, Done, bad-lines, bad-lines-r
 -- ---- In bytes
 
 -- Any lines may be bad. Read leniently is without strict, and without exact, which implies it (A12).
-module _ (most : ℕ) (some-most : 1 ≤ most) (most-fits : most ≤ 40) (S : Settings) (inexact : S .exact ≡ false) (fill : ℕ) (three : 3 ≤ fill)
+module _ (S : Settings) (inexact : S .exact ≡ false) (fill : ℕ) (three : 3 ≤ fill)
     (ls : List Arrived) (some-lines : 0 < length ls) (goods : mayAll (S .columns) ls ≡ true) (mending : Mending S (length ls)) (narrow : S .columns < 4294967295)
     (bytes : List ℕ) (small : length bytes ≤ mostBytes) (rest : List Bool) (closed : S .rows ≡ 0 → zeroRun rest ≡ none)
-    (there : bitsOf bytes ≡ arrivedPage most (S .columns) fill ls ++ rest) (store places : ℕ) where
+    (there : bitsOf bytes ≡ arrivedPage (S .columns) fill ls ++ rest) (store places : ℕ) where
   pub bad-lines-decode : RoomFor (length ls) (S .columns) store places (decode S bytes store places .number)
       → (decode S bytes store places .number ≡ 0) × Spared ls (decode S bytes store places .rows) (decode S bytes store places .marks)
   bad-lines-decode = subst (λ (a : Answer). RoomFor (length ls) (S .columns) store places (a .number) → (a .number ≡ 0) × Spared ls (a .rows) (a .marks)) (sym is) by
     where
-      is : decode S bytes store places ≡ readPage S (arrivedPage most (S .columns) fill ls ++ rest) store places
+      is : decode S bytes store places ≡ readPage S (arrivedPage (S .columns) fill ls ++ rest) store places
       is =
           exact-off S inexact bytes (record { wide = mending .wide; narrow = λ e. omega arith; small = small }) store places
           ∙ ap (λ (bs : List Bool). readPage S bs store places) there
 
-      by : RoomFor (length ls) (S .columns) store places (readPage S (arrivedPage most (S .columns) fill ls ++ rest) store places .number)
-          → Done most some-most most-fits S fill three ls some-lines goods mending rest closed (readPage S (arrivedPage most (S .columns) fill ls ++ rest) store places)
-      by (inl h) = bad-lines-room most some-most most-fits S fill three ls some-lines goods mending rest closed store places h
-      by (inr (roomy, placed)) = bad-lines most some-most most-fits S fill three ls some-lines goods mending rest closed store places roomy placed
+      by : RoomFor (length ls) (S .columns) store places (readPage S (arrivedPage (S .columns) fill ls ++ rest) store places .number)
+          → Done S fill three ls some-lines goods mending rest closed (readPage S (arrivedPage (S .columns) fill ls ++ rest) store places)
+      by (inl h) = bad-lines-room S fill three ls some-lines goods mending rest closed store places h
+      by (inr (roomy, placed)) = bad-lines S fill three ls some-lines goods mending rest closed store places roomy placed
 
 -- ---- Where a line stands
 
 -- the page of A3's writer, whose lines are all their own
-own-lines : (most width left : ℕ) (reference : List ℕ) (rows : List (List ℕ)) → left ≡ 0 → codedLines most width 1 left reference rows ≡ arrivedLines most width (owns rows)
+own-lines : (width left : ℕ) (reference : List ℕ) (rows : List (List ℕ)) → left ≡ 0 → codedLines width 1 left reference rows ≡ arrivedLines width (owns rows)
 unfolding codedLines arrivedLines owns
-own-lines most width left reference [] z = refl
-own-lines most width zero reference (r ∷ rs) z = ap (λ (l : List CodedLine). record { kind = one; bits = lineBits most width one r } ∷ l) (own-lines most width 0 r rs refl)
-own-lines most width (suc left) reference (r ∷ rs) z = absurd (omega arith)
+own-lines width left reference [] z = refl
+own-lines width zero reference (r ∷ rs) z = ap (λ (l : List CodedLine). record { kind = one; bits = lineBits width one r } ∷ l) (own-lines width 0 r rs refl)
+own-lines width (suc left) reference (r ∷ rs) z = absurd (omega arith)
 
-pub own-page : (most width fill : ℕ) (rows : List (List ℕ)) → page3Bits most width (filled fill) rows ≡ arrivedPage most width fill (owns rows)
+pub own-page : (width fill : ℕ) (rows : List (List ℕ)) → page3Bits width (filled fill) rows ≡ arrivedPage width fill (owns rows)
 unfolding page3Bits arrivedPage
-own-page most width fill rows = ap (framed (filled fill)) (own-lines most width 0 [] rows refl)
+own-page width fill rows = ap (framed (filled fill)) (own-lines width 0 [] rows refl)
 
-module _ (most width fill : ℕ) where
+module _ (width fill : ℕ) where
   -- a page, divided at the code bits of one of its lines
   page-at : (ls : List Arrived) (l : Arrived) (ls′ : List Arrived)
-      → arrivedPage most width fill (ls ++ l ∷ ls′) ≡ upTo most width fill ls ++ (arrivedBits most width l ++ arrivedPage most width fill ls′)
+      → arrivedPage width fill (ls ++ l ∷ ls′) ≡ upTo width fill ls ++ (arrivedBits width l ++ arrivedPage width fill ls′)
   unfolding arrivedPage arrivedLines framed upTo
   page-at [] l ls′ = refl
   page-at (x ∷ ls) l ls′ =
-      ap (λ (y : List Bool). (replicate fill false ++ eolBits) ++ (arrivedBits most width x ++ y)) (page-at ls l ls′)
-      ∙ sym (append-assoc (replicate fill false ++ eolBits) (arrivedBits most width x ++ upTo most width fill ls) _
-      ∙ ap (λ (y : List Bool). (replicate fill false ++ eolBits) ++ y) (append-assoc (arrivedBits most width x) (upTo most width fill ls) _))
+      ap (λ (y : List Bool). (replicate fill false ++ eolBits) ++ (arrivedBits width x ++ y)) (page-at ls l ls′)
+      ∙ sym (append-assoc (replicate fill false ++ eolBits) (arrivedBits width x ++ upTo width fill ls) _
+      ∙ ap (λ (y : List Bool). (replicate fill false ++ eolBits) ++ y) (append-assoc (arrivedBits width x) (upTo width fill ls) _))
 
   module _ (first last : List (List ℕ)) where
     -- up to the code bits of one row's line, and the page of the rows behind it
-    divided : (l : Arrived) → arrivedPage most width fill (owns first ++ l ∷ owns last) ≡ upTo most width fill (owns first) ++ (arrivedBits most width l ++ page3Bits most width (filled fill) last)
+    divided : (l : Arrived) → arrivedPage width fill (owns first ++ l ∷ owns last) ≡ upTo width fill (owns first) ++ (arrivedBits width l ++ page3Bits width (filled fill) last)
     divided l =
         page-at (owns first) l (owns last)
-        ∙ ap (λ (y : List Bool). upTo most width fill (owns first) ++ (arrivedBits most width l ++ y)) (sym (own-page most width fill last))
+        ∙ ap (λ (y : List Bool). upTo width fill (owns first) ++ (arrivedBits width l ++ y)) (sym (own-page width fill last))
 
     -- so does the written page stand there
-    pub written-line-at : (r : List ℕ) → page3Bits most width (filled fill) (first ++ r ∷ last) ≡ upTo most width fill (owns first) ++ (lineBits most width one r ++ page3Bits most width (filled fill) last)
+    pub written-line-at : (r : List ℕ) → page3Bits width (filled fill) (first ++ r ∷ last) ≡ upTo width fill (owns first) ++ (lineBits width one r ++ page3Bits width (filled fill) last)
     unfolding owns
-    written-line-at r = own-page most width fill (first ++ r ∷ last) ∙ ap (arrivedPage most width fill) (owns-append first) ∙ divided (own r)
+    written-line-at r = own-page width fill (first ++ r ∷ last) ∙ ap (arrivedPage width fill) (owns-append first) ∙ divided (own r)
       where
         owns-append : (rows : List (List ℕ)) → owns (rows ++ r ∷ last) ≡ owns rows ++ own r ∷ owns last
         owns-append [] = refl
@@ -117,14 +117,14 @@ length-owns [] = refl
 length-owns (r ∷ rs) = ap suc (length-owns rs)
 
 -- Of a page's rows, one line's code bits may be any stray bits: every row but that one is unchanged, and clean.
-module _ (most : ℕ) (some-most : 1 ≤ most) (most-fits : most ≤ 40) (S : Settings) (inexact : S .exact ≡ false) (fill : ℕ) (three : 3 ≤ fill)
+module _ (S : Settings) (inexact : S .exact ≡ false) (fill : ℕ) (three : 3 ≤ fill)
     (first : List (List ℕ)) (r : List ℕ) (last : List (List ℕ)) (rises : Rows (S .columns) (first ++ r ∷ last)) (mending : Mending S (length (first ++ r ∷ last))) (narrow : S .columns < 4294967295)
     (bits : List Bool) (strays : stray bits ≡ true) (bytes : List ℕ) (small : length bytes ≤ mostBytes) (rest : List Bool) (closed : S .rows ≡ 0 → zeroRun rest ≡ none)
-    (there : bitsOf bytes ≡ upTo most (S .columns) fill (owns first) ++ (bits ++ (page3Bits most (S .columns) (filled fill) last ++ rest))) (store places : ℕ) where
+    (there : bitsOf bytes ≡ upTo (S .columns) fill (owns first) ++ (bits ++ (page3Bits (S .columns) (filled fill) last ++ rest))) (store places : ℕ) where
   pub one-bad-line : RoomFor (length (first ++ r ∷ last)) (S .columns) store places (decode S bytes store places .number)
       → (decode S bytes store places .number ≡ 0) × AllButOne first last (decode S bytes store places .rows) (decode S bytes store places .marks)
   one-bad-line room =
-      let d = bad-lines-decode most some-most most-fits S inexact fill three ls (omega (arith, size, length-append first (r ∷ last))) (may-one (S .columns) first last r bits rises strays)
+      let d = bad-lines-decode S inexact fill three ls (omega (arith, size, length-append first (r ∷ last))) (may-one (S .columns) first last r bits rises strays)
       (subst (Mending S) size mending) narrow bytes small rest closed (there ∙ page) store places
       (subst (λ (n : ℕ). RoomFor n (S .columns) store places (decode S bytes store places .number)) size room) in
       (d .0, spared-but-one first last bits _ _ (d .1))
@@ -135,8 +135,8 @@ module _ (most : ℕ) (some-most : 1 ≤ most) (most-fits : most ≤ 40) (S : Se
       size : length (first ++ r ∷ last) ≡ length ls
       size = omega (arith, length-append first (r ∷ last), length-append (owns first) (other bits ∷ owns last), length-owns first, length-owns last)
 
-      page : upTo most (S .columns) fill (owns first) ++ (bits ++ (page3Bits most (S .columns) (filled fill) last ++ rest)) ≡ arrivedPage most (S .columns) fill ls ++ rest
+      page : upTo (S .columns) fill (owns first) ++ (bits ++ (page3Bits (S .columns) (filled fill) last ++ rest)) ≡ arrivedPage (S .columns) fill ls ++ rest
       page =
-          sym (ap (λ (l : List Bool). l ++ rest) (divided most (S .columns) fill first last (other bits))
-          ∙ append-assoc (upTo most (S .columns) fill (owns first)) (bits ++ page3Bits most (S .columns) (filled fill) last) rest
-          ∙ ap (λ (l : List Bool). upTo most (S .columns) fill (owns first) ++ l) (append-assoc bits (page3Bits most (S .columns) (filled fill) last) rest))
+          sym (ap (λ (l : List Bool). l ++ rest) (divided (S .columns) fill first last (other bits))
+          ∙ append-assoc (upTo (S .columns) fill (owns first)) (bits ++ page3Bits (S .columns) (filled fill) last) rest
+          ∙ ap (λ (l : List Bool). upTo (S .columns) fill (owns first) ++ l) (append-assoc bits (page3Bits (S .columns) (filled fill) last) rest))

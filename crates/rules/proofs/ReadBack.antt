@@ -152,17 +152,17 @@ vertical-idle b a1 s t = tests (leb b a1)
 
 -- ---- A 2D line's codes
 
-module _ (most width : ℕ) (reference : List ℕ) where
+module _ (width : ℕ) (reference : List ℕ) where
   -- what is written before the width, by cases: a pass, a vertical mode, or a horizontal one with two runs
   pub write-cases : (n : ℕ) (c : Colour) (p : ℕ) (rest : List ℕ) (C : List Bool → Type 0) → p < width
-      → (b2 width reference p c < headOr width rest → C (modeBits pass ++ bits2D most width reference n c (b2 width reference p c) rest))
+      → (b2 width reference p c < headOr width rest → C (modeBits pass ++ bits2D width reference n c (b2 width reference p c) rest))
       → (near (b1 width reference p c) (headOr width rest) ≡ true
-      → C (modeBits (verticalTo (b1 width reference p c) (headOr width rest)) ++ bits2D most width reference n (opposite c) (headOr width rest) (tail rest)))
+      → C (modeBits (verticalTo (b1 width reference p c) (headOr width rest)) ++ bits2D width reference n (opposite c) (headOr width rest) (tail rest)))
       → C (modeBits horizontal
-      ++ (runBits most c (headOr width rest - p)
-      ++ (runBits most (opposite c) (headOr width (tail rest) - headOr width rest)
-      ++ bits2D most width reference n c (headOr width (tail rest)) (tail (tail rest)))))
-      → C (bits2D most width reference (suc n) c p rest)
+      ++ (runBits c (headOr width rest - p)
+      ++ (runBits (opposite c) (headOr width (tail rest) - headOr width rest)
+      ++ bits2D width reference n c (headOr width (tail rest)) (tail (tail rest)))))
+      → C (bits2D width reference (suc n) c p rest)
   unfolding bits2D
   write-cases n c p rest C h passes verticals horizontals =
       tests (ltb (b2 width reference p c) (headOr width rest)) refl (near (b1 width reference p c) (headOr width rest)) refl
@@ -171,7 +171,7 @@ module _ (most width : ℕ) (reference : List ℕ) where
       before = ne-eqb p width (λ e. omega arith)
 
       tests : (b : Bool) → ltb (b2 width reference p c) (headOr width rest) ≡ b → (d : Bool) → near (b1 width reference p c) (headOr width rest) ≡ d
-          → C (bits2D most width reference (suc n) c p rest)
+          → C (bits2D width reference (suc n) c p rest)
       tests true e d f = rw (before, e, bits2D) (passes (ltb-true _ _ e))
       tests false e true f = rw (before, e, f, bits2D) (verticals f)
       tests false e false f = rw (before, e, f, bits2D) horizontals
@@ -197,7 +197,7 @@ opposite-twice black = refl
 
 -- ---- Reading
 
-module _ (most : ℕ) (some-most : 1 ≤ most) (most-fits : most ≤ 40) (R : Rules) (narrow : R .width ≤ 4294967295) (bs : List Bool) (full : List ℕ) (roomy : length full ≤ R .room) where
+module _ (R : Rules) (narrow : R .width ≤ 4294967295) (bs : List Bool) (full : List ℕ) (roomy : length full ≤ R .room) where
   abbrev W : ℕ
   W = R .width
 
@@ -226,12 +226,12 @@ module _ (most : ℕ) (some-most : 1 ≤ most) (most-fits : most ≤ 40) (R : Ru
     turn-to place q h k = ap (λ (w : Went). next w λ t. went (turned t)) (push-to place q h k)
 
   -- a run's bits, whatever follows
-  run-to : {p : ℕ} {c : Colour} {done rest : List ℕ} → Middle W full p c done rest → (a q : ℕ) → p ≤ q → q ≤ W → (later : List Bool) → drop a bs ≡ runBits most c (q - p) ++ later
-      → pushRun R bs (line a p c done false) ≡ went (line (a + length (runBits most c (q - p))) q (opposite c) (reached p q c done) false)
+  run-to : {p : ℕ} {c : Colour} {done rest : List ℕ} → Middle W full p c done rest → (a q : ℕ) → p ≤ q → q ≤ W → (later : List Bool) → drop a bs ≡ runBits c (q - p) ++ later
+      → pushRun R bs (line a p c done false) ≡ went (line (a + length (runBits c (q - p))) q (opposite c) (reached p q c done) false)
   unfolding pushRun
   run-to {p} {c} {done} m a q h k later e =
-      ap (afterRun R (line a p c done false)) (read-run most some-most most-fits c (q - p) bs later a (omega arith) e)
-      ∙ turn-to m (a + length (runBits most c (q - p))) a q h k
+      ap (afterRun R (line a p c done false)) (read-run c (q - p) bs later a (omega arith) e)
+      ∙ turn-to m (a + length (runBits c (q - p))) a q h k
 
   -- from a line on, some bits and whatever follows them are read as the row
   record Back (kind : Kind) (s : Line) (xs : List Bool) : Type 0 where
@@ -264,15 +264,15 @@ module _ (most : ℕ) (some-most : 1 ≤ most) (most-fits : most ≤ 40) (R : Ru
   -- ---- 1D lines
 
   -- runs to the changes that are left, and to the width
-  back-1D : (rest : List ℕ) {p : ℕ} {c : Colour} {done : List ℕ} (a : ℕ) → Middle W full p c done rest → p < W → Back one (line a p c done false) (bits1D most W c p rest)
+  back-1D : (rest : List ℕ) {p : ℕ} {c : Colour} {done : List ℕ} (a : ℕ) → Middle W full p c done rest → p < W → Back one (line a p c done false) (bits1D W c p rest)
   unfolding bits1D
   back-1D [] {p} {c} a m before =
-      rw (← append-nil (runBits most c (W - p)))
-      (back-more one (runBits most c (W - p)) before (run-to m a W (omega arith) (omega arith)) refl
+      rw (← append-nil (runBits c (W - p)))
+      (back-more one (runBits c (W - p)) before (run-to m a W (omega arith) (omega arith)) refl
       (back-whole one _ (opposite c) refl (facts (to-change m) .ended refl)))
   back-1D (x ∷ xs) {p} {c} a m before =
       let f = facts m in
-      back-more one (runBits most c (x - p)) before (run-to m a x (head-low (omega arith) (f .rising)) (head-fits (f .rising))) refl
+      back-more one (runBits c (x - p)) before (run-to m a x (head-low (omega arith) (f .rising)) (head-fits (f .rising))) refl
       (back-1D xs _ (to-change m) (below (f .rising)))
     where
       below : Rising W p (x ∷ xs) → x < W
@@ -314,7 +314,7 @@ module _ (most : ℕ) (some-most : 1 ≤ most) (most-fits : most ≤ 40) (R : Ru
     abbrev Codes : ℕ → Type 0
     Codes n =
         (a p : ℕ) (c : Colour) (done rest : List ℕ) → Middle W full p c done rest → W - p + length rest < n
-        → Back (two reference) (line a p c done false) (bits2D most W reference n c p rest)
+        → Back (two reference) (line a p c done false) (bits2D W reference n c p rest)
 
     module _ (n : ℕ) (later : Codes n) (a p : ℕ) (c : Colour) (done rest : List ℕ) (m : Middle W full p c done rest) (fuel : W - p + length rest < suc n) (before : p < W) where
       abbrev s : Line
@@ -342,7 +342,7 @@ module _ (most : ℕ) (some-most : 1 ≤ most) (most-fits : most ≤ 40) (R : Ru
       high = head-fits (f .rising)
 
       -- a pass, to b2
-      back-pass : B2 < a1 → Back (two reference) s (modeBits pass ++ bits2D most W reference n c B2 rest)
+      back-pass : B2 < a1 → Back (two reference) s (modeBits pass ++ bits2D W reference n c B2 rest)
       unfolding apply
       back-pass h =
           back-more (two reference) (modeBits pass) before
@@ -354,7 +354,7 @@ module _ (most : ℕ) (some-most : 1 ≤ most) (most-fits : most ≤ 40) (R : Ru
           far = b2-behind rises p c (omega (arith, high))
 
       -- a vertical mode, to a1
-      back-vertical : near B1 a1 ≡ true → Back (two reference) s (modeBits (verticalTo B1 a1) ++ bits2D most W reference n (opposite c) a1 (tail rest))
+      back-vertical : near B1 a1 ≡ true → Back (two reference) s (modeBits (verticalTo B1 a1) ++ bits2D W reference n (opposite c) a1 (tail rest))
       back-vertical h =
           back-more (two reference) (modeBits mode) before
           (λ more e. code-mode mode (vertical-coded B1 a1 h) s more e t (vertical-to m (a + length (modeBits mode)) a a1 low high) (vertical-idle B1 a1 s t ∙ busy (onward m before)))
@@ -372,13 +372,13 @@ module _ (most : ℕ) (some-most : 1 ≤ most) (most-fits : most ≤ 40) (R : Ru
           busy (inr (q, r)) = rw (q, r) (and-false (eqb a1 0))
 
       -- a horizontal mode, to a1 and a2
-      back-horizontal : Back (two reference) s (modeBits horizontal ++ (runBits most c (a1 - p) ++ (runBits most (opposite c) (a2 - a1) ++ bits2D most W reference n c a2 (tail (tail rest)))))
+      back-horizontal : Back (two reference) s (modeBits horizontal ++ (runBits c (a1 - p) ++ (runBits (opposite c) (a2 - a1) ++ bits2D W reference n c a2 (tail (tail rest)))))
       unfolding apply
       back-horizontal =
           rw regroup
           (back-more (two reference) (M ++ (r₁ ++ r₂)) before code
           (omega (arith, length-append M (r₁ ++ r₂), length-append r₁ r₂))
-          (subst (λ (d : Colour). Back (two reference) t (bits2D most W reference n d a2 (tail (tail rest)))) (opposite-twice c)
+          (subst (λ (d : Colour). Back (two reference) t (bits2D W reference n d a2 (tail (tail rest)))) (opposite-twice c)
           (later (t .at) a2 (t .colour) (t .changes) (tail (tail rest)) (to-change m₁) (omega (arith, shorter before (f .rising), no-longer high (facts m₁ .rising))))))
         where
           m₁ : Middle W full a1 (opposite c) (reached p a1 c done) (tail rest)
@@ -388,13 +388,13 @@ module _ (most : ℕ) (some-most : 1 ≤ most) (most-fits : most ≤ 40) (R : Ru
           M = modeBits horizontal
 
           r₁ : List Bool
-          r₁ = runBits most c (a1 - p)
+          r₁ = runBits c (a1 - p)
 
           r₂ : List Bool
-          r₂ = runBits most (opposite c) (a2 - a1)
+          r₂ = runBits (opposite c) (a2 - a1)
 
           L : List Bool
-          L = bits2D most W reference n c a2 (tail (tail rest))
+          L = bits2D W reference n c a2 (tail (tail rest))
 
           regroup : M ++ (r₁ ++ (r₂ ++ L)) ≡ (M ++ (r₁ ++ r₂)) ++ L
           regroup = simp append-assoc
@@ -418,11 +418,11 @@ module _ (most : ℕ) (some-most : 1 ≤ most) (most-fits : most ≤ 40) (R : Ru
     back-2D zero a p c done rest m fuel = absurd (omega arith)
     back-2D (suc n) a p c done rest m fuel = tests (eqb p W) refl (back-2D n)
       where
-        tests : (b : Bool) → eqb p W ≡ b → Codes n → Back (two reference) (line a p c done false) (bits2D most W reference (suc n) c p rest)
+        tests : (b : Bool) → eqb p W ≡ b → Codes n → Back (two reference) (line a p c done false) (bits2D W reference (suc n) c p rest)
         tests true e later = let q = eqb-true p W e in rw (e, bits2D) (back-whole (two reference) a c q (facts m .ended q))
         tests false e later =
             let before : p < W = omega (arith, facts m .fits, eqb-false p W e) in
-            write-cases most W reference n c p rest (Back (two reference) (line a p c done false)) before
+            write-cases W reference n c p rest (Back (two reference) (line a p c done false)) before
             (back-pass n later a p c done rest m fuel before) (back-vertical n later a p c done rest m fuel before) (back-horizontal n later a p c done rest m fuel before)
 
 -- ---- A line
@@ -437,37 +437,37 @@ abbrev pub Reads : Rules → Kind → List Bool → ℕ → ℕ → List ℕ →
 Reads R kind bs at size row = (colour : Colour) × (readLine R kind bs at ≡ went (line (at + size) (R .width) colour row false))
 
 -- A line that is written is read back: its row, and exactly its bits, whatever stands before and behind them.
-pub read-line : (most : ℕ) → 1 ≤ most → most ≤ 40 → (R : Rules) → 0 < R .width → R .width ≤ 4294967295
+pub read-line : (R : Rules) → 0 < R .width → R .width ≤ 4294967295
     → (kind : Kind) → Proper (R .width) kind → (row : List ℕ) → Rising (R .width) 0 row → length row ≤ R .room
-    → (bs rest : List Bool) (at : ℕ) → drop at bs ≡ lineBits most (R .width) kind row ++ rest
-    → Reads R kind bs at (length (lineBits most (R .width) kind row)) row
+    → (bs rest : List Bool) (at : ℕ) → drop at bs ≡ lineBits (R .width) kind row ++ rest
+    → Reads R kind bs at (length (lineBits (R .width) kind row)) row
 unfolding readLine lineBits
-read-line most some-most most-fits R wide narrow one proper row rises roomy bs rest at e =
-    back-1D most some-most most-fits R narrow bs row roomy row at (starts wide rises) wide .reads rest e
-read-line most some-most most-fits R wide narrow (two reference) proper row rises roomy bs rest at e =
-    back-2D most some-most most-fits R narrow bs row roomy reference proper (suc (R .width + length row)) at 0 white [] row (starts wide rises) (omega arith) .reads rest e
+read-line R wide narrow one proper row rises roomy bs rest at e =
+    back-1D R narrow bs row roomy row at (starts wide rises) wide .reads rest e
+read-line R wide narrow (two reference) proper row rises roomy bs rest at e =
+    back-2D R narrow bs row roomy reference proper (suc (R .width + length row)) at 0 white [] row (starts wide rises) (omega arith) .reads rest e
 
 -- one row is read at a bit
 reads-one : (R : Rules) (kind : Kind) (bs : List Bool) (at m n : ℕ) (row other : List ℕ) → Reads R kind bs at m row → Reads R kind bs at n other → row ≡ other
 reads-one R kind bs at m n row other (c, e) (d, f) =
     ap (λ (l : Line). l .changes) (let g : line (at + m) (R .width) c row false ≡ line (at + n) (R .width) d other false = cc in g)
 
-module _ (most : ℕ) (some-most : 1 ≤ most) (most-fits : most ≤ 40) (width : ℕ) (wide : 0 < width) (narrow : width ≤ 4294967295)
+module _ (width : ℕ) (wide : 0 < width) (narrow : width ≤ 4294967295)
     (kind : Kind) (proper : Proper width kind) (row other : List ℕ) (rises : Rising width 0 row) (rises′ : Rising width 0 other) where
   -- two lines that begin the same bits are of the same row
-  pub rows-same : (rest rest′ : List Bool) → lineBits most width kind row ++ rest ≡ lineBits most width kind other ++ rest′ → row ≡ other
+  pub rows-same : (rest rest′ : List Bool) → lineBits width kind row ++ rest ≡ lineBits width kind other ++ rest′ → row ≡ other
   rows-same rest rest′ e =
-      reads-one R kind (lineBits most width kind row ++ rest) 0 _ _ row other
-      (read-line most some-most most-fits R wide narrow kind proper row rises (omega arith) _ rest 0 refl)
-      (read-line most some-most most-fits R wide narrow kind proper other rises′ (omega arith) _ rest′ 0 e)
+      reads-one R kind (lineBits width kind row ++ rest) 0 _ _ row other
+      (read-line R wide narrow kind proper row rises (omega arith) _ rest 0 refl)
+      (read-line R wide narrow kind proper other rises′ (omega arith) _ rest′ 0 e)
     where
       R : Rules
       R = record { width = width; strict = true; exact = true; room = length row + length other }
 
   -- no two rows share a line
-  pub line-settles : lineBits most width kind row ≡ lineBits most width kind other → row ≡ other
+  pub line-settles : lineBits width kind row ≡ lineBits width kind other → row ≡ other
   line-settles e = rows-same [] [] (ap (λ (l : List Bool). l ++ []) e)
 
   -- no row's line begins another's
-  pub line-begins-none : (rest : List Bool) → lineBits most width kind row ++ rest ≡ lineBits most width kind other → row ≡ other
-  line-begins-none rest e = rows-same rest [] (e ∙ sym (append-nil (lineBits most width kind other)))
+  pub line-begins-none : (rest : List Bool) → lineBits width kind row ++ rest ≡ lineBits width kind other → row ≡ other
+  line-begins-none rest e = rows-same rest [] (e ∙ sym (append-nil (lineBits width kind other)))

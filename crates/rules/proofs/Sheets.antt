@@ -17,7 +17,7 @@ use Rattle.rules.specs.Rows.{Encoding, group4, group3-1D, group3-2D, Set
 use Rattle.rules.specs.Group4.{row4}
 use Rattle.rules.specs.Group3.{betweenTags, row3}
 use Rattle.rules.specs.Pages.{Answer, entries, pageStep, rowOf, readPage, ascendsFrom, decode}
-use Rattle.rules.specs.Write.{mostMakeup, runCodes, codesBits, runBits, bits2D, lineBits, rowsBits, eolBits, eofb, pageBits, toByte, writtenAt, rowsIn, endsRise, allAscend, writes, writePage}
+use Rattle.rules.specs.Write.{runCodes, codesBits, runBits, bits2D, lineBits, rowsBits, eolBits, eofb, pageBits, toByte, writtenAt, rowsIn, endsRise, allAscend, writes, writePage}
 use Rattle.rules.specs.Sheets.{sheets, sameBits, same, sameRows, answers, whites, right, allRight}
 
 pub sheets-right : T (allRight sheets)
@@ -30,11 +30,11 @@ sizes [] = []
 sizes (c ∷ cs) = c .run ∷ sizes cs
 
 -- A6's own example: "Run 1792 was 1728, 64, 0 and becomes 1792, 0"; and 2560 is repeated while it remains.
-pub run-1792 : sizes (runCodes mostMakeup white 1792) ≡ 1792 ∷ 0 ∷ []
+pub run-1792 : sizes (runCodes white 1792) ≡ 1792 ∷ 0 ∷ []
 unfolding whiteTerminating whiteMakeup commonMakeup terminatingOf makeupOf runCodes sizes
 run-1792 = refl
 
-pub run-7000 : sizes (runCodes mostMakeup black 7000) ≡ 2560 ∷ 2560 ∷ 1856 ∷ 24 ∷ []
+pub run-7000 : sizes (runCodes black 7000) ≡ 2560 ∷ 2560 ∷ 1856 ∷ 24 ∷ []
 unfolding blackTerminating blackMakeup commonMakeup terminatingOf makeupOf runCodes sizes
 run-7000 = refl
 

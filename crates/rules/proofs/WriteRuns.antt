@@ -12,7 +12,7 @@ use borrow.Author.Tests.{lt-ltb, le-ltb}
 use Rattle.rules.specs.Machine.{Out, more, done, ends}
 use Rattle.rules.specs.Codes.{Colour, white, black, Code, codeBits, codeAt, terminatingOf, makeupOf, codesOf}
 use Rattle.rules.specs.Runs.{Res, ok, fault, Sum, sum, runStep, bitsAfter, answer, readRun, For, Made, last, next}
-use Rattle.rules.specs.Write.{terminating, makeup, wholes, runCodes, codesBits, runBits}
+use Rattle.rules.specs.Write.{mostMakeup, terminating, makeup, wholes, runCodes, codesBits, runBits}
 use Rattle.rules.proofs.Machine.{ends-more, ends-done, ends-ind, ends-stops}
 use Rattle.rules.proofs.Bits.{drop-after, fits-after}
 use Rattle.rules.proofs.Codes.{both, shape, length-codeBits}
@@ -69,18 +69,18 @@ made-ending colour zero t h k = subst (λ (n : ℕ). Made colour n (terminating 
 made-ending colour (suc m) t h k = next (makeup-for colour (suc m) (omega arith) h) (omega arith) (last (terminating-for colour t k) k)
 
 -- a run's codes are such, and sum to it
-pub made-run : (most : ℕ) → 1 ≤ most → most ≤ 40 → (colour : Colour) (n : ℕ) → Made colour n (runCodes most colour n)
+pub made-run : (colour : Colour) (n : ℕ) → Made colour n (runCodes colour n)
 unfolding runCodes
-made-run most some-most most-fits colour n =
-    subst (λ (t : ℕ). Made colour t (runCodes most colour n)) sums
-    (made-repeated (n / (64 * most)) (makeup-for colour most some-most most-fits) (omega arith)
-    (made-ending colour (n % (64 * most) / 64) (n % 64) (omega (arith, left)) (omega arith)))
+made-run colour n =
+    subst (λ (t : ℕ). Made colour t (runCodes colour n)) sums
+    (made-repeated (n / (64 * mostMakeup)) (makeup-for colour mostMakeup (omega arith) (omega arith)) (omega arith)
+    (made-ending colour (n % (64 * mostMakeup) / 64) (n % 64) (omega (arith, left)) (omega arith)))
   where
-    left : n % (64 * most) < 64 * most
+    left : n % (64 * mostMakeup) < 64 * mostMakeup
     left = mod-lt n (omega arith)
 
-    sums : n / (64 * most) * (64 * most) + (64 * (n % (64 * most) / 64) + n % 64) ≡ n
-    sums = rw (← mod-mod-of-dvd 64 n (dvd-mul-right 64 most)) (omega (arith, div-add-mod' n (64 * most)))
+    sums : n / (64 * mostMakeup) * (64 * mostMakeup) + (64 * (n % (64 * mostMakeup) / 64) + n % 64) ≡ n
+    sums = rw (← mod-mod-of-dvd 64 n (dvd-mul-right 64 mostMakeup)) (omega (arith, div-add-mod' n (64 * mostMakeup)))
 
 -- ---- What is written is read back
 
@@ -168,7 +168,7 @@ module _ (colour : Colour) (bs : List Bool) where
       (w .1, subst (λ (n : ℕ). Made colour n (w .1)) (let q : w .0 ≡ r .total = omega (arith, w .4) in q) (w .2), w .3)
 
 -- a run's bits are read as the run, whatever follows
-pub read-run : (most : ℕ) → 1 ≤ most → most ≤ 40 → (colour : Colour) (n : ℕ) (bs rest : List Bool) (at : ℕ) → n ≤ 4294967295
-    → drop at bs ≡ runBits most colour n ++ rest → readRun colour bs at ≡ ok (sum (at + length (runBits most colour n)) n)
+pub read-run : (colour : Colour) (n : ℕ) (bs rest : List Bool) (at : ℕ) → n ≤ 4294967295
+    → drop at bs ≡ runBits colour n ++ rest → readRun colour bs at ≡ ok (sum (at + length (runBits colour n)) n)
 unfolding runBits
-read-run most some-most most-fits colour n bs rest at h e = read-codes colour bs at rest (made-run most some-most most-fits colour n) e h
+read-run colour n bs rest at h e = read-codes colour bs at rest (made-run colour n) e h

@@ -67,9 +67,9 @@ module _ (columns : ℕ) (good : Bool) (xs : List Bool) (end : ℕ) (out : List 
 
 -- ---- A Group 3 writer, whose caller's number is tested too
 
-module _ (most : ℕ) (layout : Layout) (fine : Bool) (columns : ℕ) (changes ends out : List ℕ) where
+module _ (layout : Layout) (fine : Bool) (columns : ℕ) (changes ends out : List ℕ) where
   abbrev pub bits3 : List Bool
-  bits3 = page3Bits most columns layout (rowsIn 0 changes ends)
+  bits3 = page3Bits columns layout (rowsIn 0 changes ends)
 
   abbrev good : Bool
   good = someGood columns changes ends
@@ -82,7 +82,7 @@ module _ (most : ℕ) (layout : Layout) (fine : Bool) (columns : ℕ) (changes e
       → (noLine columns ≡ false → length out ≤ mostBytes → fine ≡ true → good ≡ true → 8 * length out < 0 + length bits3 → C (unwritten 9 out))
       → (noLine columns ≡ false → length out ≤ mostBytes → fine ≡ true → good ≡ true → 0 + length bits3 ≤ 8 * length out
       → C (done columns good bits3 (bytesTo (length bits3)) out 0))
-      → C (writeGroup3 most layout fine columns changes ends out)
+      → C (writeGroup3 layout fine columns changes ends out)
   unfolding writeGroup3
   write3-cases C six seven ten eight nine zero′ = tests fine refl (noLine columns) refl (ltb mostBytes (length out)) refl
     where

@@ -10,16 +10,16 @@ use Rattle.rules.specs.Rows.{recoveredMark}
 use Rattle.rules.specs.Write.{lineBits, eolBits}
 use Rattle.rules.specs.Damage.{owns, upTo}
 
-module _ (most width fill : ℕ) where
+module _ (width fill : ℕ) where
   -- The cut fell between two lines: right behind the last of these rows' lines, of which there are some, or right behind the EOL that follows it. So no row is cut, and nothing but the number of rows
   -- tells.
   abbrev pub BetweenLines : List (List ℕ) → List Bool → Type 0
-  BetweenLines first bits = (0 < length first) × ((bits ++ (replicate fill false ++ eolBits) ≡ upTo most width fill (owns first)) ⊎ (bits ≡ upTo most width fill (owns first)))
+  BetweenLines first bits = (0 < length first) × ((bits ++ (replicate fill false ++ eolBits) ≡ upTo width fill (owns first)) ⊎ (bits ≡ upTo width fill (owns first)))
 
   -- the cut fell before the end of the line behind these rows, if there is one: all lines that arrived whole are theirs
   abbrev pub CutBefore : List (List ℕ) → List (List ℕ) → List Bool → Type 0
   CutBefore first [] bits = Unit {0}
-  CutBefore first (r ∷ rs) bits = length bits < length (upTo most width fill (owns first)) + length (lineBits most width one r)
+  CutBefore first (r ∷ rs) bits = length bits < length (upTo width fill (owns first)) + length (lineBits width one r)
 
   -- Of a page of these rows only the bits arrived: the answer's number, the rows given, and their marks.
   pub data CutTold (rows : List (List ℕ)) (bits : List Bool) : ℕ → List (List ℕ) → List ℕ → Type 0 where

@@ -42,9 +42,9 @@ unfoldable pub owns : List (List ℕ) → List Arrived
 owns [] = []
 owns (r ∷ rs) = own r ∷ owns rs
 
-module _ (most width : ℕ) where
+module _ (width : ℕ) where
   abbrev pub arrivedBits : Arrived → List Bool
-  arrivedBits (own row) = lineBits most width one row
+  arrivedBits (own row) = lineBits width one row
   arrivedBits (other bits) = bits
 
   unfoldable pub arrivedLines : List Arrived → List CodedLine

@@ -31,9 +31,9 @@ abbrev pub kindOf : Bool → List ℕ → Kind
 kindOf true above = one
 kindOf false above = two above
 
-module _ (most width : ℕ) where
+module _ (width : ℕ) where
   abbrev pub arrivedBits2D : List ℕ → Arrived2D → List Bool
-  arrivedBits2D above (own2D tag row) = lineBits most width (kindOf tag above) row
+  arrivedBits2D above (own2D tag row) = lineBits width (kindOf tag above) row
   arrivedBits2D above (other2D row tag bits) = bits
 
   -- ---- The page

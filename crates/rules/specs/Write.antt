@@ -1,5 +1,5 @@
 -- The T.6 writers: the bits of a run, of a line and of a page, and what stands in the output afterwards (T.4 4.1.1, T.6 2.2; 01 "One line", "The row
--- store and what the desk says"). `most` says how long the longest make-up code that is written is: `most` × 64 pixels.
+-- store and what the desk says").
 use mathlib.Core.Bool.{Bool, true, false, cond, _&&_}
 use mathlib.Core.List.{List, [], _∷_, _++_}
 use Prim.Native.Nat.{ℕ, zero, suc, _+_, _-_, _*_, _/_, _%_}
@@ -31,16 +31,16 @@ wholes colour zero = []
 wholes colour (suc m) = makeup colour (suc m) ∷ []
 
 -- "A run repeats 2560 while at least 2560 remains, then takes the make-up for the whole 64s left, if any, then the terminating code." (A6)
-unfoldable pub runCodes : ℕ → Colour → ℕ → List Code
-runCodes most colour n =
-    replicate (n / (64 * most)) (makeup colour most) ++ (wholes colour (n % (64 * most) / 64) ++ terminating colour (n % 64) ∷ [])
+unfoldable pub runCodes : Colour → ℕ → List Code
+runCodes colour n =
+    replicate (n / (64 * mostMakeup)) (makeup colour mostMakeup) ++ (wholes colour (n % (64 * mostMakeup) / 64) ++ terminating colour (n % 64) ∷ [])
 
 unfoldable pub codesBits : List Code → List Bool
 codesBits [] = []
 codesBits (c ∷ cs) = codeBits c ++ codesBits cs
 
-unfoldable pub runBits : ℕ → Colour → ℕ → List Bool
-runBits most colour n = codesBits (runCodes most colour n)
+unfoldable pub runBits : Colour → ℕ → List Bool
+runBits colour n = codesBits (runCodes colour n)
 
 -- ---- A line
 
@@ -51,11 +51,11 @@ verticalTo b1 a1 = cond (leb b1 a1) (VR (a1 - b1)) (VL (b1 - a1))
 abbrev pub near : ℕ → ℕ → Bool
 near b1 a1 = leb a1 (b1 + 3) && leb b1 (a1 + 3)
 
-module _ (most width : ℕ) where
+module _ (width : ℕ) where
   -- 1D: runs of alternating colour, from a position on, to each change that is left and then to the width
   unfoldable pub bits1D : Colour → ℕ → List ℕ → List Bool
-  bits1D colour position [] = runBits most colour (width - position)
-  bits1D colour position (x ∷ xs) = runBits most colour (x - position) ++ bits1D (opposite colour) x xs
+  bits1D colour position [] = runBits colour (width - position)
+  bits1D colour position (x ∷ xs) = runBits colour (x - position) ++ bits1D (opposite colour) x xs
 
   -- 2D, with at most n codes: from a position, in its colour, with the changes that are left; the first of these is a1, the second a2.
   -- "if b2 < a1, pass; else if a1 and b1 differ by at most 3, vertical; else horizontal with runs a0a1 and a1a2, a0 counted as 0 at the
@@ -75,8 +75,8 @@ module _ (most width : ℕ) where
                         ++ bits2D reference n (opposite colour) (headOr width rest) (tail rest)
                     | false ↦
                         modeBits horizontal
-                        ++ (runBits most colour (headOr width rest - position)
-                        ++ (runBits most (opposite colour) (headOr width (tail rest) - headOr width rest)
+                        ++ (runBits colour (headOr width rest - position)
+                        ++ (runBits (opposite colour) (headOr width (tail rest) - headOr width rest)
                         ++ bits2D reference n colour (headOr width (tail rest)) (tail (tail rest))))
                   ]
             ]
@@ -102,8 +102,8 @@ unfoldable pub eofb : List Bool
 eofb = eolBits ++ eolBits
 
 -- "A page starts from a white reference and ends with EOFB"
-unfoldable pub pageBits : ℕ → ℕ → List (List ℕ) → List Bool
-pageBits most width rows = rowsBits most width [] rows ++ eofb
+unfoldable pub pageBits : ℕ → List (List ℕ) → List Bool
+pageBits width rows = rowsBits width [] rows ++ eofb
 
 -- ---- The output
 
@@ -144,9 +144,9 @@ writes columns good xs end out at =
     ]
 
 -- 8 for a line: its reference or its row does not ascend; a 0 gives the bit after it
-unfoldable pub writeLine : ℕ → ℕ → List ℕ → List ℕ → List ℕ → ℕ → Written
-writeLine most columns reference row out at =
-    let xs = lineBits most columns (two reference) row in
+unfoldable pub writeLine : ℕ → List ℕ → List ℕ → List ℕ → ℕ → Written
+writeLine columns reference row out at =
+    let xs = lineBits columns (two reference) row in
     writes columns (ascends columns reference && ascends columns row) xs (at + length xs) out at
 
 -- the rows of a store, by their ends
@@ -164,7 +164,7 @@ allAscend width [] = true
 allAscend width (r ∷ rs) = ascends width r && allAscend width rs
 
 -- as many rows as there are row ends; from byte 0 on; a 0 gives the page's bytes
-unfoldable pub writePage : ℕ → ℕ → List ℕ → List ℕ → List ℕ → Written
-writePage most columns changes ends out =
-    let xs = pageBits most columns (rowsIn 0 changes ends) in
+unfoldable pub writePage : ℕ → List ℕ → List ℕ → List ℕ → Written
+writePage columns changes ends out =
+    let xs = pageBits columns (rowsIn 0 changes ends) in
     writes columns (endsRise (length changes) 0 ends && allAscend columns (rowsIn 0 changes ends)) xs (bytesTo (length xs)) out 0

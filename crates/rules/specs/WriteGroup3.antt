@@ -41,11 +41,11 @@ leftNext k zero = k - 1
 leftNext k (suc left) = left
 
 -- the line of each row, under the one before it
-module _ (most width k : ℕ) where
+module _ (width k : ℕ) where
   unfoldable pub codedLines : ℕ → List ℕ → List (List ℕ) → List CodedLine
   codedLines left reference [] = []
   codedLines left reference (r ∷ rs) =
-      record { kind = kindNext left reference; bits = lineBits most width (kindNext left reference) r } ∷ codedLines (leftNext k left) r rs
+      record { kind = kindNext left reference; bits = lineBits width (kindNext left reference) r } ∷ codedLines (leftNext k left) r rs
 
 -- ---- What stands around them
 
@@ -77,8 +77,8 @@ framed layout [] = ending layout
 framed layout (l ∷ ls) = ahead layout (l .kind) ++ (l .bits ++ framed layout ls)
 
 -- "A page starts from a white reference"; a 1D line is first
-unfoldable pub page3Bits : ℕ → ℕ → Layout → List (List ℕ) → List Bool
-page3Bits most width layout rows = framed layout (codedLines most width (kOf layout) 0 [] rows)
+unfoldable pub page3Bits : ℕ → Layout → List (List ℕ) → List Bool
+page3Bits width layout rows = framed layout (codedLines width (kOf layout) 0 [] rows)
 
 -- ---- The writers
 
@@ -88,9 +88,9 @@ someGood columns changes ends = ltb 0 (length ends) && (endsRise (length changes
 
 -- 10, "tested after 7", where the caller's number is not `allowed` and neither 6 nor 7 comes first; else as the other writers. From byte 0 on; a 0 gives
 -- the page's bytes.
-unfoldable pub writeGroup3 : ℕ → Layout → Bool → ℕ → List ℕ → List ℕ → List ℕ → Written
-writeGroup3 most layout allowed columns changes ends out =
-    let xs = page3Bits most columns layout (rowsIn 0 changes ends) in
+unfoldable pub writeGroup3 : Layout → Bool → ℕ → List ℕ → List ℕ → List ℕ → Written
+writeGroup3 layout allowed columns changes ends out =
+    let xs = page3Bits columns layout (rowsIn 0 changes ends) in
     elim (allowed || (noLine columns || ltb mostBytes (length out))) [
       | false ↦ unwritten badNumber out
       | true ↦ writes columns (someGood columns changes ends) xs (bytesTo (length xs)) out 0
@@ -100,9 +100,9 @@ writeGroup3 most layout allowed columns changes ends out =
 abbrev pub layout1D : Bool → ℕ → Layout
 layout1D eols fill = cond eols (filled fill) bare
 
-unfoldable pub write1D : ℕ → Bool → ℕ → ℕ → List ℕ → List ℕ → List ℕ → Written
-write1D most eols fill = writeGroup3 most (layout1D eols fill) (leb fill 64)
+unfoldable pub write1D : Bool → ℕ → ℕ → List ℕ → List ℕ → List ℕ → Written
+write1D eols fill = writeGroup3 (layout1D eols fill) (leb fill 64)
 
 -- A10: "a caller's K from 1 to 65,535 .. Any other K answers 10"
-unfoldable pub write2D : ℕ → ℕ → ℕ → List ℕ → List ℕ → List ℕ → Written
-write2D most k = writeGroup3 most (mixed k) (leb 1 k && leb k 65535)
+unfoldable pub write2D : ℕ → ℕ → List ℕ → List ℕ → List ℕ → Written
+write2D k = writeGroup3 (mixed k) (leb 1 k && leb k 65535)

@@ -10,7 +10,6 @@ use borrow.Author.Tests.{lt-ltb, le-ltb, leb-true}
 use Rattle.rules.specs.Rows.{bytesTo}
 use Rattle.rules.specs.Pages as Page
 use Rattle.rules.specs.Pages.{noLine, mostBytes}
-use Rattle.rules.specs.Write.{mostMakeup}
 use Rattle.rules.specs.WriteGroup3.{Layout, mixed, someGood, writeGroup3, layout1D, write1D, write2D}
 use Rattle.rules.proofs.Writes.{write3-cases}
 use Rattle.answer.specs.Answer.{answerOf}
@@ -33,7 +32,7 @@ module _ (columns : ℕ) (changes ends : List ℕ) where
 
 module _ (layout : Layout) (columns : ℕ) (changes ends out : List ℕ) where
   -- where the number is allowed, the answer is `writes` of the page's bits
-  pub group3-writing : (fine : Bool) → fine ≡ true → Writing (writeGroup3 mostMakeup layout fine columns changes ends out) columns out (someGood columns changes ends) 0
+  pub group3-writing : (fine : Bool) → fine ≡ true → Writing (writeGroup3 layout fine columns changes ends out) columns out (someGood columns changes ends) 0
       (page3Of layout columns changes ends) (bytesTo (length (page3Of layout columns changes ends)))
   unfolding writeGroup3
   group3-writing true e = record { is = refl }
@@ -41,12 +40,12 @@ module _ (layout : Layout) (columns : ℕ) (changes ends out : List ℕ) where
 
   module _ (fine : Bool) where
     abbrev Said : Answer → Type 0
-    Said r = Answers (writeGroup3 mostMakeup layout fine columns changes ends out) out r out
+    Said r = Answers (writeGroup3 layout fine columns changes ends out) out r out
 
     -- 6 and 7, whether it is or not
     pub refused3-first : {r : Answer} (n : ℕ) → n ≡ firstTests columns (length out) → (n ≡ 0 → ⊥) → r ≡ answerOf (Page.refusal n) → Said r
     refused3-first {r} n e h f =
-        write3-cases mostMakeup layout fine columns changes ends out (λ w. Answers w out r out)
+        write3-cases layout fine columns changes ends out (λ w. Answers w out r out)
         (λ i. refuses 6 refl (same (rw i)) refl)
         (λ i l. refuses 7 refl (same (rw (i, lt-ltb mostBytes (length out) l))) refl)
         (λ i l g. absurd (passed i l))
@@ -63,7 +62,7 @@ module _ (layout : Layout) (columns : ℕ) (changes ends out : List ℕ) where
     -- 10 where it is not
     pub refused-10 : {r : Answer} → fine ≡ false → First columns (length out) → r ≡ answerOf (Page.refusal 10) → Said r
     refused-10 {r} e first f =
-        write3-cases mostMakeup layout fine columns changes ends out (λ w. Answers w out r out)
+        write3-cases layout fine columns changes ends out (λ w. Answers w out r out)
         (λ i. absurd (true≢false (sym i ∙ first .line)))
         (λ i l. absurd (omega (arith, first .small)))
         (λ i l g. refuses 10 refl f refl)
@@ -72,8 +71,8 @@ module _ (layout : Layout) (columns : ℕ) (changes ends out : List ℕ) where
         (λ i l g j k. absurd (true≢false (sym g ∙ e)))
 
   -- where it is, what was answered then
-  pub answers-3 : (fine : Bool) → fine ≡ true → {r : Answer} {out′ : List ℕ} → Answers (writeGroup3 mostMakeup layout true columns changes ends out) out r out′
-      → Answers (writeGroup3 mostMakeup layout fine columns changes ends out) out r out′
+  pub answers-3 : (fine : Bool) → fine ≡ true → {r : Answer} {out′ : List ℕ} → Answers (writeGroup3 layout true columns changes ends out) out r out′
+      → Answers (writeGroup3 layout fine columns changes ends out) out r out′
   answers-3 true e a = a
   answers-3 false e a = absurd (true≢false (sym e))
 
@@ -84,10 +83,10 @@ laid-1D true fill e h = subst Laid (sym e) (leb-true fill 64 h)
 laid-1D false fill e h = subst Laid (sym e) tt
 
 pub answers-1D : {layout : Layout} (eols : Bool) (fill columns : ℕ) (changes ends out : List ℕ) {r : Answer} {out′ : List ℕ} → layout ≡ layout1D eols fill
-    → Answers (writeGroup3 mostMakeup layout (leb fill 64) columns changes ends out) out r out′
-    → Answers (write1D mostMakeup eols fill columns changes ends out) out r out′
+    → Answers (writeGroup3 layout (leb fill 64) columns changes ends out) out r out′
+    → Answers (write1D eols fill columns changes ends out) out r out′
 unfolding write1D
-answers-1D eols fill columns changes ends out {r} {out′} e = subst (λ (l : Layout). Answers (writeGroup3 mostMakeup l (leb fill 64) columns changes ends out) out r out′) e
+answers-1D eols fill columns changes ends out {r} {out′} e = subst (λ (l : Layout). Answers (writeGroup3 l (leb fill 64) columns changes ends out) out r out′) e
 
 -- ---- A10: K from 1 to 65,535
 
@@ -99,7 +98,7 @@ laid-2D k fine e f = tests (leb 1 k) (leb-true 1 k) (sym e ∙ f)
     tests false g h = absurd (true≢false (sym h))
 
 pub answers-2D : (k : ℕ) (fine : Bool) → fine ≡ (leb 1 k && leb k 65535) → (columns : ℕ) (changes ends out : List ℕ) {r : Answer} {out′ : List ℕ}
-    → Answers (writeGroup3 mostMakeup (mixed k) fine columns changes ends out) out r out′
-    → Answers (write2D mostMakeup k columns changes ends out) out r out′
+    → Answers (writeGroup3 (mixed k) fine columns changes ends out) out r out′
+    → Answers (write2D k columns changes ends out) out r out′
 unfolding write2D
-answers-2D k fine e columns changes ends out {r} {out′} = subst (λ (b : Bool). Answers (writeGroup3 mostMakeup (mixed k) b columns changes ends out) out r out′) e
+answers-2D k fine e columns changes ends out {r} {out′} = subst (λ (b : Bool). Answers (writeGroup3 (mixed k) b columns changes ends out) out r out′) e

@@ -11,7 +11,7 @@ use lib.Dec.{ltb}
 use borrow.Author.Tests.{ltb-true, ltb-false}
 use Rattle.rules.specs.Codes.{Colour, white, opposite}
 use Rattle.rules.specs.Lines.{Kind}
-use Rattle.rules.specs.Write.{mostMakeup, runBits, bits1D, lineBits, rowsBits, eolBits, eofb, pageBits, rowsIn}
+use Rattle.rules.specs.Write.{runBits, bits1D, lineBits, rowsBits, eolBits, eofb, pageBits, rowsIn}
 use Rattle.rules.specs.WriteGroup3.{Layout, bare, filled, mixed, kOf, kindNext, leftNext, codedLines, ahead, times, ending, framed, page3Bits}
 use Rattle.rules.specs.Rising.{Rising, none, some}
 use Rattle.rules.proofs.Ascending.{rises-lower}
@@ -28,13 +28,13 @@ use Rattle.row_store.proofs.GoodRows.{rowTo, good}
 
 -- a terminating code to each run, and a make-up code to each 64 pixels
 runs-few : (width : ℕ) (c : Colour) (p : ℕ) (rest : List ℕ) → p ≤ width → Rising width p rest
-    → length (bits1D mostMakeup width c p rest) ≤ 13 * length rest + 13 + 13 * ((width - p) / 64)
+    → length (bits1D width c p rest) ≤ 13 * length rest + 13 + 13 * ((width - p) / 64)
 unfolding bits1D
 runs-few width c p [] k none = omega (arith, run-few c (width - p))
 runs-few width c p (x ∷ xs) k (some a b r) =
     omega (
       arith,
-      length-append (runBits mostMakeup c (x - p)) (bits1D mostMakeup width (opposite c) x xs),
+      length-append (runBits c (x - p)) (bits1D width (opposite c) x xs),
       run-few c (x - p),
       runs-few width (opposite c) x xs (omega arith) (rises-lower (omega arith) r),
     )
@@ -68,7 +68,7 @@ row-length changes base end h k = length-take-le (end - base) (drop base changes
 module _ (width : ℕ) (changes : List ℕ) where
   -- of a T.6 page
   rows-few : (above : List ℕ) (base : ℕ) (ends : List ℕ) → Rising width 0 above → goodRows width changes base ends ≡ true
-      → length (rowsBits mostMakeup width above (rowsIn base changes ends)) + 17 * base ≤ 2 * length above + 17 * lastEnd base ends + length ends * mostRow width
+      → length (rowsBits width above (rowsIn base changes ends)) + 17 * base ≤ 2 * length above + 17 * lastEnd base ends + length ends * mostRow width
   unfolding rowsBits rowsIn lastEnd
   rows-few above base [] rises g = omega arith
   rows-few above base (e ∷ es) rises g =
@@ -76,7 +76,7 @@ module _ (width : ℕ) (changes : List ℕ) where
       let row = rowTo changes base e in
       omega (
         arith,
-        length-append (lineOf width above row) (rowsBits mostMakeup width row (rowsIn e changes es)),
+        length-append (lineOf width above row) (rowsBits width row (rowsIn e changes es)),
         line-few width above row rises (t .rises),
         row-length changes base e (t .low) (t .high),
         t .low,
@@ -86,18 +86,18 @@ module _ (width : ℕ) (changes : List ℕ) where
 
   -- of a Group 3 page, with its end
   framed-few : (layout : Layout) → Laid layout → (left : ℕ) (above : List ℕ) (base : ℕ) (ends : List ℕ) → Rising width 0 above → goodRows width changes base ends ≡ true
-      → length (framed layout (codedLines mostMakeup width (kOf layout) left above (rowsIn base changes ends))) + 17 * base
+      → length (framed layout (codedLines width (kOf layout) left above (rowsIn base changes ends))) + 17 * base
       ≤ 2 * length above + 17 * lastEnd base ends + length ends * mostRow width + 136
   unfolding framed codedLines rowsIn lastEnd
   framed-few layout laid left above base [] rises g = omega (arith, end-few layout laid)
   framed-few layout laid left above base (e ∷ es) rises g =
       let t = good width changes base (e ∷ es) 0 (omega arith) g in
       let row = rowTo changes base e in
-      let others = framed layout (codedLines mostMakeup width (kOf layout) (leftNext (kOf layout) left) row (rowsIn e changes es)) in
+      let others = framed layout (codedLines width (kOf layout) (leftNext (kOf layout) left) row (rowsIn e changes es)) in
       omega (
         arith,
-        length-append (ahead layout (kindNext left above)) (lineBits mostMakeup width (kindNext left above) row ++ others),
-        length-append (lineBits mostMakeup width (kindNext left above) row) others,
+        length-append (ahead layout (kindNext left above)) (lineBits width (kindNext left above) row ++ others),
+        length-append (lineBits width (kindNext left above) row) others,
         ahead-few layout laid (kindNext left above),
         either left row (t .rises),
         row-length changes base e (t .low) (t .high),
@@ -107,7 +107,7 @@ module _ (width : ℕ) (changes : List ℕ) where
       )
     where
       either : (left : ℕ) (row : List ℕ) → Rising width 0 row
-          → length (lineBits mostMakeup width (kindNext left above) row) ≤ 2 * length above + 15 * length row + 13 * (width / 64) + 30
+          → length (lineBits width (kindNext left above) row) ≤ 2 * length above + 15 * length row + 13 * (width / 64) + 30
       either zero row r = kind-few width true above row rises r
       either (suc left) row r = kind-few width false above row rises r
 
@@ -116,7 +116,7 @@ module _ (width : ℕ) (changes : List ℕ) where
   module _ (ends : List ℕ) (g : goodRows width changes 0 ends ≡ true) where
     pub page-few : length (pageOf width changes ends) ≤ mostBits width (length ends) (lastEnd 0 ends)
     unfolding pageBits eofb eolBits
-    page-few = omega (arith, length-append (rowsBits mostMakeup width [] (rowsIn 0 changes ends)) eofb, rows-few [] 0 ends none g)
+    page-few = omega (arith, length-append (rowsBits width [] (rowsIn 0 changes ends)) eofb, rows-few [] 0 ends none g)
 
     pub page3-few : (layout : Layout) → Laid layout → length (page3Of layout width changes ends) ≤ mostBits width (length ends) (lastEnd 0 ends)
     unfolding page3Bits

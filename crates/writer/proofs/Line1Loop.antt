@@ -8,7 +8,7 @@ use native.Mathlib.Numerals.{add-one}
 use lib.ListN.{length, getD, drop, drop-of-length-le}
 use lib.Seq.{drop-cons}
 use Rattle.rules.specs.Codes.{Colour, opposite}
-use Rattle.rules.specs.Write.{mostMakeup, runBits, bits1D, lineBits}
+use Rattle.rules.specs.Write.{runBits, bits1D, lineBits}
 use Rattle.rules.specs.Rising.{Rising, some}
 use Rattle.rules.proofs.Ascending.{rises-lower}
 use Rattle.tables.specs.Tables.{colourOf}
@@ -22,7 +22,7 @@ pub record Going1 (write : Bool) (width : ℕ) (row : List ℕ) (from : ℕ) (st
   pub fits : position ≤ width
   pub rises : Rising width position (drop place row)
   pub coloured : colour ≤ 1
-  pub owes : Owes write next (bits1D mostMakeup width (colourOf colour) position (drop place row)) out from (line1Of width row) start
+  pub owes : Owes write next (bits1D width (colourOf colour) position (drop place row)) out from (line1Of width row) start
 
 -- before the first
 pub begin1 : {write : Bool} {width : ℕ} {row : List ℕ} {at bytes : ℕ} (out : List ℕ) → Rowed write width [] row (line1Of width row) at bytes → Going1 write width row at out at 0 0 0 out
@@ -38,14 +38,14 @@ module _ {write : Bool} {width : ℕ} {row : List ℕ} {from : ℕ} {start : Lis
     change = getD row place 0
 
     abbrev this : List Bool
-    this = runBits mostMakeup (colourOf colour) (change - position)
+    this = runBits (colourOf colour) (change - position)
 
     abbrev others : List Bool
-    others = bits1D mostMakeup width (opposite (colourOf colour)) change (drop (place + 1) row)
+    others = bits1D width (opposite (colourOf colour)) change (drop (place + 1) row)
 
-    rest-is : bits1D mostMakeup width (colourOf colour) position (drop place row) ≡ this ++ others
+    rest-is : bits1D width (colourOf colour) position (drop place row) ≡ this ++ others
     unfolding bits1D
-    rest-is = ap (bits1D mostMakeup width (colourOf colour) position) (drop-cons row place 0 h) ∙ rw (add-one place)
+    rest-is = ap (bits1D width (colourOf colour) position) (drop-cons row place 0 h) ∙ rw (add-one place)
 
     -- the change lies from the position on and below the width, and the others behind it
     ahead : (position ≤ change) × (change < width) × Rising width (suc change) (drop (place + 1) row)
@@ -66,7 +66,7 @@ module _ {write : Bool} {width : ℕ} {row : List ℕ} {from : ℕ} {start : Lis
       rises = rises-lower (omega arith) (ahead .2);
       coloured = omega arith;
       owes =
-          subst (λ (c : Colour). Owes write r (bits1D mostMakeup width c change (drop (place + 1) row)) out′ from (line1Of width row) start)
+          subst (λ (c : Colour). Owes write r (bits1D width c change (drop (place + 1) row)) out′ from (line1Of width row) start)
           (sym (colour-turns colour (g .coloured)))
           (owes-put (g .owes) this others rest-is (l .room .inside) p);
     }
@@ -74,12 +74,12 @@ module _ {write : Bool} {width : ℕ} {row : List ℕ} {from : ℕ} {start : Lis
   -- ---- The run to the width
 
   module _ (h : length row ≤ place) where
-    end-is : bits1D mostMakeup width (colourOf colour) position (drop place row) ≡ runBits mostMakeup (colourOf colour) (width - position)
+    end-is : bits1D width (colourOf colour) position (drop place row) ≡ runBits (colourOf colour) (width - position)
     unfolding bits1D
-    end-is = ap (bits1D mostMakeup width (colourOf colour) position) (drop-of-length-le row h)
+    end-is = ap (bits1D width (colourOf colour) position) (drop-of-length-le row h)
 
-    pub end-room : Room write next (length (runBits mostMakeup (colourOf colour) (width - position))) (length out)
+    pub end-room : Room write next (length (runBits (colourOf colour) (width - position))) (length out)
     end-room = last-room (g .owes) _ end-is (l .room)
 
-    pub ended1 : {r : ℕ} {out′ : List ℕ} → Puts write next (runBits mostMakeup (colourOf colour) (width - position)) out r out′ → Puts write from (line1Of width row) start r out′
+    pub ended1 : {r : ℕ} {out′ : List ℕ} → Puts write next (runBits (colourOf colour) (width - position)) out r out′ → Puts write from (line1Of width row) start r out′
     ended1 p = owes-last (g .owes) _ end-is p

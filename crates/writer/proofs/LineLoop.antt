@@ -9,7 +9,7 @@ use Rattle.rules.specs.Bits.{bitsFor, bitsOf}
 use Rattle.rules.specs.Codes.{Colour, opposite}
 use Rattle.rules.specs.Modes.{pass, horizontal, modeBits}
 use Rattle.rules.specs.Lines.{rightOfA0, headOr, tail}
-use Rattle.rules.specs.Write.{mostMakeup, runBits, verticalTo, bits2D, lineBits}
+use Rattle.rules.specs.Write.{runBits, verticalTo, bits2D, lineBits}
 use Rattle.rules.specs.Rising.{Rising}
 use Rattle.rules.proofs.Ascending.{rises-lower, head-low, head-fits, tail-rises}
 use Rattle.tables.specs.Tables.{colourOf}
@@ -40,7 +40,7 @@ drop-two xs i =
 
 -- the runs, in the line's colour and in the other
 abbrev pub bothRuns : Colour → ℕ → ℕ → List Bool
-bothRuns colour first second = runBits mostMakeup colour first ++ runBits mostMakeup (opposite colour) second
+bothRuns colour first second = runBits colour first ++ runBits (opposite colour) second
 
 module _ {write : Bool} {at : ℕ} (colour : Colour) (first second : ℕ) (start : List ℕ)
     (room : Room write at (length (across colour first second)) (length start))
@@ -68,7 +68,7 @@ pub record Going (write : Bool) (width : ℕ) (reference row : List ℕ) (from :
   pub rises : Rising width position (drop place row)
   pub coloured : colour ≤ 1
   pub passed : Passed (rightOfA0 position) seen reference
-  pub owes : Owes write next (bits2D mostMakeup width reference fuel (colourOf colour) position (drop place row)) out from (lineOf width reference row) start
+  pub owes : Owes write next (bits2D width reference fuel (colourOf colour) position (drop place row)) out from (lineOf width reference row) start
   pub zeros : 0 < position → inked write next [] (bitsOf out) ≡ bitsOf out
 
 -- before the first
@@ -114,9 +114,9 @@ module _ {write : Bool} {width : ℕ} {reference row : List ℕ} {from : ℕ} {s
     unfolding n
     one-less = let q = g .enough in omega arith
 
-    rest-is : bits2D mostMakeup width reference (g .fuel) (colourOf colour) position (drop place row)
-        ≡ xs ++ bits2D mostMakeup width reference n c′ p′ (drop place′ row)
-    rest-is = ap (λ (m : ℕ). bits2D mostMakeup width reference m (colourOf colour) position (drop place row)) one-less ∙ t .bits n
+    rest-is : bits2D width reference (g .fuel) (colourOf colour) position (drop place row)
+        ≡ xs ++ bits2D width reference n c′ p′ (drop place′ row)
+    rest-is = ap (λ (m : ℕ). bits2D width reference m (colourOf colour) position (drop place row)) one-less ∙ t .bits n
 
     -- its bits have room, or its code where it is one
     pub turn-room : Room write next (length xs) (length out)
@@ -138,7 +138,7 @@ module _ {write : Bool} {width : ℕ} {reference row : List ℕ} {from : ℕ} {s
       coloured = h;
       passed = passed-on passed (right-grows position p′ (t .on));
       owes =
-          subst (λ (c : Colour). Owes write r (bits2D mostMakeup width reference n c p′ (drop place′ row)) out′ from (lineOf width reference row) start) e
+          subst (λ (c : Colour). Owes write r (bits2D width reference n c p′ (drop place′ row)) out′ from (lineOf width reference row) start) e
           (owes-put (g .owes) xs _ rest-is (l .room .inside) p);
       zeros = λ _. puts-zeros (turn-room .inside) p;
     }

@@ -11,7 +11,7 @@ use lib.Seq.{drop-cons}
 use borrow.Author.Tests.{eqb-true, eqb-false}
 use Rattle.rules.specs.Codes.{Colour, white, opposite}
 use Rattle.rules.specs.Lines.{Kind}
-use Rattle.rules.specs.Write.{mostMakeup, runBits, bits1D, lineBits, eolBits, rowsIn}
+use Rattle.rules.specs.Write.{runBits, bits1D, lineBits, eolBits, rowsIn}
 use Rattle.rules.specs.WriteGroup3.{Layout, bare, filled, mixed, kOf, kindNext, leftNext, codedLines, ahead, times, ending, framed, page3Bits}
 use Rattle.rules.specs.Rising.{Rising, none, some}
 use Rattle.rules.proofs.Ascending.{rises-lower, rises-length}
@@ -36,7 +36,7 @@ kind-is (suc left) false above e = refl
 module _ (layout : Layout) where
   -- what is left: the lines of these rows, with what stands before each, and the end
   abbrev pub linesLeft : ℕ → ℕ → List ℕ → List (List ℕ) → List Bool
-  linesLeft width left above rows = framed layout (codedLines mostMakeup width (kOf layout) left above rows)
+  linesLeft width left above rows = framed layout (codedLines width (kOf layout) left above rows)
 
   abbrev pub Paging3 : Bool → ℕ → List ℕ → List ℕ → List ℕ → ℕ → ℕ → ℕ → ℕ → ℕ → List ℕ → Type 0
   Paging3 write width changes ends start next from base k left out =
@@ -71,7 +71,7 @@ module _ (layout : Layout) where
       unfolding codedLines framed rowsIn
       row-is =
           ap (λ (l : List ℕ). linesLeft width left above (rowsIn base changes l)) (drop-cons ends k 0 h)
-          ∙ ap (λ (kind : Kind). ahead layout kind ++ (lineBits mostMakeup width kind row ++ later)) (kind-is left single above due)
+          ∙ ap (λ (kind : Kind). ahead layout kind ++ (lineBits width kind row ++ later)) (kind-is left single above due)
           ∙ sym (append-assoc (ahead layout (kindFrom single above)) (lineFrom width single above row) later)
           ∙ rw (add-one k)
         where

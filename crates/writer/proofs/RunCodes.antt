@@ -41,29 +41,29 @@ code-spells {colour} {c = c} f s =
 -- by the counts of its codes
 module _ (colour : Colour) (n : ℕ) where
   run-is : (q m t : ℕ) → n / (64 * mostMakeup) ≡ q → n % (64 * mostMakeup) / 64 ≡ m → n % 64 ≡ t
-      → runBits mostMakeup colour n ≡ codesBits (replicate q (makeup colour mostMakeup) ++ (wholes colour m ++ terminating colour t ∷ []))
+      → runBits colour n ≡ codesBits (replicate q (makeup colour mostMakeup) ++ (wholes colour m ++ terminating colour t ∷ []))
   unfolding runBits runCodes
   run-is q m t e f g = rw (e, f, g)
 
 -- a run below 64 is a terminating code
-pub run-last : (colour : Colour) (n : ℕ) → n < 64 → runBits mostMakeup colour n ≡ codeBits (terminating colour n)
+pub run-last : (colour : Colour) (n : ℕ) → n < 64 → runBits colour n ≡ codeBits (terminating colour n)
 unfolding codesBits
 run-last colour n h = run-is colour n 0 0 n (omega arith) (omega arith) (omega arith) ∙ append-nil (codeBits (terminating colour n))
 
 -- any other begins with the largest make-up code that it holds
 pub run-more : (colour : Colour) (n : ℕ) → 64 ≤ n
-    → runBits mostMakeup colour n ≡ codeBits (makeup colour (largest n)) ++ runBits mostMakeup colour (n - 64 * largest n)
+    → runBits colour n ≡ codeBits (makeup colour (largest n)) ++ runBits colour (n - 64 * largest n)
 unfolding codesBits
 run-more colour n h = by (leb mostMakeup (n / 64)) (leb-true mostMakeup (n / 64)) (leb-false mostMakeup (n / 64))
   where
-    long : mostMakeup ≤ n / 64 → runBits mostMakeup colour n ≡ codeBits (makeup colour mostMakeup) ++ runBits mostMakeup colour (n - 64 * mostMakeup)
+    long : mostMakeup ≤ n / 64 → runBits colour n ≡ codeBits (makeup colour mostMakeup) ++ runBits colour (n - 64 * mostMakeup)
     long k =
         let r = n - 64 * mostMakeup in
         run-is colour n (suc (r / (64 * mostMakeup))) (r % (64 * mostMakeup) / 64) (r % 64) (omega arith) (omega arith) (omega arith)
         ∙ ap (λ (l : List Bool). codeBits (makeup colour mostMakeup) ++ l)
         (sym (run-is colour r (r / (64 * mostMakeup)) (r % (64 * mostMakeup) / 64) (r % 64) refl refl refl))
 
-    short : n / 64 < mostMakeup → runBits mostMakeup colour n ≡ codeBits (makeup colour (n / 64)) ++ runBits mostMakeup colour (n - 64 * (n / 64))
+    short : n / 64 < mostMakeup → runBits colour n ≡ codeBits (makeup colour (n / 64)) ++ runBits colour (n - 64 * (n / 64))
     short k =
         let e : suc (n / 64 - 1) ≡ n / 64 = omega arith in
         let r = n - 64 * (n / 64) in
@@ -72,8 +72,8 @@ run-more colour n h = by (leb mostMakeup (n / 64)) (leb-true mostMakeup (n / 64)
         ∙ ap (λ (l : List Bool). codeBits (makeup colour (n / 64)) ++ l) (sym (run-is colour r 0 0 r (omega arith) (omega arith) (omega arith)))
 
     by : (b : Bool) → (b ≡ true → mostMakeup ≤ n / 64) → (b ≡ false → n / 64 < mostMakeup)
-        → runBits mostMakeup colour n
-        ≡ codeBits (makeup colour (cond b mostMakeup (n / 64))) ++ runBits mostMakeup colour (n - 64 * cond b mostMakeup (n / 64))
+        → runBits colour n
+        ≡ codeBits (makeup colour (cond b mostMakeup (n / 64))) ++ runBits colour (n - 64 * cond b mostMakeup (n / 64))
     by true p q = long (p refl)
     by false p q = short (q refl)
 
@@ -103,27 +103,27 @@ codes-few {colour} (next {c = c} {cs = cs} f h m) =
     omega (arith, length-append (codeBits c) (codesBits cs), length-codeBits c, shape colour c (f .member) .few-bits, codes-few m)
 
 -- so has a run
-pub run-few : (colour : Colour) (n : ℕ) → length (runBits mostMakeup colour n) ≤ 13 + 13 * (n / 64)
+pub run-few : (colour : Colour) (n : ℕ) → length (runBits colour n) ≤ 13 + 13 * (n / 64)
 unfolding runBits
-run-few colour n = codes-few (made-run mostMakeup (omega arith) (omega arith) colour n)
+run-few colour n = codes-few (made-run colour n)
 
 -- ---- A run of which so much is left to put
 
-module _ {write : Bool} (colour : Colour) {at : ℕ} (run : ℕ) {start : List ℕ} (room : Room write at (length (runBits mostMakeup colour run)) (length start))
-    {p : ℕ} (left : ℕ) {out : List ℕ} (owes : Owes write p (runBits mostMakeup colour left) out at (runBits mostMakeup colour run) start) {code : Code} where
+module _ {write : Bool} (colour : Colour) {at : ℕ} (run : ℕ) {start : List ℕ} (room : Room write at (length (runBits colour run)) (length start))
+    {p : ℕ} (left : ℕ) {out : List ℕ} (owes : Owes write p (runBits colour left) out at (runBits colour run) start) {code : Code} where
   -- a make-up code
   module _ (h : 64 ≤ left) (m : ℕ) (e : m ≡ largest left) (s : SameBits code (makeup colour m)) where
     spells : Spells code (codeBits (makeup colour m))
     spells = let l = largest-held left h in code-spells (makeup-for colour m (rw e (l .some-64s)) (rw e (l .in-table))) s
 
-    rest-is : runBits mostMakeup colour left ≡ codeBits (makeup colour m) ++ runBits mostMakeup colour (left - 64 * m)
+    rest-is : runBits colour left ≡ codeBits (makeup colour m) ++ runBits colour (left - 64 * m)
     rest-is = rw e (run-more colour left h)
 
     pub makeup-room : Room write p (code .size) (length out) × Sound code
     makeup-room = first-code owes spells _ rest-is room
 
     pub makeup-put : {r : ℕ} {out′ : List ℕ} → Puts write p (bitsFor (code .size) (code .word)) out r out′
-        → Owes write r (runBits mostMakeup colour (left - 64 * m)) out′ at (runBits mostMakeup colour run) start
+        → Owes write r (runBits colour (left - 64 * m)) out′ at (runBits colour run) start
     makeup-put = owes-code owes spells _ rest-is (room .inside)
 
   -- the terminating code
@@ -132,5 +132,5 @@ module _ {write : Bool} (colour : Colour) {at : ℕ} (run : ℕ) {start : List �
     terminating-room = last-code owes (code-spells (terminating-for colour left h) s) (run-last colour left h) room
 
     pub terminating-put : {r : ℕ} {out′ : List ℕ} → Puts write p (bitsFor (code .size) (code .word)) out r out′
-        → Puts write at (runBits mostMakeup colour run) start r out′
+        → Puts write at (runBits colour run) start r out′
     terminating-put = puts-all owes (code-spells (terminating-for colour left h) s) (run-last colour left h)

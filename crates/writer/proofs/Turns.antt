@@ -10,7 +10,7 @@ use borrow.Author.Tests.{lt-ltb, le-ltb, ne-eqb, eq-eqb, ltb-true, ltb-false, le
 use Rattle.rules.specs.Codes.{Colour, white, opposite}
 use Rattle.rules.specs.Modes.{Mode, pass, horizontal, VR, VL, modeBits}
 use Rattle.rules.specs.Lines.{rightOfA0, headOr, tail, b1, b2}
-use Rattle.rules.specs.Write.{mostMakeup, runBits, verticalTo, near, bits2D, lineBits}
+use Rattle.rules.specs.Write.{runBits, verticalTo, near, bits2D, lineBits}
 use Rattle.rules.specs.Rising.{Rising}
 use Rattle.rules.proofs.Ascending.{rises-lower, head-low, head-fits, tail-rises}
 use Rattle.rules.proofs.Ahead.{above, b2-behind, leftOver, no-longer, shorter}
@@ -56,7 +56,7 @@ module _ (width : ℕ) (reference : List ℕ) where
 
   -- at position p in colour c, with the changes `rest` left, the bits xs come next, and then those at p′ in c′ with rest′
   pub record Turn (c : Colour) (p : ℕ) (rest : List ℕ) (xs : List Bool) (c′ : Colour) (p′ : ℕ) (rest′ : List ℕ) : Type 0 where
-    pub bits : (n : ℕ) → bits2D mostMakeup width reference (suc n) c p rest ≡ xs ++ bits2D mostMakeup width reference n c′ p′ rest′
+    pub bits : (n : ℕ) → bits2D width reference (suc n) c p rest ≡ xs ++ bits2D width reference n c′ p′ rest′
     pub on : p ≤ p′
     pub fits : p′ ≤ width
     pub rises : Rising width p′ rest′
@@ -65,7 +65,7 @@ module _ (width : ℕ) (reference : List ℕ) where
     pub last : length xs ≤ most p rest
 
   -- at the width no bits come
-  pub bits-end : (n : ℕ) (c : Colour) (p : ℕ) (rest : List ℕ) → p ≡ width → bits2D mostMakeup width reference n c p rest ≡ []
+  pub bits-end : (n : ℕ) (c : Colour) (p : ℕ) (rest : List ℕ) → p ≡ width → bits2D width reference n c p rest ≡ []
   unfolding bits2D
   bits-end zero c p rest e = refl
   bits-end (suc n) c p rest e = rw (eq-eqb p width e, bits2D)
@@ -102,8 +102,8 @@ module _ (width : ℕ) (reference : List ℕ) where
     across-few =
         omega (
           arith,
-          length-append (modeBits horizontal) (runBits mostMakeup c (A1 - p) ++ runBits mostMakeup (opposite c) (A2 - A1)),
-          length-append (runBits mostMakeup c (A1 - p)) (runBits mostMakeup (opposite c) (A2 - A1)),
+          length-append (modeBits horizontal) (runBits c (A1 - p) ++ runBits (opposite c) (A2 - A1)),
+          length-append (runBits c (A1 - p)) (runBits (opposite c) (A2 - A1)),
           run-few c (A1 - p),
           run-few (opposite c) (A2 - A1),
         )
@@ -172,23 +172,23 @@ module _ (width : ℕ) (reference : List ℕ) where
 
   abbrev Few : ℕ → Type 0
   Few n =
-      (c : Colour) (p : ℕ) (rest : List ℕ) → p ≤ width → Rising width p rest → length (bits2D mostMakeup width reference n c p rest) ≤ most p rest
+      (c : Colour) (p : ℕ) (rest : List ℕ) → p ≤ width → Rising width p rest → length (bits2D width reference n c p rest) ≤ most p rest
 
   bits-few : Rising width 0 reference → (n : ℕ) → Few n
   unfolding bits2D
   bits-few rises zero c p rest k r = omega arith
   bits-few rises (suc n) c p rest k r = tests (bits-few rises n) (leb width p) (leb-true width p) (leb-false width p)
     where
-      later : Few n → Next c p rest → length (bits2D mostMakeup width reference (suc n) c p rest) ≤ most p rest
+      later : Few n → Next c p rest → length (bits2D width reference (suc n) c p rest) ≤ most p rest
       later ih (by {xs} {c′} {p′} {rest′} t) =
           rw (t .bits n)
-          (omega (arith, length-append xs (bits2D mostMakeup width reference n c′ p′ rest′), here (leb width p′) (leb-true width p′) (leb-false width p′)))
+          (omega (arith, length-append xs (bits2D width reference n c′ p′ rest′), here (leb width p′) (leb-true width p′) (leb-false width p′)))
         where
-          here : (b : Bool) → (b ≡ true → width ≤ p′) → (b ≡ false → p′ < width) → length xs + length (bits2D mostMakeup width reference n c′ p′ rest′) ≤ most p rest
+          here : (b : Bool) → (b ≡ true → width ≤ p′) → (b ≡ false → p′ < width) → length xs + length (bits2D width reference n c′ p′ rest′) ≤ most p rest
           here true f g = rw (bits-end n c′ p′ rest′ (omega (arith, f refl, t .fits))) (omega (arith, t .last))
           here false f g = omega (arith, ih c′ p′ rest′ (t .fits) (t .rises), t .few (g refl))
 
-      tests : Few n → (b : Bool) → (b ≡ true → width ≤ p) → (b ≡ false → p < width) → length (bits2D mostMakeup width reference (suc n) c p rest) ≤ most p rest
+      tests : Few n → (b : Bool) → (b ≡ true → width ≤ p) → (b ≡ false → p < width) → length (bits2D width reference (suc n) c p rest) ≤ most p rest
       tests ih true f g = rw (bits-end (suc n) c p rest (omega (arith, f refl))) (omega arith)
       tests ih false f g = later ih (next-turn rises c p rest (g refl) r)
 

@@ -34,14 +34,14 @@ verticalSize (suc (suc (suc k))) = 7
 
 -- the bits of a horizontal code with its two runs
 unfoldable pub across : Colour → ℕ → ℕ → List Bool
-across colour first second = modeBits horizontal ++ (runBits mostMakeup colour first ++ runBits mostMakeup (opposite colour) second)
+across colour first second = modeBits horizontal ++ (runBits colour first ++ runBits (opposite colour) second)
 
 -- the bits of a 2D line, and of a 1D line
 abbrev pub lineOf : ℕ → List ℕ → List ℕ → List Bool
-lineOf width reference row = lineBits mostMakeup width (two reference) row
+lineOf width reference row = lineBits width (two reference) row
 
 abbrev pub line1Of : ℕ → List ℕ → List Bool
-line1Of width row = lineBits mostMakeup width one row
+line1Of width row = lineBits width one row
 
 -- the bits of a row, which stands under another, can be put from bit `at` on
 pub record Rowed (write : Bool) (width : ℕ) (above row : List ℕ) (bits : List Bool) (at bytes : ℕ) : Type 0 where

@@ -3,7 +3,7 @@ use mathlib.Core.Bool.{Bool, true, false}
 use mathlib.Core.List.{List, _++_}
 use Prim.Native.Nat.{ℕ, _≤_}
 use Rattle.rules.specs.Lines.{Kind, one, two}
-use Rattle.rules.specs.Write.{mostMakeup, lineBits, rowsIn}
+use Rattle.rules.specs.Write.{lineBits, rowsIn}
 use Rattle.rules.specs.WriteGroup3 as Rule
 use Rattle.rules.specs.WriteGroup3.{bare, filled, mixed, ahead, page3Bits}
 use Rattle.writer.specs.declared.layout.Layout.{Layout}
@@ -27,7 +27,7 @@ kindFrom true above = one
 kindFrom false above = two above
 
 abbrev pub lineFrom : ℕ → Bool → List ℕ → List ℕ → List Bool
-lineFrom width single above row = lineBits mostMakeup width (kindFrom single above) row
+lineFrom width single above row = lineBits width (kindFrom single above) row
 
 -- a row: its line, and what stands before it
 abbrev pub row3Of : Rule.Layout → ℕ → Bool → List ℕ → List ℕ → List Bool
@@ -35,4 +35,4 @@ row3Of layout width single above row = ahead layout (kindFrom single above) ++ l
 
 -- the bits of a page
 abbrev pub page3Of : Rule.Layout → ℕ → List ℕ → List ℕ → List Bool
-page3Of layout width changes ends = page3Bits mostMakeup width layout (rowsIn 0 changes ends)
+page3Of layout width changes ends = page3Bits width layout (rowsIn 0 changes ends)

@@ -11,7 +11,7 @@ ghost use Prim.Native.Nat.{_≤_};
 ghost use lib.ListN.{length, drop};
 ghost use Rattle.rules.specs.Lines.{headOr};
 ghost use Rattle.rules.specs.Pages.{mostBytes};
-ghost use Rattle.rules.specs.Write.{mostMakeup, writeLine};
+ghost use Rattle.rules.specs.Write.{writeLine};
 ghost use Rattle.tables.specs.Tables.{colourOf};
 ghost use Rattle.writer.specs.Putting.{Room, Puts};
 ghost use Rattle.writer.specs.Coding.{Lent, across, lineOf, Lined};
@@ -119,7 +119,7 @@ pub(crate) fn write(
     at: usize,
 ) -> Answer
     requires { ⌜ Lined false columns (now reference) (now row) at (length (now out)) × (length (now out) ≤ mostBytes) ⌝ }
-    ensures { λ r. ⌜ Answers (writeLine mostMakeup columns (now (reference .entry)) (now (row .entry)) (now (out .entry)) at) (now (out .entry)) r (now (out .exit)) ⌝ }
+    ensures { λ r. ⌜ Answers (writeLine columns (now (reference .entry)) (now (row .entry)) (now (out .entry)) at) (now (out .entry)) r (now (out .exit)) ⌝ }
 {
     let wt = tables::white_terminating();
     let bt = tables::black_terminating();

@@ -4,7 +4,7 @@ use mathlib.Core.Path.{refl, sym, ap}
 use denote.Ref.{now}
 use borrow.Author.Needs.{needs}
 use Rattle.rules.specs.Codes.{opposite}
-use Rattle.rules.specs.Write.{mostMakeup, runBits}
+use Rattle.rules.specs.Write.{runBits}
 use Rattle.tables.specs.Tables.{colourOf}
 use Rattle.writer.proofs.LineLoop.{colour-turns, across-room, across-put}
 use Rattle.writer.proofs.Owing.{first-room, owes-put, last-room, owes-last}
@@ -23,8 +23,8 @@ put-run-requires c κs =
       k .before .before .before .pre .0,
       first-room (across-put (colourOf (k .before .before .before .args .colour)) (k .before .before .before .args .first)
           (k .before .before .before .args .second) (now (k .before .before .before .args .out)) (k .before .before .before .pre .2) (k .horizontal .ensures)
-          (c .before .before .before .put .ensures)) (runBits mostMakeup (colourOf (k .before .before .before .args .colour))
-          (k .before .before .before .args .first)) (runBits mostMakeup (opposite (colourOf (k .before .before .before .args .colour)))
+          (c .before .before .before .put .ensures)) (runBits (colourOf (k .before .before .before .args .colour))
+          (k .before .before .before .args .first)) (runBits (opposite (colourOf (k .before .before .before .args .colour)))
           (k .before .before .before .args .second)) refl (k .before .before .before .pre .2),
     )
 
@@ -36,9 +36,9 @@ put-run-requires-2 c κs =
     let k1 = c .before .before .before .before .before .before .before in
     let k2 = k1 .before .before .before .before in
     let rest = owes-put (across-put (colourOf (k2 .args .colour)) (k2 .args .first) (k2 .args .second) (now (k2 .args .out)) (k2 .pre .2)
-    (k1 .before .horizontal .ensures) (k1 .put .ensures)) (runBits mostMakeup (colourOf (k2 .args .colour)) (k2 .args .first)) (runBits mostMakeup
+    (k1 .before .horizontal .ensures) (k1 .put .ensures)) (runBits (colourOf (k2 .args .colour)) (k2 .args .first)) (runBits
     (opposite (colourOf (k2 .args .colour))) (k2 .args .second)) refl (k2 .pre .2 .inside) (c .before .before .before .put-run .ensures) in
-    (k2 .pre .0, last-room rest _ (ap (λ d. runBits mostMakeup d (k2 .args .second)) (sym (colour-turns (k2 .args .colour) (k2 .pre .1)))) (k2 .pre .2))
+    (k2 .pre .0, last-room rest _ (ap (λ d. runBits d (k2 .args .second)) (sym (colour-turns (k2 .args .colour) (k2 .pre .1)))) (k2 .pre .2))
 
 same-length : tie.Need-same-length
 same-length c = search needs
@@ -49,9 +49,9 @@ returns c =
     let k2 = k1 .before .before .before .before in
     let k3 = k2 .before .before .before .before in
     let rest = owes-put (across-put (colourOf (k3 .args .colour)) (k3 .args .first) (k3 .args .second) (now (k3 .args .out)) (k3 .pre .2)
-    (k2 .before .horizontal .ensures) (k2 .put .ensures)) (runBits mostMakeup (colourOf (k3 .args .colour)) (k3 .args .first)) (runBits mostMakeup
+    (k2 .before .horizontal .ensures) (k2 .put .ensures)) (runBits (colourOf (k3 .args .colour)) (k3 .args .first)) (runBits
     (opposite (colourOf (k3 .args .colour))) (k3 .args .second)) refl (k3 .pre .2 .inside) (k1 .put-run .ensures) in
-    owes-last rest _ (ap (λ d. runBits mostMakeup d (k3 .args .second)) (sym (colour-turns (k3 .args .colour) (k3 .pre .1))))
+    owes-last rest _ (ap (λ d. runBits d (k3 .args .second)) (sym (colour-turns (k3 .args .colour) (k3 .pre .1))))
     (c .before .before .put-run2 .ensures)
 
 pub put-horizontal-spec : {M : Type 1} → statement M

@@ -2,7 +2,7 @@
 -- Assumes nothing.
 use native.Mathlib.Omega.{arith}
 use borrow.Author.Needs.{needs}
-use Rattle.rules.specs.Write.{mostMakeup, runBits}
+use Rattle.rules.specs.Write.{runBits}
 use Rattle.tables.specs.Tables.{colourOf}
 use Rattle.writer.proofs.Owing.{Owes, owes-all}
 use Rattle.writer.proofs.RunCodes.{largest-held, makeup-room, makeup-put, terminating-room, terminating-put}
@@ -11,7 +11,7 @@ use Rattle.writer.proofs.run.put_run.Tie as tie
 
 abbrev Inv-loop : tie.InvT-loop
 Inv-loop wt bt wm bm common colour run out₀ at write left₀ next₀ out left next =
-    Owes write next (runBits mostMakeup (colourOf colour) left) out at (runBits mostMakeup (colourOf colour) run) out₀
+    Owes write next (runBits (colourOf colour) left) out at (runBits (colourOf colour) run) out₀
 
 abbrev μ-loop : tie.MeasureT-loop
 μ-loop wt bt wm bm common colour run out₀ at write left₀ next₀ out left next = left
