@@ -4,6 +4,7 @@ use mathlib.Core.Logic.{_⊎_, inl, inr, ⊎-elim}
 use mathlib.Core.List.{List}
 use Prim.Native.Nat.{ℕ, zero, suc, _≤_, _<_}
 use native.Mathlib.Omega.{arith}
+use Rattle.rules.specs.Answers.{invalidCode, overflow, noEntry, noRowEnd, tooFewRows}
 use Rattle.rules.specs.Rows.{Settings, RowOut, row, stop}
 use Rattle.rules.specs.InSteps.{Said}
 use Rattle.rules.specs.ByRow as Rule
@@ -31,11 +32,11 @@ use Rattle.promises.specs.AllowedEnds.{RowEndsAllowed, UnitEndsAllowed}
 done-allowed : (bytes : ℕ) → Allowed 0 0 bytes 0
 done-allowed bytes = record { no-bytes = λ h. absurd (h refl); no-place = λ h. refl; no-loose = λ h. refl }
 
-fault-allowed : (n place loose : ℕ) → 1 ≤ n → n ≤ 3 → Allowed n place 0 loose
+fault-allowed : (n place loose : ℕ) → invalidCode ≤ n → n ≤ overflow → Allowed n place 0 loose
 fault-allowed n place loose h k =
     record { no-bytes = λ z. refl; no-place = ⊎-elim (λ z. absurd (omega arith)) (λ z. absurd (omega arith)); no-loose = ⊎-elim (λ z. absurd (omega arith)) (λ z. absurd (omega arith)) }
 
-room-allowed : (n loose : ℕ) → 1 ≤ n → n ≤ 5 → Allowed n 0 0 loose
+room-allowed : (n loose : ℕ) → invalidCode ≤ n → n ≤ noRowEnd → Allowed n 0 0 loose
 room-allowed n loose h k = record { no-bytes = λ z. refl; no-place = λ z. refl; no-loose = ⊎-elim (λ z. absurd (omega arith)) (λ z. absurd (omega arith)) }
 
 short-allowed : Allowed 14 0 0 0
@@ -59,12 +60,12 @@ end-allowed End.Short = short-allowed
 -- an end that is said is held
 module _ (S : Settings) (bytes : List ℕ) (p : Rule.RowState) (xs : Arrays) where
   abbrev Ends : Rule.RowStep → Type 0
-  Ends d = (d .said .number ≤ 4) ⊎ (d .said .number ≡ 14)
+  Ends d = (d .said .number ≤ noEntry) ⊎ (d .said .number ≡ tooFewRows)
 
   abbrev Holds : Rule.RowStep → Type 0
   Holds d = Ends d → d .state .end ≡ ended (d .said .number) (d .said .place) (d .said .bytes) (d .said .loose)
 
-  no-end : (n : ℕ) {A : Type 0} → 4 < n → (n ≡ 14 → ⊥) → (n ≤ 4) ⊎ (n ≡ 14) → A
+  no-end : (n : ℕ) {A : Type 0} → noEntry < n → (n ≡ tooFewRows → ⊥) → (n ≤ noEntry) ⊎ (n ≡ tooFewRows) → A
   no-end n h k (inl i) = absurd (omega arith)
   no-end n h k (inr i) = absurd (k i)
 
@@ -79,7 +80,7 @@ module _ (S : Settings) (bytes : List ℕ) (p : Rule.RowState) (xs : Arrays) whe
 
 pub row-ends-allowed : RowEndsAllowed
 row-ends-allowed bytes settings c g h =
-    let held = row-holds (settingsOf settings) bytes (rowStateOf (c .state)) (record { first = c .first; second = c .second }) (subst (λ (a : Answer). (a .number ≤ 4) ⊎ (a .number ≡ 14)) (g .answer) h) in
+    let held = row-holds (settingsOf settings) bytes (rowStateOf (c .state)) (record { first = c .first; second = c .second }) (subst (λ (a : Answer). (a .number ≤ noEntry) ⊎ (a .number ≡ tooFewRows)) (g .answer) h) in
     subst (λ (a : Answer). Allowed (a .number) (a .place) (a .bytes) (a .loose)) (sym (g .answer))
     (subst EndAllowed (ap (λ (p : Rule.RowState). p .end) (g .state) ∙ held) (end-allowed (c .step .state .end)))
 

@@ -7,6 +7,7 @@ use Prim.Native.Nat.{ℕ, zero, suc, _≤_, _<_}
 use native.Mathlib.Omega.{arith}
 use lib.Dec.{leb}
 use lib.ListN.{length, getD, take}
+use Rattle.rules.specs.Answers.{complete, mostPixels}
 use Rattle.rules.specs.Bits.{bitsOf}
 use Rattle.rules.specs.Lines.{one}
 use Rattle.rules.specs.Pages as Page
@@ -27,7 +28,7 @@ use Rattle.promises.specs.BadLines.{ForBadLines, Roomy, KBadLinesCostKRo
 use Rattle.promises.proofs.Rooms.{answerIn, rows-are, marks-are, as-many}
 
 -- the settings of the rules
-mending : (columns rows : ℕ) (settings : DecodeSettings) → 0 < columns → columns < 4294967295 → ForBadLines columns rows settings → Mending (settingsOf settings) rows
+mending : (columns rows : ℕ) (settings : DecodeSettings) → 0 < columns → columns < mostPixels → ForBadLines columns rows settings → Mending (settingsOf settings) rows
 mending columns rows settings wide narrow s = record {
   encoded = ap encodingOf (s .group-3);
   lenient = s .lenient;
@@ -65,7 +66,7 @@ k-bad-lines columns fill lines bytes settings c a = (
     same : settings .columns ≡ columns
     same = a .set .same-columns
 
-    d : (answerIn bytes settings c .number ≡ 0) × Spared lines (answerIn bytes settings c .rows) (answerIn bytes settings c .marks)
+    d : (answerIn bytes settings c .number ≡ complete) × Spared lines (answerIn bytes settings c .rows) (answerIn bytes settings c .marks)
     d =
         bad-lines-decode (settingsOf settings) (a .set .inexact) fill (a .three) lines (a .some-lines)
         (subst (λ (n : ℕ). mayAll n lines ≡ true) (sym same) (a .allowed)) (mending columns (length lines) settings (a .wide) (a .narrow) (a .set)) (omega (arith, same, a .narrow))
@@ -116,14 +117,14 @@ one-bad-line-costs-one-row columns changes ends out fill w out′ narrow three w
         → (bytes : List ℕ) (padding : List Bool) → length bytes ≤ mostBytes → bitsOf bytes ≡ frontOf columns fill first ++ (bits ++ (backOf columns fill last ++ padding))
         → (settings : DecodeSettings) → ForBadLines columns (length ends) settings
         → (c : Call) → Reading bytes settings c → Roomy (length ends) columns c
-        → (c .answer .number ≡ 0) × AllButOne first last (rowsOf c) (marksOf c)
+        → (c .answer .number ≡ complete) × AllButOne first last (rowsOf c) (marksOf c)
     spared bits strays bytes padding small there settings s c reading room =
         (number-is bytes settings c reading ∙ d .0, handed-over bytes settings c reading (AllButOne first last) (d .1))
       where
         same : settings .columns ≡ columns
         same = s .same-columns
 
-        d : (answerIn bytes settings c .number ≡ 0) × AllButOne first last (answerIn bytes settings c .rows) (answerIn bytes settings c .marks)
+        d : (answerIn bytes settings c .number ≡ complete) × AllButOne first last (answerIn bytes settings c .rows) (answerIn bytes settings c .marks)
         d =
             one-bad-line (settingsOf settings) (s .inexact) fill three first row last
             (subst (λ (n : ℕ). Rows n (first ++ row ∷ last)) (sym same) (subst (Rows columns) rows-is (p .rises)))

@@ -6,6 +6,7 @@ use mathlib.Core.Logic.{inl}
 use Prim.Native.Nat.{ℕ}
 use native.Mathlib.Omega.{arith}
 use lib.ListN.{length}
+use Rattle.rules.specs.Answers.{complete}
 use Rattle.rules.specs.Group3.{tagged}
 use Rattle.rules.specs.Damage2D.{arrivedPage2D, mayAll2D, SparedTo1D}
 use Rattle.rules.proofs.Mending.{Mends}
@@ -37,7 +38,7 @@ bad-lines-cost-rows-to-1d columns fill lines bytes settings c a = (
       counted = inl (a .set .counted);
     }
 
-    d : (answerIn bytes settings c .number ≡ 0) × SparedTo1D false lines (answerIn bytes settings c .rows) (answerIn bytes settings c .marks)
+    d : (answerIn bytes settings c .number ≡ complete) × SparedTo1D false lines (answerIn bytes settings c .rows) (answerIn bytes settings c .marks)
     d =
         bad-lines-2d (settingsOf settings) (a .set .inexact) fill (a .three) lines (a .some-lines)
         (subst (λ (n : ℕ). mayAll2D n lines ≡ true) (sym same) (a .allowed)) mends (omega (arith, same, a .narrow))

@@ -6,6 +6,7 @@ use mathlib.Core.List.{List, [], _∷_, _++_}
 use Prim.Native.Nat.{ℕ, _+_, _≤_}
 use native.Mathlib.Omega.{arith}
 use lib.ListN.{length, take, length-append}
+use Rattle.rules.specs.Answers.{complete, badWidth, tooLong, badRows, noFit, mostPixels}
 use Rattle.rules.specs.Pages.{ascends}
 use Rattle.rules.specs.Write.{rowsIn}
 use Rattle.rules.specs.Rising.{Rising, none, Rows, row-then}
@@ -35,10 +36,10 @@ true-false : true ≡ false → ⊥
 true-false e = let z : _≡_ {A = ℕ} 0 1 = cc in omega arith
 
 -- a number of the writers' list that is no refusal
-no-other : (n : ℕ) → 6 ≤ n → n ≤ 9 → (n ≡ 6 → ⊥) → (n ≡ 7 → ⊥) → (n ≡ 8 → ⊥) → (n ≡ 9 → ⊥) → ⊥
+no-other : (n : ℕ) → badWidth ≤ n → n ≤ noFit → (n ≡ badWidth → ⊥) → (n ≡ tooLong → ⊥) → (n ≡ badRows → ⊥) → (n ≡ noFit → ⊥) → ⊥
 no-other n low high six seven eight nine = omega arith
 
-accepted : (n : ℕ) → (n ≡ 0) ⊎ ((6 ≤ n) × (n ≤ 9)) → (n ≡ 6 → ⊥) → (n ≡ 7 → ⊥) → (n ≡ 8 → ⊥) → (n ≡ 9 → ⊥) → n ≡ 0
+accepted : (n : ℕ) → (n ≡ complete) ⊎ ((badWidth ≤ n) × (n ≤ noFit)) → (n ≡ badWidth → ⊥) → (n ≡ tooLong → ⊥) → (n ≡ badRows → ⊥) → (n ≡ noFit → ⊥) → n ≡ complete
 accepted n listed six seven eight nine = ⊎-elim (λ e. e) (λ h. absurd (no-other n (h .0) (h .1) six seven eight nine)) listed
 
 pub rows-go-back : RowsGoBack
@@ -53,14 +54,14 @@ rows-go-back bytes settings changes ends marks r changes′ ends′ marks′ nar
     kept : r .rows ≡ 0 → ⊥
     kept e = some-row follows (ap (λ (n : ℕ). rowsIn 0 changes′ (take n ends′)) e)
 
-    a-line : (settings .columns ≡ 0) ⊎ (settings .columns ≡ 4294967295) → ⊥
+    a-line : (settings .columns ≡ 0) ⊎ (settings .columns ≡ mostPixels) → ⊥
     a-line =
         ⊎-elim (λ e. kept (decode-answers bytes settings changes ends marks r changes′ ends′ marks′ narrow called .2 .no-rows e))
         (λ e.
         let d = decode-answers bytes settings changes ends marks r changes′ ends′ marks′ narrow called in
         kept (d .1 (omega (arith, d .0 .six .1 e)) (omega (arith, d .0 .six .1 e)) .counts .0))
 
-    done : w .number ≡ 0
+    done : w .number ≡ complete
     done =
         let l = write-line-answers (settings .columns) reference row out at w out′ written in
         accepted (w .number) (l .listed) (λ e. a-line (l .six .0 e)) (λ e. omega (arith, l .seven .0 e .1, short))

@@ -8,12 +8,12 @@ use native.Mathlib.Omega.{arith}
 use lib.Dec.{leb}
 use lib.ListN.{length, take, length-append}
 use borrow.Author.Tests.{leb-true, le-leb, eq-eqb, ne-eqb, eqb-true, eqb-false}
+use Rattle.rules.specs.Answers.{complete, noEntry, noRowEnd, badWidth, tooLong, badRows, tooFewRows, moreToCome, mostPixels}
 use Rattle.rules.specs.Machine.{more, done, run}
 use Rattle.rules.specs.Bits.{bitsOf}
 use Rattle.rules.specs.Rows.{Settings, State, RowOut, row, stop}
 use Rattle.rules.specs.Pages as Page
 use Rattle.rules.specs.Pages.{mostBytes, tooWide, strictIfExact}
-use Rattle.rules.specs.Answers.{moreToCome}
 use Rattle.rules.specs.InSteps.{Said}
 use Rattle.rules.specs.ByRow as Rule
 use Rattle.rules.specs.ByRow.{Arrays, arrayAt, other, unended, ended, referenceIn, between, roomIn, afterRow, unlessFew, sound, readRow, Caller, callerWith, Over, goesOn, callStep, overOf, FitIn}
@@ -110,14 +110,14 @@ module _ (bytes : List ℕ) (settings : DecodeSettings) where
     pub changes-at : changesOf c ≡ take (countOf (told c)) (arrayAt (other (sideOf (c .state .side))) (told c .arrays))
     changes-at = ap₂ (λ (n : ℕ) (l : List ℕ). take n l) (g .count) (array-at (c .step .array) (c .first′) (c .second′) ∙ ap₂ (λ (s : Rule.Side) (xs : Arrays). arrayAt s xs) (g .array) arrays-are)
 
-    pub changes-given : numberOf c ≡ 15 → changesOf c ≡ referenceIn (told c .state) (told c .arrays)
+    pub changes-given : numberOf c ≡ moreToCome → changesOf c ≡ referenceIn (told c .state) (told c .arrays)
     changes-given e =
         changes-at
         ∙ ap₂ (λ (n : ℕ) (s : Rule.Side). take n (arrayAt s (told c .arrays)))
         (ap (λ (b : Bool). cond b (told c .state .held) (told c .said .loose)) (eq-eqb (told c .said .number) 15 (sym number-is ∙ e)))
         (sym (sides .0 (sym number-is ∙ e)))
 
-    pub changes-loose : (numberOf c ≡ 15 → ⊥) → changesOf c ≡ take (told c .said .loose) (arrayAt (other (told c .state .side)) (told c .arrays))
+    pub changes-loose : (numberOf c ≡ moreToCome → ⊥) → changesOf c ≡ take (told c .said .loose) (arrayAt (other (told c .state .side)) (told c .arrays))
     changes-loose e =
         changes-at
         ∙ ap₂ (λ (n : ℕ) (s : Rule.Side). take n (arrayAt (other s) (told c .arrays)))
@@ -133,7 +133,7 @@ module _ (bytes : List ℕ) (settings : DecodeSettings) where
   handed-at st xs ys c (s, f, t) rows marks = λ i. at (s i) (f i) (t i) rows marks
 
   -- a call that gives a row
-  step-more : (c : RowCall) → RowReading bytes settings c → numberOf c ≡ 15 → (rows : List (List ℕ)) (marks : List ℕ)
+  step-more : (c : RowCall) → RowReading bytes settings c → numberOf c ≡ moreToCome → (rows : List (List ℕ)) (marks : List ℕ)
       → callStep S bytes (at (c .state) (c .first) (c .second) rows marks) ≡ more (at (c .step .state) (c .first′) (c .second′) (rows ++ changesOf c ∷ []) (marks ++ markOf c ∷ []))
   unfolding callStep
   step-more c g e rows marks =
@@ -146,14 +146,14 @@ module _ (bytes : List ℕ) (settings : DecodeSettings) where
       }))
 
   -- and one that does not
-  step-done : (c : RowCall) → RowReading bytes settings c → (numberOf c ≡ 15 → ⊥) → (rows : List (List ℕ)) (marks : List ℕ)
+  step-done : (c : RowCall) → RowReading bytes settings c → (numberOf c ≡ moreToCome → ⊥) → (rows : List (List ℕ)) (marks : List ℕ)
       → callStep S bytes (at (c .state) (c .first) (c .second) rows marks) ≡ done (record { said = saidOf (c .step .answer); rows = rows; marks = marks; loose = changesOf c })
   unfolding callStep
   step-done c g e rows marks =
       ap (goesOn (at (c .state) (c .first) (c .second) rows marks) (told c)) (ne-eqb (told c .said .number) 15 (λ z. e (number-is c g ∙ z)))
       ∙ (λ i. done (record { said = sym (said-is c g) i; rows = rows; marks = marks; loose = sym (changes-loose c g e) i }))
 
-  followed : (cs : List RowCall) (last : RowCall) (st : RowState) (xs ys : List ℕ) → Follows bytes settings st xs ys cs last → (numberOf last ≡ 15 → ⊥) → (rows : List (List ℕ)) (marks : List ℕ)
+  followed : (cs : List RowCall) (last : RowCall) (st : RowState) (xs ys : List ℕ) → Follows bytes settings st xs ys cs last → (numberOf last ≡ moreToCome → ⊥) → (rows : List (List ℕ)) (marks : List ℕ)
       → run (callStep S bytes) (suc (length cs)) (at st xs ys rows marks)
       ≡ done (record { said = saidOf (last .step .answer); rows = rows ++ map changesOf cs; marks = marks ++ map markOf cs; loose = changesOf last })
   unfolding run Follows
@@ -180,9 +180,9 @@ module _ (bytes : List ℕ) (settings : DecodeSettings) where
     pub narrow : tooWide (settings .columns) ≡ false
     pub size : length bytes ≤ mostBytes
 
-  passed : (c : RowCall) → RowReading bytes settings c → numberOf c ≡ 15 → Passed
+  passed : (c : RowCall) → RowReading bytes settings c → numberOf c ≡ moreToCome → Passed
   passed c g e =
-      call-cases S bytes (rowStateOf (c .state)) (both (c .first) (c .second)) (λ d. d .said .number ≡ 15 → Passed)
+      call-cases S bytes (rowStateOf (c .state)) (both (c .first) (c .second)) (λ d. d .said .number ≡ moreToCome → Passed)
       (λ n place b loose u z. absurd (not-more n (listed c g n place b loose u) z))
       (λ u t z. absurd (omega arith)) (λ u t f z. absurd (omega arith)) (λ u t f s z. absurd (omega arith)) (λ u t f s k z. absurd (omega arith))
       (λ u t f s w o q z. record { wide = w; narrow = t; size = f })
@@ -210,13 +210,13 @@ module _ (bytes : List ℕ) (settings : DecodeSettings) where
           cases : (w : RowOut) → rowIn S (p .wide) bytes k ≡ w → C (told c)
           cases (row r mark next) e = subst C (sym (comes-to (row r mark next) e)) (gives r mark next e)
           cases (stop n place b loose) e =
-              let m : n ≤ 4 = subst (Bounded (bitsOf bytes)) e (row-bounded (strictIfExact S) (p .wide) (bitsOf bytes) (whole-bytes bytes) (roomIn (k .state) (k .arrays)) (between (k .state) (k .arrays)) (o .held .inside) (S .encoding)) in
+              let m : n ≤ noEntry = subst (Bounded (bitsOf bytes)) e (row-bounded (strictIfExact S) (p .wide) (bitsOf bytes) (whole-bytes bytes) (roomIn (k .state) (k .arrays)) (between (k .state) (k .arrays)) (o .held .inside) (S .encoding)) in
               subst C (sym (comes-to (stop n place b loose) e))
               (few-cases S bytes (rowStateOf (c .state)) (both (c .first) (c .second)) n place b loose (λ w. C (afterRow (rowStateOf (c .state)) (both (c .first) (c .second)) w)) (ends 14 0 0 loose (inr refl)) (ends n place b loose (inl m)))
 
-      own-after : RowReading bytes settings c → numberOf c ≡ 15 → (r : List ℕ) × (mark : ℕ) × OwnAt (c .step .state) (c .first′) (c .second′) (rows ++ r ∷ []) (marks ++ mark ∷ [])
+      own-after : RowReading bytes settings c → numberOf c ≡ moreToCome → (r : List ℕ) × (mark : ℕ) × OwnAt (c .step .state) (c .first′) (c .second′) (rows ++ r ∷ []) (marks ++ mark ∷ [])
       own-after g e =
-          own-cases (λ d. d .said .number ≡ 15 → rowStateOf (c .step .state) ≡ d .state → both (c .first′) (c .second′) ≡ d .arrays
+          own-cases (λ d. d .said .number ≡ moreToCome → rowStateOf (c .step .state) ≡ d .state → both (c .first′) (c .second′) ≡ d .arrays
           → (r : List ℕ) × (mark : ℕ) × OwnAt (c .step .state) (c .first′) (c .second′) (rows ++ r ∷ []) (marks ++ mark ∷ []))
           (λ r mark next q z s t. (
             r,
@@ -346,18 +346,18 @@ module _ (bytes : List ℕ) (settings : DecodeSettings) (c : RowCall) where
 
   -- what a call says before the page's end, of a number of the rules
   record Says (d : Rule.RowStep) : Type 0 where
-    listed : Ending (d .said .number) ⊎ ((d .said .number ≡ 6) ⊎ ((d .said .number ≡ 7) ⊎ ((d .said .number ≡ 8) ⊎ (d .said .number ≡ 15))))
-    six : (d .said .number ≡ 6) ↔ (settings .columns ≡ 4294967295)
-    seven : (d .said .number ≡ 7) ↔ ((settings .columns ≡ 4294967295 → ⊥) × (mostBytes < length bytes))
-    eight : (d .said .number ≡ 8) ↔ ((settings .columns ≡ 4294967295 → ⊥) × (length bytes ≤ mostBytes) × (Sound bytes settings c → ⊥))
-    none : settings .columns ≡ 0 → length bytes ≤ mostBytes → Sound bytes settings c → (d .said .number ≡ 0) × (d .said .rows ≡ 0) × (d .said .bytes ≡ 0)
-    refused : 6 ≤ d .said .number → d .said .number ≤ 8 → d ≡ Rule.refuses (settingsOf settings) bytes (rowStateOf (c .state)) lent (d .said .number)
+    listed : Ending (d .said .number) ⊎ ((d .said .number ≡ badWidth) ⊎ ((d .said .number ≡ tooLong) ⊎ ((d .said .number ≡ badRows) ⊎ (d .said .number ≡ moreToCome))))
+    six : (d .said .number ≡ badWidth) ↔ (settings .columns ≡ mostPixels)
+    seven : (d .said .number ≡ tooLong) ↔ ((settings .columns ≡ mostPixels → ⊥) × (mostBytes < length bytes))
+    eight : (d .said .number ≡ badRows) ↔ ((settings .columns ≡ mostPixels → ⊥) × (length bytes ≤ mostBytes) × (Sound bytes settings c → ⊥))
+    none : settings .columns ≡ 0 → length bytes ≤ mostBytes → Sound bytes settings c → (d .said .number ≡ complete) × (d .said .rows ≡ 0) × (d .said .bytes ≡ 0)
+    refused : badWidth ≤ d .said .number → d .said .number ≤ badRows → d ≡ Rule.refuses (settingsOf settings) bytes (rowStateOf (c .state)) lent (d .said .number)
 
   -- a row, or the page's end
-  says-read : (settings .columns ≡ 4294967295 → ⊥) → length bytes ≤ mostBytes → sound (settingsOf settings) bytes (rowStateOf (c .state)) lent ≡ true → 0 < settings .columns
-      → (d : Rule.RowStep) → (n : ℕ) → d .said .number ≡ n → (Ending n ⊎ (n ≡ 15)) → Says d
+  says-read : (settings .columns ≡ mostPixels → ⊥) → length bytes ≤ mostBytes → sound (settingsOf settings) bytes (rowStateOf (c .state)) lent ≡ true → 0 < settings .columns
+      → (d : Rule.RowStep) → (n : ℕ) → d .said .number ≡ n → (Ending n ⊎ (n ≡ moreToCome)) → Says d
   says-read ne size good wide d n e h = record {
-    listed = subst (λ (m : ℕ). Ending m ⊎ ((m ≡ 6) ⊎ ((m ≡ 7) ⊎ ((m ≡ 8) ⊎ (m ≡ 15))))) (sym e) (list h);
+    listed = subst (λ (m : ℕ). Ending m ⊎ ((m ≡ badWidth) ⊎ ((m ≡ tooLong) ⊎ ((m ≡ badRows) ⊎ (m ≡ moreToCome))))) (sym e) (list h);
     six = (λ z. absurd (apart h (omega arith) (omega arith) (sym e ∙ z)), λ z. absurd (ne z));
     seven = (λ z. absurd (apart h (omega arith) (omega arith) (sym e ∙ z)), λ z. absurd (omega (arith, z .1)));
     eight = (λ z. absurd (apart h (omega arith) (omega arith) (sym e ∙ z)), λ z. absurd (z .2 (passes-sound good)));
@@ -365,23 +365,23 @@ module _ (bytes : List ℕ) (settings : DecodeSettings) (c : RowCall) where
     refused = λ l k. absurd (outside h (omega arith) (omega arith));
   }
     where
-      list : (Ending n ⊎ (n ≡ 15)) → Ending n ⊎ ((n ≡ 6) ⊎ ((n ≡ 7) ⊎ ((n ≡ 8) ⊎ (n ≡ 15))))
+      list : (Ending n ⊎ (n ≡ moreToCome)) → Ending n ⊎ ((n ≡ badWidth) ⊎ ((n ≡ tooLong) ⊎ ((n ≡ badRows) ⊎ (n ≡ moreToCome))))
       list (inl k) = inl k
       list (inr k) = inr (inr (inr (inr k)))
 
-      apart : {m : ℕ} → (Ending n ⊎ (n ≡ 15)) → 6 ≤ m → m ≤ 8 → n ≡ m → ⊥
+      apart : {m : ℕ} → (Ending n ⊎ (n ≡ moreToCome)) → badWidth ≤ m → m ≤ badRows → n ≡ m → ⊥
       apart (inl (inl k)) l u q = omega arith
       apart (inl (inr k)) l u q = omega arith
       apart (inr k) l u q = omega arith
 
-      outside : (Ending n ⊎ (n ≡ 15)) → 6 ≤ n → n ≤ 8 → ⊥
+      outside : (Ending n ⊎ (n ≡ moreToCome)) → badWidth ≤ n → n ≤ badRows → ⊥
       outside h l u = apart h l u refl
 
   says : c .state .end ≡ Unended → Says (told bytes settings c)
   says un =
       call-cases (settingsOf settings) bytes (rowStateOf (c .state)) lent Says
       (λ n place b loose e. absurd (let q : endOf (c .state .end) ≡ unended = ap endOf un in let z : _≡_ {A = ℕ} 0 1 = cc in omega arith))
-      (λ u e. let q : settings .columns ≡ 4294967295 = eqb-true (settings .columns) 4294967295 e in record {
+      (λ u e. let q : settings .columns ≡ mostPixels = eqb-true (settings .columns) mostPixels e in record {
         listed = inr (inl refl);
         six = (λ z. q, λ z. refl);
         seven = (λ z. absurd (omega arith), λ z. absurd (z .0 q));
@@ -389,7 +389,7 @@ module _ (bytes : List ℕ) (settings : DecodeSettings) (c : RowCall) where
         none = λ z l s. absurd (omega (arith, q, z));
         refused = λ l k. refl;
       })
-      (λ u e l. let q : settings .columns ≡ 4294967295 → ⊥ = eqb-false (settings .columns) 4294967295 e in record {
+      (λ u e l. let q : settings .columns ≡ mostPixels → ⊥ = eqb-false (settings .columns) mostPixels e in record {
         listed = inr (inr (inl refl));
         six = (λ z. absurd (omega arith), λ z. absurd (q z));
         seven = (λ z. (q, l), λ z. refl);
@@ -397,7 +397,7 @@ module _ (bytes : List ℕ) (settings : DecodeSettings) (c : RowCall) where
         none = λ z k s. absurd (omega (arith, l, k));
         refused = λ l k. refl;
       })
-      (λ u e l s. let q : settings .columns ≡ 4294967295 → ⊥ = eqb-false (settings .columns) 4294967295 e in record {
+      (λ u e l s. let q : settings .columns ≡ mostPixels → ⊥ = eqb-false (settings .columns) mostPixels e in record {
         listed = inr (inr (inr (inl refl)));
         six = (λ z. absurd (omega arith), λ z. absurd (q z));
         seven = (λ z. absurd (omega arith), λ z. absurd (omega (arith, z .1)));
@@ -405,7 +405,7 @@ module _ (bytes : List ℕ) (settings : DecodeSettings) (c : RowCall) where
         none = λ z k t. absurd (true≢false (sym (sound-passes t) ∙ s));
         refused = λ l k. refl;
       })
-      (λ u e l s z. let q : settings .columns ≡ 4294967295 → ⊥ = eqb-false (settings .columns) 4294967295 e in record {
+      (λ u e l s z. let q : settings .columns ≡ mostPixels → ⊥ = eqb-false (settings .columns) mostPixels e in record {
         listed = inl (inl (omega arith));
         six = (λ z. absurd (omega arith), λ z. absurd (q z));
         seven = (λ z. absurd (omega arith), λ z. absurd (omega (arith, z .1)));
@@ -413,11 +413,11 @@ module _ (bytes : List ℕ) (settings : DecodeSettings) (c : RowCall) where
         none = λ z k t. (refl, refl, refl);
         refused = λ l k. absurd (omega arith);
       })
-      (λ u e l s w o q. rows (eqb-false (settings .columns) 4294967295 e) l s w o
+      (λ u e l s w o q. rows (eqb-false (settings .columns) mostPixels e) l s w o
       (subst (Bounded (bitsOf bytes)) q
       (row-bounded (strictIfExact (settingsOf settings)) w (bitsOf bytes) (whole-bytes bytes) (roomIn (rowStateOf (c .state)) lent) (between (rowStateOf (c .state)) lent) (omega (arith, passes-sound s .inside, length-bitsOf bytes)) (settingsOf settings .encoding))))
     where
-      rows : (settings .columns ≡ 4294967295 → ⊥) → length bytes ≤ mostBytes → sound (settingsOf settings) bytes (rowStateOf (c .state)) lent ≡ true → 0 < settings .columns
+      rows : (settings .columns ≡ mostPixels → ⊥) → length bytes ≤ mostBytes → sound (settingsOf settings) bytes (rowStateOf (c .state)) lent ≡ true → 0 < settings .columns
           → (o : RowOut) → Bounded (bitsOf bytes) o → Says (afterRow (rowStateOf (c .state)) lent (unlessFew (settingsOf settings) bytes (rowStateOf (c .state)) lent o))
       rows ne l s w (row r mark next) h = says-read ne l s w _ 15 refl (inr refl)
       rows ne l s w (stop n place b loose) h =
@@ -432,16 +432,16 @@ module _ (bytes : List ℕ) (settings : DecodeSettings) (c : RowCall) where
         let s = says un in
         let n = number-is bytes settings c g in
         record {
-          listed = subst (λ (m : ℕ). Ending m ⊎ ((m ≡ 6) ⊎ ((m ≡ 7) ⊎ ((m ≡ 8) ⊎ (m ≡ 15))))) (sym n) (s .listed);
-          six = subst (λ (m : ℕ). (m ≡ 6) ↔ (settings .columns ≡ 4294967295)) (sym n) (s .six);
-          seven = subst (λ (m : ℕ). (m ≡ 7) ↔ ((settings .columns ≡ 4294967295 → ⊥) × (mostBytes < length bytes))) (sym n) (s .seven);
-          eight = subst (λ (m : ℕ). (m ≡ 8) ↔ ((settings .columns ≡ 4294967295 → ⊥) × (length bytes ≤ mostBytes) × (Sound bytes settings c → ⊥))) (sym n) (s .eight);
+          listed = subst (λ (m : ℕ). Ending m ⊎ ((m ≡ badWidth) ⊎ ((m ≡ tooLong) ⊎ ((m ≡ badRows) ⊎ (m ≡ moreToCome))))) (sym n) (s .listed);
+          six = subst (λ (m : ℕ). (m ≡ badWidth) ↔ (settings .columns ≡ mostPixels)) (sym n) (s .six);
+          seven = subst (λ (m : ℕ). (m ≡ tooLong) ↔ ((settings .columns ≡ mostPixels → ⊥) × (mostBytes < length bytes))) (sym n) (s .seven);
+          eight = subst (λ (m : ℕ). (m ≡ badRows) ↔ ((settings .columns ≡ mostPixels → ⊥) × (length bytes ≤ mostBytes) × (Sound bytes settings c → ⊥))) (sym n) (s .eight);
           no-columns = λ z l t.
               let (a, b, d) = s .none z l t in
               (n ∙ a, ap (λ (x : Answer). x .rows) (g .answer) ∙ b, ap (λ (x : Answer). x .bytes) (g .answer) ∙ d);
         }
 
-    row-left : 6 ≤ numberOf c → numberOf c ≤ 8 → Left c
+    row-left : badWidth ≤ numberOf c → numberOf c ≤ badRows → Left c
     row-left l k =
         let n = number-is bytes settings c g in
         let r = says un .refused (omega (arith, n)) (omega (arith, n)) in
@@ -457,7 +457,7 @@ pub row-refusals : RowRefusals
 row-refusals bytes settings c g un = (row-listed bytes settings c g un, row-left bytes settings c g un)
 
 -- no number with which a page ends is 5 or 8
-not-listed : (n m : ℕ) → 4 < m → (m ≡ 14 → ⊥) → Ending n → n ≡ m → ⊥
+not-listed : (n m : ℕ) → noEntry < m → (m ≡ tooFewRows → ⊥) → Ending n → n ≡ m → ⊥
 not-listed n m h k (inl i) e = omega arith
 not-listed n m h k (inr i) e = k (sym e ∙ i)
 
@@ -465,12 +465,12 @@ pub own-states : OwnStates
 own-states bytes settings first second cs last f =
     let g = last-reads bytes settings cs last (f .start) first second (f .follows) in
     let n = number-is bytes settings last g in
-    page-cases bytes settings first second cs last f (λ cs. numberOf last ≡ 8 → ⊥)
+    page-cases bytes settings first second cs last f (λ cs. numberOf last ≡ badRows → ⊥)
     (λ p e.
     let (rows, marks, o, l) = own-page bytes settings p first second cs last f in
-    own-cases bytes settings p last rows marks o (λ d. d .said .number ≡ 8 → ⊥) (λ r mark next q z. omega arith) (λ m place b loose h z. not-listed m 8 (omega arith) (λ k. omega arith) h z) (sym n ∙ e))
+    own-cases bytes settings p last rows marks o (λ d. d .said .number ≡ badRows → ⊥) (λ r mark next q z. omega arith) (λ m place b loose h z. not-listed m 8 (omega arith) (λ k. omega arith) h z) (sym n ∙ e))
     (λ s h e.
-    call-cases (settingsOf settings) bytes (rowStateOf (last .state)) (both (last .first) (last .second)) (λ d. d .said .number ≡ 8 → ⊥)
+    call-cases (settingsOf settings) bytes (rowStateOf (last .state)) (both (last .first) (last .second)) (λ d. d .said .number ≡ badRows → ⊥)
     (λ m place b loose u z. not-listed m 8 (omega arith) (λ k. omega arith) (listed bytes settings last h m place b loose u) z)
     (λ u t z. omega arith) (λ u t k z. omega arith)
     (λ u t k q z. true≢false
@@ -482,11 +482,11 @@ own-states bytes settings first second cs last f =
     (sym n ∙ e))
   where
     rows : (o : RowOut) → Bounded (bitsOf bytes) o
-        → afterRow (rowStateOf (last .state)) (both (last .first) (last .second)) (unlessFew (settingsOf settings) bytes (rowStateOf (last .state)) (both (last .first) (last .second)) o) .said .number ≡ 8 → ⊥
+        → afterRow (rowStateOf (last .state)) (both (last .first) (last .second)) (unlessFew (settingsOf settings) bytes (rowStateOf (last .state)) (both (last .first) (last .second)) o) .said .number ≡ badRows → ⊥
     rows (row r mark next) h = λ z. omega arith
     rows (stop n place b loose) h =
         few-cases (settingsOf settings) bytes (rowStateOf (last .state)) (both (last .first) (last .second)) n place b loose
-        (λ w. afterRow (rowStateOf (last .state)) (both (last .first) (last .second)) w .said .number ≡ 8 → ⊥) (λ z. omega arith) (λ z. omega arith)
+        (λ w. afterRow (rowStateOf (last .state)) (both (last .first) (last .second)) w .said .number ≡ badRows → ⊥) (λ z. omega arith) (λ z. omega arith)
 
 -- ---- 4, 5 and the marks
 
@@ -496,20 +496,20 @@ module _ (bytes : List ℕ) (settings : DecodeSettings) (p : Passed bytes settin
       → c .step .count ≡ length (changesIn (rowIn (settingsOf settings) (p .wide) bytes (at bytes settings (c .state) (c .first) (c .second) rows marks)))
   own-count c g rows marks o = g .count ∙ cases (rowIn (settingsOf settings) (p .wide) bytes (at bytes settings (c .state) (c .first) (c .second) rows marks)) refl
     where
-      ended-count : (n place b : ℕ) (loose : List ℕ) → (n ≡ 15 → ⊥) → countOf (afterRow (rowStateOf (c .state)) (both (c .first) (c .second)) (stop n place b loose)) ≡ length loose
+      ended-count : (n place b : ℕ) (loose : List ℕ) → (n ≡ moreToCome → ⊥) → countOf (afterRow (rowStateOf (c .state)) (both (c .first) (c .second)) (stop n place b loose)) ≡ length loose
       ended-count n place b loose ne = ap (λ (t : Bool). cond t (c .state .held) (length loose)) (ne-eqb n 15 ne)
 
       cases : (w : RowOut) → rowIn (settingsOf settings) (p .wide) bytes (at bytes settings (c .state) (c .first) (c .second) rows marks) ≡ w → countOf (told bytes settings c) ≡ length (changesIn w)
       cases (row r mark next) e = ap countOf (comes-to bytes settings p c rows marks o (row r mark next) e)
       cases (stop n place b loose) e =
-          let m : n ≤ 4 = subst (Bounded (bitsOf bytes)) e (row-bounded (strictIfExact (settingsOf settings)) (p .wide) (bitsOf bytes) (whole-bytes bytes) _ _ (o .held .inside) (settingsOf settings .encoding)) in
+          let m : n ≤ noEntry = subst (Bounded (bitsOf bytes)) e (row-bounded (strictIfExact (settingsOf settings)) (p .wide) (bitsOf bytes) (whole-bytes bytes) _ _ (o .held .inside) (settingsOf settings .encoding)) in
           ap countOf (comes-to bytes settings p c rows marks o (stop n place b loose) e)
           ∙ few-cases (settingsOf settings) bytes (rowStateOf (c .state)) (both (c .first) (c .second)) n place b loose (λ w. countOf (afterRow (rowStateOf (c .state)) (both (c .first) (c .second)) w) ≡ length loose) (ended-count 14 0 0 loose (λ z. omega arith)) (ended-count n place b loose (λ z. omega arith))
 
 pub four-means : FourMeans
 four-means bytes settings first second cs last f wide narrow size w g same-state′ same-reference long =
     let S = settingsOf settings in
-    let p : Passed bytes settings = record { wide = wide; narrow = ne-eqb (settings .columns) 4294967295 (λ z. omega arith); size = size } in
+    let p : Passed bytes settings = record { wide = wide; narrow = ne-eqb (settings .columns) mostPixels (λ z. omega arith); size = size } in
     let (rows, marks, o, l) = own-page bytes settings p first second cs last f in
     let k = at bytes settings (last .state) (last .first) (last .second) rows marks in
     let n = number-is bytes settings last (last-reads bytes settings cs last (f .start) first second (f .follows)) in
@@ -533,7 +533,7 @@ four-means bytes settings first second cs last f wide narrow size w g same-state
 pub line-array-enough : LineArrayEnough
 line-array-enough bytes settings first second cs last f wide narrow size long e =
     let S = settingsOf settings in
-    let p : Passed bytes settings = record { wide = wide; narrow = ne-eqb (settings .columns) 4294967295 (λ z. omega arith); size = size } in
+    let p : Passed bytes settings = record { wide = wide; narrow = ne-eqb (settings .columns) mostPixels (λ z. omega arith); size = size } in
     let (rows, marks, o, l) = own-page bytes settings p first second cs last f in
     let k = at bytes settings (last .state) (last .first) (last .second) rows marks in
     let n = number-is bytes settings last (last-reads bytes settings cs last (f .start) first second (f .follows)) in
@@ -548,7 +548,7 @@ never-five bytes settings c g =
     let mark : markOf c ≡ told bytes settings c .said .mark = ap (λ (a : Answer). a .mark) (g .answer) in
     ((λ e. cases (endOf (c .state .end)) refl (sym n ∙ e)), omega (arith, mark, m .0), λ h. mark ∙ m .1 (λ z. h (n ∙ z)))
   where
-    cases : (e : Rule.End) → endOf (c .state .end) ≡ e → told bytes settings c .said .number ≡ 5 → ⊥
+    cases : (e : Rule.End) → endOf (c .state .end) ≡ e → told bytes settings c .said .number ≡ noRowEnd → ⊥
     cases unended e z = Laws.never-five (settingsOf settings) bytes (rowStateOf (c .state)) (both (c .first) (c .second)) e z
     cases (ended m place b loose) e z =
         not-listed m 5 (omega arith) (λ k. omega arith) (listed bytes settings c g m place b loose e)

@@ -9,6 +9,7 @@ use native.Mathlib.Omega.{arith}
 use lib.Dec.{eqb, leb, ltb}
 use lib.ListN.{length}
 use borrow.Author.Tests.{leb-true, ltb-true, ltb-false, eq-eqb, ne-eqb, eqb-true, eqb-false, lt-ltb, le-ltb}
+use Rattle.rules.specs.Answers.{complete, badWidth, tooLong, badRows, badNumber, moreToCome, mostPixels}
 use Rattle.rules.specs.Machine as Machine
 use Rattle.rules.specs.Machine.{more, done}
 use Rattle.rules.specs.Bits.{bitsOf}
@@ -91,12 +92,12 @@ unfolding total
 total-snoc [] n = let z : n + 0 ≡ 0 + n = omega arith in z
 total-snoc (m ∷ ns) n = ap (λ (i : ℕ). m + i) (total-snoc ns n) ∙ (let z : m + (total ns + n) ≡ m + total ns + n = omega arith in z)
 
-not-fifteen : {n : ℕ} → Ending n → n ≡ 15 → ⊥
+not-fifteen : {n : ℕ} → Ending n → n ≡ moreToCome → ⊥
 not-fifteen (inl h) e = omega arith
 not-fifteen (inr h) e = omega arith
 
 -- the page form's numbers, once 6 and 7 are passed
-decode-listed : (S : Settings) → 0 < S .columns → S .columns < 4294967295 → (bytes : List ℕ) → length bytes ≤ mostBytes → (store places : ℕ) → Ending (decode S bytes store places .number)
+decode-listed : (S : Settings) → 0 < S .columns → S .columns < mostPixels → (bytes : List ℕ) → length bytes ≤ mostBytes → (store places : ℕ) → Ending (decode S bytes store places .number)
 decode-listed S w n bytes few store places =
     subst (λ (a : Page′.Answer). Ending (a .number)) (sym (decode-reads S w n bytes few store places))
     (short-cases S (readPage (strictIfExact S) (bitsOf bytes) store places) (λ a. Ending (a .number)) (λ k. inr refl)
@@ -191,7 +192,7 @@ module _ (bytes : List ℕ) (settings : DecodeSettings) where
 
     -- ---- A page that is read
 
-    module _ (w : 0 < settings .columns) (n : settings .columns < 4294967295) (few : length bytes ≤ mostBytes) where
+    module _ (w : 0 < settings .columns) (n : settings .columns < mostPixels) (few : length bytes ≤ mostBytes) where
       abbrev pub units : ℕ
       units = pageUnits (strictIfExact S) (bitsOf bytes) (length xs) (placesIn es ms)
 
@@ -200,10 +201,10 @@ module _ (bytes : List ℕ) (settings : DecodeSettings) where
       positive [] h = tt
       positive (m ∷ l) h = (h .0, positive l (h .1))
 
-      open-page : total asked < units → numberOf last ≡ 15
+      open-page : total asked < units → numberOf last ≡ moreToCome
       open-page l =
           ap (λ (a : Answer). a .number) (whole .answer)
-          ∙ first-of (λ ns. total ns < units → Each ns → turns S bytes ns begin .answer .number ≡ 15) (λ m ns e l h. turns-open S w n bytes few xs es ms refl m ns (positive (m ∷ ns) h) l .0) l asked-each
+          ∙ first-of (λ ns. total ns < units → Each ns → turns S bytes ns begin .answer .number ≡ moreToCome) (λ m ns e l h. turns-open S w n bytes few xs es ms refl m ns (positive (m ∷ ns) h) l .0) l asked-each
 
       abbrev answer : Page′.Answer
       answer = decode S bytes (length xs) (placesIn es ms)
@@ -217,20 +218,20 @@ module _ (bytes : List ℕ) (settings : DecodeSettings) where
           (λ m ns e l h. turns-ended S w n bytes few xs es ms refl m ns (positive (m ∷ ns) h) l) l asked-each
 
       -- an end is not 15
-      ended-number : units ≤ total asked → numberOf last ≡ 15 → ⊥
+      ended-number : units ≤ total asked → numberOf last ≡ moreToCome → ⊥
       ended-number l e =
           not-fifteen (decode-listed S w n bytes few (length xs) (placesIn es ms)) (sym (ap (λ (a : Answer). a .number) (whole .answer) ∙ ap (λ (s : Said). s .number) (ended-page l .0)) ∙ e)
 
       reported : last .turn .units ≡ min (last .n) (units - total (numbersOf before))
       reported = along .is .units ∙ turns-report S w n bytes few xs es ms refl (numbersOf before) (last .n) (positive (numbersOf before) (along .positive)) (along .some′)
 
-      pub open-exactly : (numberOf last ≡ 15) ↔ (total (numbersOf before) + last .n < units)
+      pub open-exactly : (numberOf last ≡ moreToCome) ↔ (total (numbersOf before) + last .n < units)
       open-exactly = (
         (λ e. cases (ltb (total asked) units) refl e),
         (λ l. open-page (omega (arith, asked-total))),
       )
         where
-          cases : (b : Bool) → ltb (total asked) units ≡ b → numberOf last ≡ 15 → total (numbersOf before) + last .n < units
+          cases : (b : Bool) → ltb (total asked) units ≡ b → numberOf last ≡ moreToCome → total (numbersOf before) + last .n < units
           cases true q e = omega (arith, ltb-true (total asked) units q, asked-total)
           cases false q e = absurd (ended-number (ltb-false (total asked) units q) e)
 
@@ -251,15 +252,15 @@ module _ (bytes : List ℕ) (settings : DecodeSettings) where
         all-turns (n ∷ l) h = others (l ++ last .n ∷ []) (next n begin) (each-snoc l (last .n) (h .1) (along .some′)) (first n (h .0))
 
   -- with columns that are too many, or data that is too long
-  pub refused-6 : (xs es ms : List ℕ) → settings .columns ≡ 4294967295 → (n : ℕ) → 0 < n → turn S bytes xs es ms n (opened savedStart) ≡ still S bytes xs es ms (saysOnly 6) (opened savedStart)
+  pub refused-6 : (xs es ms : List ℕ) → settings .columns ≡ mostPixels → (n : ℕ) → 0 < n → turn S bytes xs es ms n (opened savedStart) ≡ still S bytes xs es ms (saysOnly badWidth) (opened savedStart)
   unfolding turn turnOn
   refused-6 xs es ms e zero p = absurd (omega arith)
-  refused-6 xs es ms e (suc n) p = rw (eq-eqb (settings .columns) 4294967295 e, turnOn)
+  refused-6 xs es ms e (suc n) p = rw (eq-eqb (settings .columns) mostPixels e, turnOn)
 
-  pub refused-7 : (xs es ms : List ℕ) → (settings .columns ≡ 4294967295 → ⊥) → mostBytes < length bytes → (n : ℕ) → 0 < n → turn S bytes xs es ms n (opened savedStart) ≡ still S bytes xs es ms (saysOnly 7) (opened savedStart)
+  pub refused-7 : (xs es ms : List ℕ) → (settings .columns ≡ mostPixels → ⊥) → mostBytes < length bytes → (n : ℕ) → 0 < n → turn S bytes xs es ms n (opened savedStart) ≡ still S bytes xs es ms (saysOnly tooLong) (opened savedStart)
   unfolding turn turnOn
   refused-7 xs es ms e l zero p = absurd (omega arith)
-  refused-7 xs es ms e l (suc n) p = rw (ne-eqb (settings .columns) 4294967295 e, lt-ltb mostBytes (length bytes) l, turnOn)
+  refused-7 xs es ms e l (suc n) p = rw (ne-eqb (settings .columns) mostPixels e, lt-ltb mostBytes (length bytes) l, turnOn)
 
   -- the start passes the tests
   start-sound : (xs es ms : List ℕ) → sound xs es savedStart (settings .columns) (length (bitsOf bytes)) (placesIn es ms) ≡ true
@@ -280,11 +281,11 @@ module _ (bytes : List ℕ) (settings : DecodeSettings) where
   })
 
   -- without columns the first call ends the page
-  pub no-columns : (xs es ms : List ℕ) → settings .columns ≡ 0 → length bytes ≤ mostBytes → (n : ℕ) → 0 < n → turn S bytes xs es ms n (opened savedStart) ≡ still S bytes xs es ms (saysOnly 0) (ended (saysOnly 0))
+  pub no-columns : (xs es ms : List ℕ) → settings .columns ≡ 0 → length bytes ≤ mostBytes → (n : ℕ) → 0 < n → turn S bytes xs es ms n (opened savedStart) ≡ still S bytes xs es ms (saysOnly complete) (ended (saysOnly complete))
   unfolding turn turnOn
   no-columns xs es ms e l zero p = absurd (omega arith)
   no-columns xs es ms e l (suc n) p =
-      rw (ne-eqb (settings .columns) 4294967295 (λ q. omega arith), le-ltb mostBytes (length bytes) l, start-sound xs es ms, eq-eqb (settings .columns) 0 e, turnOn)
+      rw (ne-eqb (settings .columns) mostPixels (λ q. omega arith), le-ltb mostBytes (length bytes) l, start-sound xs es ms, eq-eqb (settings .columns) 0 e, turnOn)
 
   pub repeated : (xs es ms : List ℕ) (c : Said) (n : ℕ) → 0 < n → turn S bytes xs es ms n (ended c) ≡ still S bytes xs es ms c (ended c)
   unfolding turn
@@ -327,7 +328,7 @@ module _ (bytes : List ℕ) (settings : DecodeSettings) (enc : settings .encodin
   unfolding changesAfter endsAfter marksAfter joined endsFrom entries
   gives-refusal n held t = (t .answer, t .changes ∙ sym (overlaid-nothing xs), t .ends ∙ sym (overlaid-nothing es), t .marks ∙ sym (overlaid-nothing ms))
 
-  gives-read : (w : 0 < settings .columns) (n : settings .columns < 4294967295) (few : length bytes ≤ mostBytes) → (numberOf last ≡ 15 → ⊥) → Gives (decode (settingsOf settings) bytes (length xs) (placesIn es ms))
+  gives-read : (w : 0 < settings .columns) (n : settings .columns < mostPixels) (few : length bytes ≤ mostBytes) → (numberOf last ≡ moreToCome → ⊥) → Gives (decode (settingsOf settings) bytes (length xs) (placesIn es ms))
   gives-read w n few ne =
       subst (λ (S : Settings). Gives (decode S bytes (length xs) (placesIn es ms))) same-settings
       (cases (ltb (total (asked bytes settings xs es ms before last p)) (units bytes settings xs es ms before last p w n few)) refl)
@@ -343,24 +344,24 @@ module _ (bytes : List ℕ) (settings : DecodeSettings) (enc : settings .encodin
             t .marks ∙ e .3,
           )
 
-  gives : settings .columns ≤ 4294967295 → (numberOf last ≡ 15 → ⊥) → Gives (decode (settingsOf settings) bytes (length xs) (placesIn es ms))
+  gives : settings .columns ≤ mostPixels → (numberOf last ≡ moreToCome → ⊥) → Gives (decode (settingsOf settings) bytes (length xs) (placesIn es ms))
   unfolding decode
   gives small ne = tests (tooWide (settings .columns)) refl (ltb mostBytes (length bytes)) refl (eqb (settings .columns) 0) refl
     where
       tests : (a : Bool) → tooWide (settings .columns) ≡ a → (b : Bool) → ltb mostBytes (length bytes) ≡ b → (c : Bool) → eqb (settings .columns) 0 ≡ c → Gives (decode (settingsOf settings) bytes (length xs) (placesIn es ms))
       tests true e b f c h =
           let r = refused-6 bytes settings xs es ms (eqb-true _ _ e) in
-          rw (e, decode) (gives-refusal 6 (opened savedStart) (stuck bytes settings xs es ms before last p (saysOnly 6) (opened savedStart) r r))
+          rw (e, decode) (gives-refusal badWidth (opened savedStart) (stuck bytes settings xs es ms before last p (saysOnly badWidth) (opened savedStart) r r))
       tests false e true f c h =
           let r = refused-7 bytes settings xs es ms (eqb-false _ _ e) (ltb-true _ _ f) in
-          rw (e, f, decode) (gives-refusal 7 (opened savedStart) (stuck bytes settings xs es ms before last p (saysOnly 7) (opened savedStart) r r))
+          rw (e, f, decode) (gives-refusal tooLong (opened savedStart) (stuck bytes settings xs es ms before last p (saysOnly tooLong) (opened savedStart) r r))
       tests false e false f true h =
           rw (e, f, h, decode)
-          (gives-refusal 0 (ended (saysOnly 0))
-          (stuck bytes settings xs es ms before last p (saysOnly 0) (ended (saysOnly 0)) (no-columns bytes settings xs es ms (eqb-true _ _ h) (ltb-false _ _ f)) (repeated bytes settings xs es ms (saysOnly 0))))
+          (gives-refusal complete (ended (saysOnly complete))
+          (stuck bytes settings xs es ms before last p (saysOnly complete) (ended (saysOnly complete)) (no-columns bytes settings xs es ms (eqb-true _ _ h) (ltb-false _ _ f)) (repeated bytes settings xs es ms (saysOnly complete))))
       tests false e false f false h =
           let z : settings .columns ≡ 0 → ⊥ = eqb-false _ _ h in
-          let n : settings .columns ≡ 4294967295 → ⊥ = eqb-false _ _ e in
+          let n : settings .columns ≡ mostPixels → ⊥ = eqb-false _ _ e in
           gives-read (omega (arith, z)) (omega (arith, n, small)) (ltb-false _ _ f) ne
 
 pub units-agree : UnitsAgree
@@ -376,9 +377,9 @@ units-taken bytes settings r changes ends marks before last p =
     ∙ ap (λ (S : Settings). min (last .n) (pageUnits (strictIfExact S) (bitsOf bytes) (length changes) (placesIn ends marks) - total (numbersOf before))) (same-settings bytes settings (r .encoding) changes ends marks before last p)
 
 more-exactly : (bytes : List ℕ) (settings : DecodeSettings) → Readable bytes settings → (changes ends marks : List ℕ) (before : List UnitCall) (last : UnitCall) → Page bytes settings changes ends marks before last
-    → (numberOf last ≡ 15) ↔ (total (numbersOf before) + last .n < unitsOf bytes settings changes ends marks)
+    → (numberOf last ≡ moreToCome) ↔ (total (numbersOf before) + last .n < unitsOf bytes settings changes ends marks)
 more-exactly bytes settings r changes ends marks before last p =
-    subst (λ (S : Settings). (numberOf last ≡ 15) ↔ (total (numbersOf before) + last .n < pageUnits (strictIfExact S) (bitsOf bytes) (length changes) (placesIn ends marks)))
+    subst (λ (S : Settings). (numberOf last ≡ moreToCome) ↔ (total (numbersOf before) + last .n < pageUnits (strictIfExact S) (bitsOf bytes) (length changes) (placesIn ends marks)))
     (same-settings bytes settings (r .encoding) changes ends marks before last p) (open-exactly bytes settings changes ends marks before last p (r .wide) (r .narrow) (r .few))
 
 pub more-to-come : MoreToCome
@@ -409,7 +410,7 @@ calls-needed bytes settings r n some′ changes ends marks before last p same e 
 
 -- "Ending", or one of the others
 abbrev ListedNumber : ℕ → Type 0
-ListedNumber n = Ending n ⊎ ((n ≡ 6) ⊎ ((n ≡ 7) ⊎ ((n ≡ 8) ⊎ (n ≡ 15))))
+ListedNumber n = Ending n ⊎ ((n ≡ badWidth) ⊎ ((n ≡ tooLong) ⊎ ((n ≡ badRows) ⊎ (n ≡ moreToCome))))
 
 -- the end that a reading has is of the list
 pub ended-listed : (r : Unit.Reading) (d : Said) → readingOf r ≡ ended d → Ending (d .number)
@@ -483,14 +484,14 @@ module _ (bytes : List ℕ) (settings : DecodeSettings) (c : UnitCall) (s : Save
 
   record Says (t : Rule.Turn) : Type 0 where
     listed : ListedNumber (t .answer .number)
-    six : (t .answer .number ≡ 6) ↔ (settings .columns ≡ 4294967295)
-    seven : (t .answer .number ≡ 7) ↔ ((settings .columns ≡ 4294967295 → ⊥) × (mostBytes < length bytes))
-    eight : (t .answer .number ≡ 8) ↔ ((settings .columns ≡ 4294967295 → ⊥) × (length bytes ≤ mostBytes) × (Sound bytes settings c s → ⊥))
-    none : settings .columns ≡ 0 → length bytes ≤ mostBytes → Sound bytes settings c s → (t .answer .number ≡ 0) × (t .answer .rows ≡ 0) × (t .answer .bytes ≡ 0)
-    refused : 6 ≤ t .answer .number → t .answer .number ≤ 8 → t ≡ still S₁ bytes (c .changes) (c .ends) (c .marks) (saysOnly (t .answer .number)) (opened (savedOf s))
+    six : (t .answer .number ≡ badWidth) ↔ (settings .columns ≡ mostPixels)
+    seven : (t .answer .number ≡ tooLong) ↔ ((settings .columns ≡ mostPixels → ⊥) × (mostBytes < length bytes))
+    eight : (t .answer .number ≡ badRows) ↔ ((settings .columns ≡ mostPixels → ⊥) × (length bytes ≤ mostBytes) × (Sound bytes settings c s → ⊥))
+    none : settings .columns ≡ 0 → length bytes ≤ mostBytes → Sound bytes settings c s → (t .answer .number ≡ complete) × (t .answer .rows ≡ 0) × (t .answer .bytes ≡ 0)
+    refused : badWidth ≤ t .answer .number → t .answer .number ≤ badRows → t ≡ still S₁ bytes (c .changes) (c .ends) (c .marks) (saysOnly (t .answer .number)) (opened (savedOf s))
 
   -- units are taken, or the page ends
-  says-read : (settings .columns ≡ 4294967295 → ⊥) → length bytes ≤ mostBytes → soundHere ≡ true → 0 < settings .columns → (t : Rule.Turn) → (Ending (t .answer .number) ⊎ (t .answer .number ≡ 15)) → Says t
+  says-read : (settings .columns ≡ mostPixels → ⊥) → length bytes ≤ mostBytes → soundHere ≡ true → 0 < settings .columns → (t : Rule.Turn) → (Ending (t .answer .number) ⊎ (t .answer .number ≡ moreToCome)) → Says t
   says-read ne size good wide t h = record {
     listed = list h;
     six = ((λ z. absurd (apart h (omega arith) (omega arith))), λ z. absurd (ne z));
@@ -500,11 +501,11 @@ module _ (bytes : List ℕ) (settings : DecodeSettings) (c : UnitCall) (s : Save
     refused = λ l k. absurd (apart h l k);
   }
     where
-      list : (Ending (t .answer .number) ⊎ (t .answer .number ≡ 15)) → ListedNumber (t .answer .number)
+      list : (Ending (t .answer .number) ⊎ (t .answer .number ≡ moreToCome)) → ListedNumber (t .answer .number)
       list (inl k) = inl k
       list (inr k) = inr (inr (inr (inr k)))
 
-      apart : (Ending (t .answer .number) ⊎ (t .answer .number ≡ 15)) → 6 ≤ t .answer .number → t .answer .number ≤ 8 → ⊥
+      apart : (Ending (t .answer .number) ⊎ (t .answer .number ≡ moreToCome)) → badWidth ≤ t .answer .number → t .answer .number ≤ badRows → ⊥
       apart (inl (inl k)) l u = omega arith
       apart (inl (inr k)) l u = omega arith
       apart (inr k) l u = omega arith
@@ -512,7 +513,7 @@ module _ (bytes : List ℕ) (settings : DecodeSettings) (c : UnitCall) (s : Save
   says : (n : ℕ) → (r : Unit.Reading) → readingOf r ≡ turn S₁ bytes (c .changes) (c .ends) (c .marks) (suc n) (opened (savedOf s)) .reading → Says (turn S₁ bytes (c .changes) (c .ends) (c .marks) (suc n) (opened (savedOf s)))
   says n r =
       turn-cases S₁ bytes (c .changes) (c .ends) (c .marks) n (savedOf s) (λ t. readingOf r ≡ t .reading → Says t)
-      (λ e k. let q : settings .columns ≡ 4294967295 = eqb-true (settings .columns) 4294967295 e in record {
+      (λ e k. let q : settings .columns ≡ mostPixels = eqb-true (settings .columns) mostPixels e in record {
         listed = inr (inl refl);
         six = ((λ z. q), λ z. refl);
         seven = ((λ z. absurd (omega arith)), λ z. absurd (z .0 q));
@@ -520,7 +521,7 @@ module _ (bytes : List ℕ) (settings : DecodeSettings) (c : UnitCall) (s : Save
         none = λ z l h. absurd (omega (arith, q, z));
         refused = λ l k. refl;
       })
-      (λ e l k. let q : settings .columns ≡ 4294967295 → ⊥ = eqb-false (settings .columns) 4294967295 e in record {
+      (λ e l k. let q : settings .columns ≡ mostPixels → ⊥ = eqb-false (settings .columns) mostPixels e in record {
         listed = inr (inr (inl refl));
         six = ((λ z. absurd (omega arith)), λ z. absurd (q z));
         seven = ((λ z. (q, l)), λ z. refl);
@@ -528,7 +529,7 @@ module _ (bytes : List ℕ) (settings : DecodeSettings) (c : UnitCall) (s : Save
         none = λ z m h. absurd (omega (arith, l, m));
         refused = λ l k. refl;
       })
-      (λ e l h k. let q : settings .columns ≡ 4294967295 → ⊥ = eqb-false (settings .columns) 4294967295 e in record {
+      (λ e l h k. let q : settings .columns ≡ mostPixels → ⊥ = eqb-false (settings .columns) mostPixels e in record {
         listed = inr (inr (inr (inl refl)));
         six = ((λ z. absurd (omega arith)), λ z. absurd (q z));
         seven = ((λ z. absurd (omega arith)), λ z. absurd (omega (arith, z .1)));
@@ -536,7 +537,7 @@ module _ (bytes : List ℕ) (settings : DecodeSettings) (c : UnitCall) (s : Save
         none = λ z m t. absurd (true≢false (sym (sound-passes t) ∙ h));
         refused = λ l k. refl;
       })
-      (λ e l h z k. let q : settings .columns ≡ 4294967295 → ⊥ = eqb-false (settings .columns) 4294967295 e in record {
+      (λ e l h z k. let q : settings .columns ≡ mostPixels → ⊥ = eqb-false (settings .columns) mostPixels e in record {
         listed = inl (inl (omega arith));
         six = ((λ y. absurd (omega arith)), λ y. absurd (q y));
         seven = ((λ y. absurd (omega arith)), λ y. absurd (omega (arith, y .1)));
@@ -544,13 +545,13 @@ module _ (bytes : List ℕ) (settings : DecodeSettings) (c : UnitCall) (s : Save
         none = λ y m t. (refl, refl, refl);
         refused = λ l k. absurd (omega arith);
       })
-      (λ e l h w k. says-read (eqb-false (settings .columns) 4294967295 e) l h w _ (number (call (strictIfExact S₁) (bitsOf bytes) (length (c .changes)) places₁ (suc n) (more (goingOf (c .changes) (c .ends) (savedOf s)))) k))
+      (λ e l h w k. says-read (eqb-false (settings .columns) mostPixels e) l h w _ (number (call (strictIfExact S₁) (bitsOf bytes) (length (c .changes)) places₁ (suc n) (more (goingOf (c .changes) (c .ends) (savedOf s)))) k))
     where
       base : ℕ
       base = endOf (c .ends) (s .rows)
 
       number : (o : Machine.Out Going Page′.Answer) → readingOf r ≡ readingAfter (unlessFewer S₁ (saidBehind (s .rows) base (soFar o))) o
-          → Ending (unlessFewer S₁ (saidBehind (s .rows) base (soFar o)) .number) ⊎ (unlessFewer S₁ (saidBehind (s .rows) base (soFar o)) .number ≡ 15)
+          → Ending (unlessFewer S₁ (saidBehind (s .rows) base (soFar o)) .number) ⊎ (unlessFewer S₁ (saidBehind (s .rows) base (soFar o)) .number ≡ moreToCome)
       number (more g) k = inr (rw (and-false (settings .exact)))
       number (done a) k = inl (ended-listed r (unlessFewer S₁ (saidBehind (s .rows) base a)) k)
 
@@ -573,7 +574,7 @@ any-listed bytes settings c g some′ = subst ListedNumber (sym (number-is bytes
     cases (suc n) p (Open s) e = says bytes settings c s n (c .turn .reading) e .listed
     cases (suc n) p (Ended e d) q = inl (subst (λ (t : Rule.Turn). Ending (t .answer .number)) (sym (turn-repeats (asGroup4 (settingsOf settings)) bytes (c .changes) (c .ends) (c .marks) n (saidOf e d))) (end-listed e d))
 
-not-ten : {n : ℕ} → ListedNumber n → n ≡ 10 → ⊥
+not-ten : {n : ℕ} → ListedNumber n → n ≡ badNumber → ⊥
 not-ten (inl (inl h)) e = omega arith
 not-ten (inl (inr h)) e = omega arith
 not-ten (inr (inl h)) e = omega arith
@@ -593,15 +594,15 @@ pub ten-means : TenMeans
 unfolding turn
 ten-means bytes settings c g = cases (c .n) refl
   where
-    ten : c .n ≡ 0 → (c .turn .answer ≡ answerOf (saysOnly 10)) × Left c
-    ten e = left-so bytes settings c (saysOnly 10) g (ap (λ (n : ℕ). turn (asGroup4 (settingsOf settings)) bytes (c .changes) (c .ends) (c .marks) n (readingOf (c .reading))) e)
+    ten : c .n ≡ 0 → (c .turn .answer ≡ answerOf (saysOnly badNumber)) × Left c
+    ten e = left-so bytes settings c (saysOnly badNumber) g (ap (λ (n : ℕ). turn (asGroup4 (settingsOf settings)) bytes (c .changes) (c .ends) (c .marks) n (readingOf (c .reading))) e)
 
-    cases : (n : ℕ) → c .n ≡ n → ((numberOf c ≡ 10) ↔ (c .n ≡ 0)) × (c .n ≡ 0 → Left c)
+    cases : (n : ℕ) → c .n ≡ n → ((numberOf c ≡ badNumber) ↔ (c .n ≡ 0)) × (c .n ≡ 0 → Left c)
     cases zero e = (((λ q. e), λ q. ap (λ (a : Answer). a .number) (ten e .0)), λ q. ten e .1)
     cases (suc n) e = (((λ q. absurd (never q)), λ q. absurd (omega arith)), λ q. absurd (omega arith))
       where
         -- 10 is no number of a call with units
-        never : numberOf c ≡ 10 → ⊥
+        never : numberOf c ≡ badNumber → ⊥
         never q = not-ten (any-listed bytes settings c g (omega arith)) q
 
 pub unit-form-repeats : UnitFormRepeats
@@ -645,17 +646,17 @@ unit-refusals bytes settings c g some′ s o = (
 -- ---- States handed back
 
 -- the page form's numbers are others
-not-eight : (S : Settings) (bytes : List ℕ) (store places : ℕ) → S .columns ≤ 4294967295 → decode S bytes store places .number ≡ 8 → ⊥
+not-eight : (S : Settings) (bytes : List ℕ) (store places : ℕ) → S .columns ≤ mostPixels → decode S bytes store places .number ≡ badRows → ⊥
 unfolding decode
 not-eight S bytes store places small = tests (tooWide (S .columns)) refl (ltb mostBytes (length bytes)) refl (eqb (S .columns) 0) refl
   where
-    tests : (a : Bool) → tooWide (S .columns) ≡ a → (b : Bool) → ltb mostBytes (length bytes) ≡ b → (c : Bool) → eqb (S .columns) 0 ≡ c → decode S bytes store places .number ≡ 8 → ⊥
+    tests : (a : Bool) → tooWide (S .columns) ≡ a → (b : Bool) → ltb mostBytes (length bytes) ≡ b → (c : Bool) → eqb (S .columns) 0 ≡ c → decode S bytes store places .number ≡ badRows → ⊥
     tests true e b f c h = rw (e, decode) (λ z. omega arith)
     tests false e true f c h = rw (e, f, decode) (λ z. omega arith)
     tests false e false f true h = rw (e, f, h, decode) (λ z. omega arith)
-    tests false e false f false h = λ z. apart (decode-listed S (let k : S .columns ≡ 0 → ⊥ = eqb-false _ _ h in omega (arith, k)) (let k : S .columns ≡ 4294967295 → ⊥ = eqb-false _ _ e in omega (arith, k, small)) bytes (ltb-false _ _ f) store places) z
+    tests false e false f false h = λ z. apart (decode-listed S (let k : S .columns ≡ 0 → ⊥ = eqb-false _ _ h in omega (arith, k)) (let k : S .columns ≡ mostPixels → ⊥ = eqb-false _ _ e in omega (arith, k, small)) bytes (ltb-false _ _ f) store places) z
       where
-        apart : {n : ℕ} → Ending n → n ≡ 8 → ⊥
+        apart : {n : ℕ} → Ending n → n ≡ badRows → ⊥
         apart (inl k) z = omega arith
         apart (inr k) z = omega arith
 

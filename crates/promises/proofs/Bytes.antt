@@ -7,6 +7,7 @@ use Prim.Native.Nat.{ℕ, suc, _+_, _-_, _*_, _≤_, _<_}
 use native.Mathlib.Omega.{arith}
 use lib.Dec.{eqb}
 use lib.ListN.{length}
+use Rattle.rules.specs.Answers.{complete, mostPixels}
 use Rattle.rules.specs.Machine.{Out, more, done, run, ends}
 use Rattle.rules.specs.Bits.{bitsOf}
 use Rattle.rules.specs.Lines.{Rules, Line, newLine, Went, went, failed, push, two, readLine}
@@ -108,7 +109,7 @@ module _ (S : Settings) (wide : 0 < S .columns) (bs : List Bool) (bytes : Bytes 
     rounded : a .bytes ≡ bytesTo at
 
   abbrev Told : Kept → Answer → Type 0
-  Told k a = (a .number ≡ 0 → Over k a) × ((a .number ≡ 0 → ⊥) → a .bytes ≡ 0)
+  Told k a = (a .number ≡ complete → Over k a) × ((a .number ≡ complete → ⊥) → a .bytes ≡ 0)
 
   page-told : (k : Kept) (a : Answer) → ends stepped (rowsLeft bs) k ≡ done a → Held enc S wide bs bytes store places k → Told k a
   unfolding run
@@ -159,14 +160,14 @@ module _ (S : Settings) (wide : 0 < S .columns) (bs : List Bool) (bytes : Bytes 
   page = readPage S bs store places
 
   -- of a page that is read
-  pub read-bytes : (page .number ≡ 0 → Consumed S bs store places (length (page .rows)) (page .bytes)) × ((page .number ≡ 0 → ⊥) → page .bytes ≡ 0)
+  pub read-bytes : (page .number ≡ complete → Consumed S bs store places (length (page .rows)) (page .bytes)) × ((page .number ≡ complete → ⊥) → page .bytes ≡ 0)
   unfolding readPage
   read-bytes =
       let p = ends-stops stepped (rowsLeft bs) (page-falls enc S wide bs bytes store places) noneKept in
-      subst (λ (a : Answer). (a .number ≡ 0 → Consumed S bs store places (length (a .rows)) (a .bytes)) × ((a .number ≡ 0 → ⊥) → a .bytes ≡ 0)) (sym (ap pageOf (p .1)))
+      subst (λ (a : Answer). (a .number ≡ complete → Consumed S bs store places (length (a .rows)) (a .bytes)) × ((a .number ≡ complete → ⊥) → a .bytes ≡ 0)) (sym (ap pageOf (p .1)))
       (told (p .0) (page-told noneKept (p .0) (p .1) (held-start enc S wide bs bytes store places)))
     where
-      told : (a : Answer) → Told noneKept a → (a .number ≡ 0 → Consumed S bs store places (length (a .rows)) (a .bytes)) × ((a .number ≡ 0 → ⊥) → a .bytes ≡ 0)
+      told : (a : Answer) → Told noneKept a → (a .number ≡ complete → Consumed S bs store places (length (a .rows)) (a .bytes)) × ((a .number ≡ complete → ⊥) → a .bytes ≡ 0)
       told a (over, bare) = (
         (λ z. let o = over z in
             record {
@@ -221,7 +222,7 @@ bytes-of-page bytes settings changes ends marks r changes′ ends′ marks′ ca
       most = omega (arith, a .few-bytes, length-bitsOf bytes);
     }
       where
-        b : (page .number ≡ 0 → Consumed (strictIfExact S) (bitsOf bytes) store places (length (page .rows)) (page .bytes)) × ((page .number ≡ 0 → ⊥) → page .bytes ≡ 0)
+        b : (page .number ≡ complete → Consumed (strictIfExact S) (bitsOf bytes) store places (length (page .rows)) (page .bytes)) × ((page .number ≡ complete → ⊥) → page .bytes ≡ 0)
         b = read-bytes (strictIfExact S) (allowed .wide) (bitsOf bytes) (whole-bytes bytes) store places
 
         a : Answered (S .encoding) (strictIfExact S) (allowed .wide) (bitsOf bytes) (whole-bytes bytes) store places page
@@ -239,7 +240,7 @@ module _ (bytes : List ℕ) (at columns : ℕ) (strict : Bool) (reference change
   unfolding entries
   line-bytes (Lined.is-six e) = record { failed = λ x y. absurd (omega arith); past = λ p h. absurd (none p e) }
     where
-      none : Passes bytes columns reference → (columns ≡ 0) ⊎ (columns ≡ 4294967295) → ⊥
+      none : Passes bytes columns reference → (columns ≡ 0) ⊎ (columns ≡ mostPixels) → ⊥
       none p (inl e) = p .some e
       none p (inr e) = p .narrow e
   line-bytes (Lined.is-seven n l) = record { failed = λ x y. absurd (omega arith); past = λ p h. absurd (omega (arith, p .short, l)) }

@@ -5,6 +5,7 @@ use Prim.Native.Nat.{ℕ, _≤_}
 use native.Mathlib.Omega.{arith}
 use lib.IntN.{ℤ}
 use lib.ListN.{take}
+use Rattle.rules.specs.Answers.{mostPixels}
 use Rattle.settings.specs.declared.DecodeSettings.{DecodeSettings}
 use Rattle.heads.specs.Form.{heads}
 use Rattle.heads.specs.declared.Box.{Box}
@@ -16,7 +17,7 @@ use Rattle.promises.specs.Called.{HeadsAfter}
 use Rattle.promises.proofs.HeadsOfPage.{decoded-page-passes, heads-of-page}
 
 pub heads-after : (bytes : List ℕ) (settings : DecodeSettings) (c : Call) (form : List (List Box)) (least : ℕ) (quota : ℤ) (r : HeadsAnswer) (ends marks : List ℕ)
-    → settings .columns ≤ 4294967295 → Shaped form → Reading bytes settings c → ends ≡ take (c .answer .rows) (c .ends′) → marks ≡ take (c .answer .rows) (c .marks′)
+    → settings .columns ≤ mostPixels → Shaped form → Reading bytes settings c → ends ≡ take (c .answer .rows) (c .ends′) → marks ≡ take (c .answer .rows) (c .marks′)
     → r ≡ heads (settings .columns) (c .changes′) ends marks form least quota
     → HeadsAfter bytes settings c form least quota (record { page = c .answer; heads = r })
 heads-after bytes settings c form least quota r ends marks narrow shape read same-ends same-marks is =

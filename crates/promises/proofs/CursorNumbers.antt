@@ -7,6 +7,7 @@ use native.Mathlib.Omega.{arith}
 use lib.Dec.{leb, ltb}
 use lib.ListN.{length}
 use borrow.Author.Tests.{leb-true, leb-false, ltb-true, ltb-false}
+use Rattle.rules.specs.Answers.{tooLong}
 use Rattle.rules.specs.Pages.{mostBytes}
 use Rattle.bit_reader.specs.Cursor.{movedBy}
 use Rattle.bit_reader.specs.Loaded.{fedAt}
@@ -49,7 +50,7 @@ pub take-numbers : TakeNumbers
 take-numbers len at n r e = subst Takes (sym e) (tests (ltb mostBytes len) (ltb-true _ _) (ltb-false _ _))
   where
     Takes : Went → Type 0
-    Takes w = (len ≤ mostBytes → Moves (8 * len) (at + n) (numberOf (w .answer)) (w .at)) × (mostBytes < len → (numberOf (w .answer) ≡ 7) × (w .at ≡ at))
+    Takes w = (len ≤ mostBytes → Moves (8 * len) (at + n) (numberOf (w .answer)) (w .at)) × (mostBytes < len → (numberOf (w .answer) ≡ tooLong) × (w .at ≡ at))
 
     same : (m : Moved) → Moves (8 * len) (at + n) (movedNumber m) (movedBit len m) → Moves (8 * len) (at + n) (numberOf (wentTo len m .answer)) (wentTo len m .at)
     same (Moved.To next) h = h

@@ -10,6 +10,7 @@ use lib.Dec.{leb}
 use lib.ListN.{length, getD, take, drop, replicate, length-append, length-take}
 use lib.Seq.{getD-take}
 use borrow.Author.Tests.{leb-true, leb-false}
+use Rattle.rules.specs.Answers.{complete, mostPixels}
 use Rattle.rules.specs.Bits.{bitsOf}
 use Rattle.rules.specs.Eols.{zeroRun}
 use Rattle.rules.specs.Rows.{recoveredMark}
@@ -33,8 +34,8 @@ use Rattle.promises.proofs.Marks.{decode-marks}
 use Rattle.promises.proofs.BadLines.{number-is, handed-over}
 
 -- what the writer's 0 says
-wrote : (columns : ℕ) (changes ends out : List ℕ) (fill : ℕ) (w : Answer) (out′ : List ℕ) → columns ≤ 4294967295
-    → Answers (write1D true fill columns changes ends out) out w out′ → w .number ≡ 0
+wrote : (columns : ℕ) (changes ends out : List ℕ) (fill : ℕ) (w : Answer) (out′ : List ℕ) → columns ≤ mostPixels
+    → Answers (write1D true fill columns changes ends out) out w out′ → w .number ≡ complete
     → Page3Written (filled fill) (leb fill 64) columns changes ends out (writeGroup3 (filled fill) (leb fill 64) columns changes ends out)
 unfolding write1D
 wrote columns changes ends out fill w out′ narrow written z =

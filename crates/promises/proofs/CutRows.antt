@@ -8,6 +8,7 @@ use native.Mathlib.Omega.{arith}
 use lib.Dec.{eqb, leb, ltb}
 use lib.ListN.{length, take, drop, length-append}
 use borrow.Author.Tests.{leb-true, leb-false, eqb-true, eqb-false, ltb-true, ltb-false}
+use Rattle.rules.specs.Answers.{noEntry, noRowEnd, mostPixels}
 use Rattle.rules.specs.Machine.{Out, done, ends}
 use Rattle.rules.specs.Bits.{bitsOf}
 use Rattle.rules.specs.Codes.{Colour}
@@ -76,7 +77,7 @@ module _ (S : Settings) (plain : Plain S) (all bs cut : List Bool) (first : bs +
         (omega (arith, w .inside, ap (λ (x : Line). x .at) g), rw (g, plain .unaligned))
 
     -- a line that lies in the bits is read, unless there is no room for it
-    row-there : st .at + size ≤ length bs → (n place : ℕ) (l : Line) → (n ≡ 4 → ⊥) → readLine (rulesOf S room) (two (st .reference)) bs (st .at) ≡ failed n place l → ⊥
+    row-there : st .at + size ≤ length bs → (n place : ℕ) (l : Line) → (n ≡ noEntry → ⊥) → readLine (rulesOf S room) (two (st .reference)) bs (st .at) ≡ failed n place l → ⊥
     row-there h n place l no-four q = cases (line-cut (S .columns) (S .strict) (S .exact) room (room + length r) (omega arith) (two (st .reference)) bs (st .at)) q (reads .1)
       where
         here : drop (st .at) bs ≡ L (st .reference) r ++ drop (st .at + size) bs
@@ -89,7 +90,7 @@ module _ (S : Settings) (plain : Plain S) (all bs cut : List Bool) (first : bs +
 
         cases : {v w : Went} → Cut room v w → v ≡ failed n place l → w ≡ went (line (st .at + size) (S .columns) (reads .0) r false) → ⊥
         cases (same f) x y = let z : _≡_ {A = ℕ} 0 1 = cc in omega arith
-        cases (short f g) x y = no-four (let z : n ≡ 4 = cc in z)
+        cases (short f g) x y = no-four (let z : n ≡ noEntry = cc in z)
 
     -- the tests before the line: the page is over, or it goes on
     over-here : over S bs st (eolsTo 0 (st .at)) ≡ true → Asks S (suc (st .count)) → length bs < st .at + size
@@ -117,7 +118,7 @@ module _ (S : Settings) (plain : Plain S) (all bs cut : List Bool) (first : bs +
 
     -- The row is given only where its line lies in the bits and it is wanted; and so it is, unless there is no room.
     row-cut : Asks S (st .count) → (C : RowOut → Type 0)
-        → ((n place bytes : ℕ) (loose : List ℕ) → ((n ≡ 4 → ⊥) → Asks S (suc (st .count)) → length bs < st .at + size) → C (stop n place bytes loose))
+        → ((n place bytes : ℕ) (loose : List ℕ) → ((n ≡ noEntry → ⊥) → Asks S (suc (st .count)) → length bs < st .at + size) → C (stop n place bytes loose))
         → (st .at + size ≤ length bs → Asks S (suc (st .count)) → C (row r 0 (afterRow st size r)))
         → C (row4 S bs room st)
     row-cut asked C stops goes =
@@ -130,7 +131,7 @@ module _ (S : Settings) (plain : Plain S) (all bs cut : List Bool) (first : bs +
         cases asks (went l) q = let o = row-only l q in subst C (sym (o .1)) (goes (o .0) asks)
         cases asks (failed n place l) q = stops n place 0 (l .changes) (λ no-four _. tests (leb (st .at + size) (length bs)) refl no-four)
           where
-            tests : (b : Bool) → leb (st .at + size) (length bs) ≡ b → (n ≡ 4 → ⊥) → length bs < st .at + size
+            tests : (b : Bool) → leb (st .at + size) (length bs) ≡ b → (n ≡ noEntry → ⊥) → length bs < st .at + size
             tests true s no-four = absurd (row-there (leb-true (st .at + size) (length bs) s) n place l no-four q)
             tests false s no-four = leb-false (st .at + size) (length bs) s
 
@@ -143,7 +144,7 @@ module _ (S : Settings) (plain : Plain S) (all bs cut : List Bool) (first : bs +
   -- the answer has only such rows; and it has all such, unless it is 4 or 5
   record Bounds (k : Kept) (rs : List (List ℕ)) (a : Answer) : Type 0 where
     only : (m : ℕ) → m ≤ length rs → length (k .rows) + m ≤ length (a .rows) → More k rs m
-    every : (a .number ≡ 4 → ⊥) → (a .number ≡ 5 → ⊥) → (m : ℕ) → m ≤ length rs → More k rs m → length (k .rows) + m ≤ length (a .rows)
+    every : (a .number ≡ noEntry → ⊥) → (a .number ≡ noRowEnd → ⊥) → (m : ℕ) → m ≤ length rs → More k rs m → length (k .rows) + m ≤ length (a .rows)
 
   module _ (bytes : Bytes bs) (store places : ℕ) where
     abbrev step : Kept → Out Kept Answer
@@ -190,7 +191,7 @@ module _ (S : Settings) (plain : Plain S) (all bs cut : List Bool) (first : bs +
         none-more = (omega arith, fewer-asked S (omega arith) asked)
 
         -- the page ended before the row
-        ended : (n place bytes′ : ℕ) (loose : List ℕ) → ((n ≡ 4 → ⊥) → (n ≡ 5 → ⊥) → Asks S (suc (k .state .count)) → length bs < k .state .at + length K)
+        ended : (n place bytes′ : ℕ) (loose : List ℕ) → ((n ≡ noEntry → ⊥) → (n ≡ noRowEnd → ⊥) → Asks S (suc (k .state .count)) → length bs < k .state .at + length K)
             → step k ≡ done (endWith k n place bytes′ loose) → Bounds k (r ∷ rs) a
         ended n place bytes′ loose reason s = subst (Bounds k (r ∷ rs)) is (record { only = only-none; every = none-due })
           where
@@ -201,7 +202,7 @@ module _ (S : Settings) (plain : Plain S) (all bs cut : List Bool) (first : bs +
             only-none zero _ _ = none-more
             only-none (suc m) _ l = absurd (omega arith)
 
-            none-due : (n ≡ 4 → ⊥) → (n ≡ 5 → ⊥) → (m : ℕ) → m ≤ suc (length rs) → More k (r ∷ rs) m → length (k .rows) + m ≤ length (k .rows)
+            none-due : (n ≡ noEntry → ⊥) → (n ≡ noRowEnd → ⊥) → (m : ℕ) → m ≤ suc (length rs) → More k (r ∷ rs) m → length (k .rows) + m ≤ length (k .rows)
             none-due no-four no-five zero _ _ = omega arith
             none-due no-four no-five (suc m) _ (l, asks) = absurd (omega (arith, parts m, reason no-four no-five (fewer-asked S (omega arith) asks)))
 
@@ -220,7 +221,7 @@ module _ (S : Settings) (plain : Plain S) (all bs cut : List Bool) (first : bs +
             with-this zero _ _ = none-more
             with-this (suc m) h l = let g = b .only m (omega arith) (omega (arith, one-more)) in (omega (arith, parts m, g .0), fewer-asked S (omega arith) (g .1))
 
-            all-due : (a .number ≡ 4 → ⊥) → (a .number ≡ 5 → ⊥) → (m : ℕ) → m ≤ suc (length rs) → More k (r ∷ rs) m → length (k .rows) + m ≤ length (a .rows)
+            all-due : (a .number ≡ noEntry → ⊥) → (a .number ≡ noRowEnd → ⊥) → (m : ℕ) → m ≤ suc (length rs) → More k (r ∷ rs) m → length (k .rows) + m ≤ length (a .rows)
             all-due no-four no-five zero _ _ = omega (arith, no-fewer k a q)
             all-due no-four no-five (suc m) h (l, asks) =
                 omega (arith, one-more, b .every no-four no-five m (omega arith) (omega (arith, parts m), fewer-asked S (omega arith) asks))
@@ -231,7 +232,7 @@ module _ (S : Settings) (plain : Plain S) (all bs cut : List Bool) (first : bs +
 -- of a page of these rows, of which the bits arrived, the answer has rows only that are due; and it has all of them, unless it is 4 or 5
 pub record GivesDue (S : Settings) (rows : List (List ℕ)) (bs : List Bool) (a : Answer) : Type 0 where
   pub only : (n : ℕ) → n ≤ length rows → n ≤ length (a .rows) → Due (S .columns) (S .rows) rows bs n
-  pub every : (a .number ≡ 4 → ⊥) → (a .number ≡ 5 → ⊥) → (n : ℕ) → Due (S .columns) (S .rows) rows bs n → n ≤ length (a .rows)
+  pub every : (a .number ≡ noEntry → ⊥) → (a .number ≡ noRowEnd → ⊥) → (n : ℕ) → Due (S .columns) (S .rows) rows bs n → n ≤ length (a .rows)
 
 -- bits of whole bytes with which a written page begins
 read-due : (S : Settings) → Plain S → (rows : List (List ℕ)) → Rows (S .columns) rows → (bs : List Bool) → Bytes bs → (cut rest : List Bool)
@@ -261,7 +262,7 @@ short-due S rows bs a g =
     (λ _. record { only = g .only; every = g .every })
 
 -- Bytes with which a written page begins: `decode` gives the rows that are due.
-pub cut-gives-due : (S : Settings) → Plain S → S .columns < 4294967295 → (rows : List (List ℕ)) → Rows (S .columns) rows
+pub cut-gives-due : (S : Settings) → Plain S → S .columns < mostPixels → (rows : List (List ℕ)) → Rows (S .columns) rows
     → (bytes : List ℕ) → length bytes ≤ mostBytes → (cut rest : List Bool)
     → bitsOf bytes ++ cut ≡ pageBits (S .columns) rows ++ rest → (store places : ℕ) → GivesDue S rows (bitsOf bytes) (decode S bytes store places)
 cut-gives-due S plain narrow rows rises bytes small cut rest e store places =

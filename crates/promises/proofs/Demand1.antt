@@ -9,6 +9,7 @@ use lib.Dec.{eqb, ltb}
 use lib.ListN.{length, take, drop, length-append}
 use lib.Seq.{take-at, drop-at}
 use borrow.Author.Tests.{eqb-true, eqb-false, ltb-true, ltb-false}
+use Rattle.rules.specs.Answers.{complete, noEntry, noRowEnd, badWidth, tooLong, noFit, tooFewRows, mostPixels}
 use Rattle.rules.specs.Bits.{bitsOf}
 use Rattle.rules.specs.Pages as Page
 use Rattle.rules.specs.Pages.{mostBytes, tooWide, entries, joined, endsFrom, overlaid, decode, readPage, strictIfExact, unlessShort, placesIn, changesAfter, endsAfter, marksAfter}
@@ -33,24 +34,24 @@ use Rattle.promises.specs.Demand1.{TooFew, Listed, Refused, Stored, Deco
 
 -- a refusal; or the page's answer, once 6 and 7 are passed and the columns are not 0
 pub data Said (settings : DecodeSettings) (bytes changes ends marks : List ℕ) : Page.Answer → Type 0 where
-  is-six : settings .columns ≡ 4294967295 → Said settings bytes changes ends marks (Page.refusal 6)
-  is-seven : (settings .columns ≡ 4294967295 → ⊥) → mostBytes < length bytes → Said settings bytes changes ends marks (Page.refusal 7)
-  no-columns : (settings .columns ≡ 4294967295 → ⊥) → length bytes ≤ mostBytes → Said settings bytes changes ends marks (Page.refusal 0)
-  is-read : (settings .columns ≡ 4294967295 → ⊥) → length bytes ≤ mostBytes → (settings .columns ≡ 0 → ⊥)
+  is-six : settings .columns ≡ mostPixels → Said settings bytes changes ends marks (Page.refusal badWidth)
+  is-seven : (settings .columns ≡ mostPixels → ⊥) → mostBytes < length bytes → Said settings bytes changes ends marks (Page.refusal tooLong)
+  no-columns : (settings .columns ≡ mostPixels → ⊥) → length bytes ≤ mostBytes → Said settings bytes changes ends marks (Page.refusal complete)
+  is-read : (settings .columns ≡ mostPixels → ⊥) → length bytes ≤ mostBytes → (settings .columns ≡ 0 → ⊥)
       → Said settings bytes changes ends marks (unlessShort (settingsOf settings) (readPage (strictIfExact (settingsOf settings)) (bitsOf bytes) (length changes) (placesIn ends marks)))
 
 pub said : (settings : DecodeSettings) (bytes changes ends marks : List ℕ) → Said settings bytes changes ends marks (decode (settingsOf settings) bytes (length changes) (placesIn ends marks))
 unfolding decode
 said settings bytes changes ends marks = tests (tooWide (settings .columns)) (eqb-true _ _) (eqb-false _ _) (ltb mostBytes (length bytes)) (ltb-true _ _) (ltb-false _ _) (eqb (settings .columns) 0) (eqb-false _ _)
   where
-    tests : (a : Bool) → (a ≡ true → settings .columns ≡ 4294967295) → (a ≡ false → settings .columns ≡ 4294967295 → ⊥)
+    tests : (a : Bool) → (a ≡ true → settings .columns ≡ mostPixels) → (a ≡ false → settings .columns ≡ mostPixels → ⊥)
         → (b : Bool) → (b ≡ true → mostBytes < length bytes) → (b ≡ false → length bytes ≤ mostBytes)
         → (c : Bool) → (c ≡ false → settings .columns ≡ 0 → ⊥)
         → Said settings bytes changes ends marks (elim a as (λ _. Page.Answer) [
-          | true ↦ Page.refusal 6
+          | true ↦ Page.refusal badWidth
           | false ↦ elim b as (λ _. Page.Answer) [
-            | true ↦ Page.refusal 7
-            | false ↦ elim c as (λ _. Page.Answer) [ true ↦ Page.refusal 0 | false ↦ unlessShort (settingsOf settings) (readPage (strictIfExact (settingsOf settings)) (bitsOf bytes) (length changes) (placesIn ends marks)) ]
+            | true ↦ Page.refusal tooLong
+            | false ↦ elim c as (λ _. Page.Answer) [ true ↦ Page.refusal complete | false ↦ unlessShort (settingsOf settings) (readPage (strictIfExact (settingsOf settings)) (bitsOf bytes) (length changes) (placesIn ends marks)) ]
           ]
         ])
     tests true p q b r s c t = is-six (p refl)
@@ -61,18 +62,18 @@ said settings bytes changes ends marks = tests (tooWide (settings .columns)) (eq
 -- ---- What holds of every answer of the rules
 
 pub record Fine (settings : DecodeSettings) (bytes changes ends marks : List ℕ) (a : Page.Answer) : Type 0 where
-  pub listed : (a .number ≤ 7) ⊎ (a .number ≡ 14)
-  pub six : (a .number ≡ 6) ↔ (settings .columns ≡ 4294967295)
-  pub seven : (a .number ≡ 7) ↔ ((settings .columns ≡ 4294967295 → ⊥) × (mostBytes < length bytes))
-  pub refused : 6 ≤ a .number → a .number ≤ 9 → a ≡ Page.refusal (a .number)
+  pub listed : (a .number ≤ tooLong) ⊎ (a .number ≡ tooFewRows)
+  pub six : (a .number ≡ badWidth) ↔ (settings .columns ≡ mostPixels)
+  pub seven : (a .number ≡ tooLong) ↔ ((settings .columns ≡ mostPixels → ⊥) × (mostBytes < length bytes))
+  pub refused : badWidth ≤ a .number → a .number ≤ noFit → a ≡ Page.refusal (a .number)
   pub rows-fit : length (a .rows) ≤ placesIn ends marks
   pub entries-fit : entries (a .rows) + length (a .loose) ≤ length changes
   pub rising : Rows (settings .columns) (a .rows)
-  pub clean : a .number ≡ 0 → a .loose ≡ []
+  pub clean : a .number ≡ complete → a .loose ≡ []
   pub few-rows : length (a .rows) ≤ 8 * length bytes + 1
-  pub none : settings .columns ≡ 0 → (a .rows ≡ []) × (length bytes ≤ mostBytes → a .number ≡ 0)
+  pub none : settings .columns ≡ 0 → (a .rows ≡ []) × (length bytes ≤ mostBytes → a .number ≡ complete)
 
-fine : {settings : DecodeSettings} {bytes changes ends marks : List ℕ} {a : Page.Answer} → settings .columns ≤ 4294967295 → Said settings bytes changes ends marks a → Fine settings bytes changes ends marks a
+fine : {settings : DecodeSettings} {bytes changes ends marks : List ℕ} {a : Page.Answer} → settings .columns ≤ mostPixels → Said settings bytes changes ends marks a → Fine settings bytes changes ends marks a
 unfolding entries
 fine h (is-six e) = record {
   listed = inl (omega arith);
@@ -207,25 +208,25 @@ module _ (a : Page.Answer) (changes ends marks : List ℕ) (r : Answer) (changes
       ap₂ (λ (x y : List ℕ). rowsIn 0 x y) (changes-are ∙ append-assoc (joined (a .rows)) (a .loose) (drop (length (joined (a .rows) ++ a .loose)) changes)) ends-front
       ∙ rows-back (a .rows) (a .loose ++ drop (length (joined (a .rows) ++ a .loose)) changes)
 
-  module _ (settings : DecodeSettings) (bytes : List ℕ) (f : Fine settings bytes changes ends marks a) (short : a .number ≡ 14 → ShortPage (settingsOf settings) bytes a)
-      (done : a .number ≡ 0 → settings .exact ≡ true → 0 < settings .columns → settings .rows ≤ length (a .rows)) where
-    too-few : r .number ≡ 14 → TooFew bytes settings changes ends marks r changes′ ends′ marks′
+  module _ (settings : DecodeSettings) (bytes : List ℕ) (f : Fine settings bytes changes ends marks a) (short : a .number ≡ tooFewRows → ShortPage (settingsOf settings) bytes a)
+      (done : a .number ≡ complete → settings .exact ≡ true → 0 < settings .columns → settings .rows ≤ length (a .rows)) where
+    too-few : r .number ≡ tooFewRows → TooFew bytes settings changes ends marks r changes′ ends′ marks′
     too-few q = let s = short (sym number-is ∙ q) in record { exact = s .exact; wide = s .allowed .wide; fewer = omega (arith, rows-are, s .fewer) }
 
     -- a page that ended with 0 has rows enough
-    enough : r .number ≡ 0 → TooFew bytes settings changes ends marks r changes′ ends′ marks′ → ⊥
+    enough : r .number ≡ complete → TooFew bytes settings changes ends marks r changes′ ends′ marks′ → ⊥
     enough q t = omega (arith, rows-are, t .fewer, done (sym number-is ∙ q) (t .exact) (t .wide))
 
     listed : Listed bytes settings changes ends marks r changes′ ends′ marks′
     listed = record {
-      listed = subst (λ (n : ℕ). (n ≤ 7) ⊎ (n ≡ 14)) (sym number-is) (f .listed);
+      listed = subst (λ (n : ℕ). (n ≤ tooLong) ⊎ (n ≡ tooFewRows)) (sym number-is) (f .listed);
       fourteen = ⊎-elim (λ q. ((λ e. too-few e), λ t. absurd (enough q t))) (λ q. ((λ e. too-few e), λ t. q));
       six = ((λ q. f .six .0 (sym number-is ∙ q)), λ q. number-is ∙ f .six .1 q);
       seven = ((λ q. f .seven .0 (sym number-is ∙ q)), λ q. number-is ∙ f .seven .1 q);
       no-columns = λ q l. number-is ∙ f .none q .1 l;
     }
 
-    refused : 6 ≤ r .number → r .number ≤ 9 → Refused bytes settings changes ends marks r changes′ ends′ marks′
+    refused : badWidth ≤ r .number → r .number ≤ noFit → Refused bytes settings changes ends marks r changes′ ends′ marks′
     unfolding changesAfter endsAfter marksAfter overlaid joined endsFrom entries
     refused h k =
         let e = f .refused (omega (arith, number-is)) (omega (arith, number-is)) in
@@ -269,7 +270,7 @@ decode-answers bytes settings changes ends marks r changes′ ends′ marks′ h
     )
 
 -- More room never changes an answer but 4 and 5,
-pub settled-stays : Stays (λ n. (n ≡ 4 → ⊥) × (n ≡ 5 → ⊥))
+pub settled-stays : Stays (λ n. (n ≡ noEntry → ⊥) × (n ≡ noRowEnd → ⊥))
 settled-stays bytes settings changes ends marks larger-changes larger-ends larger-marks r s changes′ ends′ marks′ larger-changes′ larger-ends′ larger-marks′ hc he hm called later n =
     (is, fronts, row-fronts, mark-fronts)
   where

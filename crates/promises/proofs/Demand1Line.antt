@@ -9,6 +9,7 @@ use lib.Dec.{eqb, leb, ltb}
 use lib.ListN.{length, take, drop, length-append}
 use lib.Seq.{take-at, drop-at}
 use borrow.Author.Tests.{eqb-true, eqb-false, ltb-true, ltb-false, leb-true, leb-false}
+use Rattle.rules.specs.Answers.{complete, noEntry, badWidth, tooLong, badRows, mostPixels}
 use Rattle.rules.specs.Bits.{bitsOf}
 use Rattle.rules.specs.Lines.{Rules, newLine, Went, went, failed, two, readLine}
 use Rattle.rules.specs.Pages as Page
@@ -23,7 +24,7 @@ use Rattle.promises.specs.Demand1Line.{LineListed, LineRefused, LineStor
 
 module _ (bytes : List ℕ) (at columns : ℕ) (strict : Bool) (reference changes : List ℕ) where
   abbrev None : Type 0
-  None = (columns ≡ 0) ⊎ (columns ≡ 4294967295)
+  None = (columns ≡ 0) ⊎ (columns ≡ mostPixels)
 
   abbrev Long : Type 0
   Long = mostBytes < length bytes
@@ -31,25 +32,25 @@ module _ (bytes : List ℕ) (at columns : ℕ) (strict : Bool) (reference change
   -- ---- The rules' answer, by the tests
 
   pub data Said : Page.Answer → Type 0 where
-    is-six : None → Said (Page.refusal 6)
-    is-seven : (None → ⊥) → Long → Said (Page.refusal 7)
-    is-eight : (None → ⊥) → (Long → ⊥) → ascends columns reference ≡ false → Said (Page.refusal 8)
+    is-six : None → Said (Page.refusal badWidth)
+    is-seven : (None → ⊥) → Long → Said (Page.refusal tooLong)
+    is-eight : (None → ⊥) → (Long → ⊥) → ascends columns reference ≡ false → Said (Page.refusal badRows)
     past-end : (None → ⊥) → (Long → ⊥) → ascends columns reference ≡ true → length (bitsOf bytes) < at → Said (oneLine (failed 2 (length (bitsOf bytes)) (newLine at)))
     is-read : (None → ⊥) → (Long → ⊥) → ascends columns reference ≡ true → at ≤ length (bitsOf bytes)
         → Said (oneLine (readLine (record { width = columns; strict = strict; exact = false; room = length changes }) (two reference) (bitsOf bytes) at))
 
   pub said : Said (readOneLine bytes at columns strict reference (length changes))
   unfolding readOneLine
-  said = tests (eqb columns 0) (eqb-true _ _) (eqb-false _ _) (eqb columns 4294967295) (eqb-true _ _) (eqb-false _ _) (ltb mostBytes (length bytes)) (ltb-true _ _) (ltb-false _ _) (ascends columns reference) refl (leb at (length (bitsOf bytes))) (leb-true _ _) (leb-false _ _)
+  said = tests (eqb columns 0) (eqb-true _ _) (eqb-false _ _) (eqb columns mostPixels) (eqb-true _ _) (eqb-false _ _) (ltb mostBytes (length bytes)) (ltb-true _ _) (ltb-false _ _) (ascends columns reference) refl (leb at (length (bitsOf bytes))) (leb-true _ _) (leb-false _ _)
     where
-      tests : (a : Bool) → (a ≡ true → columns ≡ 0) → (a ≡ false → columns ≡ 0 → ⊥) → (b : Bool) → (b ≡ true → columns ≡ 4294967295) → (b ≡ false → columns ≡ 4294967295 → ⊥)
+      tests : (a : Bool) → (a ≡ true → columns ≡ 0) → (a ≡ false → columns ≡ 0 → ⊥) → (b : Bool) → (b ≡ true → columns ≡ mostPixels) → (b ≡ false → columns ≡ mostPixels → ⊥)
           → (c : Bool) → (c ≡ true → Long) → (c ≡ false → length bytes ≤ mostBytes) → (d : Bool) → ascends columns reference ≡ d → (e : Bool) → (e ≡ true → at ≤ length (bitsOf bytes)) → (e ≡ false → length (bitsOf bytes) < at)
           → Said (elim (a || b) as (λ _. Page.Answer) [
-            | true ↦ Page.refusal 6
+            | true ↦ Page.refusal badWidth
             | false ↦ elim c as (λ _. Page.Answer) [
-              | true ↦ Page.refusal 7
+              | true ↦ Page.refusal tooLong
               | false ↦ elim d as (λ _. Page.Answer) [
-                | false ↦ Page.refusal 8
+                | false ↦ Page.refusal badRows
                 | true ↦ elim e as (λ _. Page.Answer) [
                   | false ↦ oneLine (failed 2 (length (bitsOf bytes)) (newLine at))
                   | true ↦ oneLine (readLine (record { width = columns; strict = strict; exact = false; room = length changes }) (two reference) (bitsOf bytes) at)
@@ -67,17 +68,17 @@ module _ (bytes : List ℕ) (at columns : ℕ) (strict : Bool) (reference change
   -- ---- What holds of every answer of the rules
 
   record Fine (a : Page.Answer) : Type 0 where
-    listed : (a .number ≤ 4) ⊎ ((6 ≤ a .number) × (a .number ≤ 8))
-    six : (a .number ≡ 6) ↔ None
-    seven : (a .number ≡ 7) ↔ ((None → ⊥) × Long)
-    eight : (a .number ≡ 8) ↔ ((None → ⊥) × (Long → ⊥) × (ascends columns reference ≡ false))
-    refused : 6 ≤ a .number → a ≡ Page.refusal (a .number)
+    listed : (a .number ≤ noEntry) ⊎ ((badWidth ≤ a .number) × (a .number ≤ badRows))
+    six : (a .number ≡ badWidth) ↔ None
+    seven : (a .number ≡ tooLong) ↔ ((None → ⊥) × Long)
+    eight : (a .number ≡ badRows) ↔ ((None → ⊥) × (Long → ⊥) × (ascends columns reference ≡ false))
+    refused : badWidth ≤ a .number → a ≡ Page.refusal (a .number)
     fits : entries (a .rows) + length (a .loose) ≤ length changes
-    whole : a .number ≡ 0 → (length (a .rows) ≡ 1) × (length (a .loose) ≡ 0) × Rising columns 0 (joined (a .rows)) × (at < a .bytes) × (a .bytes ≤ 8 * length bytes)
+    whole : a .number ≡ complete → (length (a .rows) ≡ 1) × (length (a .loose) ≡ 0) × Rising columns 0 (joined (a .rows)) × (at < a .bytes) × (a .bytes ≤ 8 * length bytes)
 
   -- a line that was tried answers 0 to 4
-  tried : (None → ⊥) → (Long → ⊥) → ascends columns reference ≡ true → (a : Page.Answer) → a .number ≤ 4 → entries (a .rows) + length (a .loose) ≤ length changes
-      → (a .number ≡ 0 → (length (a .rows) ≡ 1) × (length (a .loose) ≡ 0) × Rising columns 0 (joined (a .rows)) × (at < a .bytes) × (a .bytes ≤ 8 * length bytes)) → Fine a
+  tried : (None → ⊥) → (Long → ⊥) → ascends columns reference ≡ true → (a : Page.Answer) → a .number ≤ noEntry → entries (a .rows) + length (a .loose) ≤ length changes
+      → (a .number ≡ complete → (length (a .rows) ≡ 1) × (length (a .loose) ≡ 0) × Rising columns 0 (joined (a .rows)) × (at < a .bytes) × (a .bytes ≤ 8 * length bytes)) → Fine a
   tried n l up a h f w = record {
     listed = inl h;
     six = ((λ q. absurd (omega arith)), λ q. absurd (n q));
@@ -88,7 +89,7 @@ module _ (bytes : List ℕ) (at columns : ℕ) (strict : Bool) (reference change
     whole = w;
   }
 
-  fine : {a : Page.Answer} → columns ≤ 4294967295 → Said a → Fine a
+  fine : {a : Page.Answer} → columns ≤ mostPixels → Said a → Fine a
   unfolding entries joined
   fine h (is-six e) = record {
     listed = inr (omega arith);
@@ -156,13 +157,13 @@ module _ (bytes : List ℕ) (at columns : ℕ) (strict : Bool) (reference change
 
     listed′ : LineListed bytes at columns reference changes r changes′
     listed′ = record {
-      listed = subst (λ (n : ℕ). (n ≤ 4) ⊎ ((6 ≤ n) × (n ≤ 8))) (sym number-is) (f .listed);
+      listed = subst (λ (n : ℕ). (n ≤ noEntry) ⊎ ((badWidth ≤ n) × (n ≤ badRows))) (sym number-is) (f .listed);
       six = ((λ q. f .six .0 (sym number-is ∙ q)), λ q. number-is ∙ f .six .1 q);
       seven = ((λ q. f .seven .0 (sym number-is ∙ q)), λ q. number-is ∙ f .seven .1 q);
       eight = ((λ q. f .eight .0 (sym number-is ∙ q)), λ q. number-is ∙ f .eight .1 q);
     }
 
-    refused′ : 6 ≤ r .number → LineRefused bytes at columns reference changes r changes′
+    refused′ : badWidth ≤ r .number → LineRefused bytes at columns reference changes r changes′
     unfolding changesAfter overlaid joined entries
     refused′ h =
         let e = f .refused (omega (arith, number-is)) in

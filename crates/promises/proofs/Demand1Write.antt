@@ -9,6 +9,7 @@ use native.Mathlib.Nat.{zero-add}
 use lib.Dec.{eqb}
 use lib.ListN.{length}
 use borrow.Author.Tests.{eqb-true, eqb-false}
+use Rattle.rules.specs.Answers.{complete, badWidth, tooLong, badRows, noFit, mostPixels}
 use Rattle.rules.specs.Lines.{two}
 use Rattle.rules.specs.Pages.{mostBytes, noLine, entries}
 use Rattle.rules.specs.Write.{lineBits, pageBits, rowsIn, writes, writeLine, writePage, Written, unwritten}
@@ -19,32 +20,32 @@ use Rattle.promises.specs.Demand1Write.{WriteListed, WriteLineAnswers, W
 
 module _ (columns : ℕ) (out : List ℕ) (good : Bool) (end : ℕ) where
   abbrev None : Type 0
-  None = (columns ≡ 0) ⊎ (columns ≡ 4294967295)
+  None = (columns ≡ 0) ⊎ (columns ≡ mostPixels)
 
   abbrev Long : Type 0
   Long = mostBytes < length out
 
   -- what is written, by the tests
   data Said : Written → Type 0 where
-    is-six : None → Said (unwritten 6 out)
-    is-seven : (None → ⊥) → Long → Said (unwritten 7 out)
-    is-eight : (None → ⊥) → (Long → ⊥) → good ≡ false → Said (unwritten 8 out)
-    is-nine : (None → ⊥) → (Long → ⊥) → good ≡ true → 8 * length out < end → Said (unwritten 9 out)
-    is-done : (None → ⊥) → (Long → ⊥) → good ≡ true → end ≤ 8 * length out → (w : Written) → w .number ≡ 0 → Said w
+    is-six : None → Said (unwritten badWidth out)
+    is-seven : (None → ⊥) → Long → Said (unwritten tooLong out)
+    is-eight : (None → ⊥) → (Long → ⊥) → good ≡ false → Said (unwritten badRows out)
+    is-nine : (None → ⊥) → (Long → ⊥) → good ≡ true → 8 * length out < end → Said (unwritten noFit out)
+    is-done : (None → ⊥) → (Long → ⊥) → good ≡ true → end ≤ 8 * length out → (w : Written) → w .number ≡ complete → Said w
 
   -- the test of the columns, both ways
   pub none : noLine columns ≡ true → None
-  none = tests (eqb columns 0) (eqb-true _ _) (eqb columns 4294967295) (eqb-true _ _)
+  none = tests (eqb columns 0) (eqb-true _ _) (eqb columns mostPixels) (eqb-true _ _)
     where
-      tests : (a : Bool) → (a ≡ true → columns ≡ 0) → (b : Bool) → (b ≡ true → columns ≡ 4294967295) → (a || b) ≡ true → None
+      tests : (a : Bool) → (a ≡ true → columns ≡ 0) → (b : Bool) → (b ≡ true → columns ≡ mostPixels) → (a || b) ≡ true → None
       tests true p b q e = inl (p refl)
       tests false p true q e = inr (q refl)
       tests false p false q e = absurd (true≢false (sym e))
 
   pub some : noLine columns ≡ false → None → ⊥
-  some = tests (eqb columns 0) (eqb-false _ _) (eqb columns 4294967295) (eqb-false _ _)
+  some = tests (eqb columns 0) (eqb-false _ _) (eqb columns mostPixels) (eqb-false _ _)
     where
-      tests : (a : Bool) → (a ≡ false → columns ≡ 0 → ⊥) → (b : Bool) → (b ≡ false → columns ≡ 4294967295 → ⊥) → (a || b) ≡ false → None → ⊥
+      tests : (a : Bool) → (a ≡ false → columns ≡ 0 → ⊥) → (b : Bool) → (b ≡ false → columns ≡ mostPixels → ⊥) → (a || b) ≡ false → None → ⊥
       tests true p b q e = absurd (true≢false e)
       tests false p true q e = absurd (true≢false e)
       tests false p false q e = ⊎-elim (p refl) (q refl)
@@ -63,12 +64,12 @@ module _ (columns : ℕ) (out : List ℕ) (good : Bool) (end : ℕ) where
 
   -- what holds of everything that is written
   record Fine (w : Written) : Type 0 where
-    listed : (w .number ≡ 0) ⊎ ((6 ≤ w .number) × (w .number ≤ 9))
-    six : (w .number ≡ 6) ↔ None
-    seven : (w .number ≡ 7) ↔ ((None → ⊥) × Long)
-    eight : (w .number ≡ 8) ↔ ((None → ⊥) × (Long → ⊥) × (good ≡ false))
-    nine : (w .number ≡ 9) ↔ ((None → ⊥) × (Long → ⊥) × (good ≡ true) × (8 * length out < end))
-    nowhere : (w .number ≡ 0 → ⊥) → w .end ≡ 0
+    listed : (w .number ≡ complete) ⊎ ((badWidth ≤ w .number) × (w .number ≤ noFit))
+    six : (w .number ≡ badWidth) ↔ None
+    seven : (w .number ≡ tooLong) ↔ ((None → ⊥) × Long)
+    eight : (w .number ≡ badRows) ↔ ((None → ⊥) × (Long → ⊥) × (good ≡ false))
+    nine : (w .number ≡ noFit) ↔ ((None → ⊥) × (Long → ⊥) × (good ≡ true) × (8 * length out < end))
+    nowhere : (w .number ≡ complete → ⊥) → w .end ≡ 0
 
   fine : {w : Written} → Said w → Fine w
   fine (is-six n) = record {

@@ -7,6 +7,7 @@ use Prim.Native.Nat.{ℕ, zero, suc, _+_, _-_, _≤_}
 use native.Mathlib.Omega.{arith}
 use lib.ListN.{length, take, drop, length-append, length-take, take-append-drop}
 use lib.Seq.{take-at, take-append-le, length-take-le}
+use Rattle.rules.specs.Answers.{complete, mostPixels}
 use Rattle.rules.specs.Bits.{bitsOf}
 use Rattle.rules.specs.Rows.{bytesTo}
 use Rattle.rules.specs.Lines.{two}
@@ -56,7 +57,7 @@ line-reads-back columns reference row wide narrow up up′ bytes at rest small e
 
 pub written-line-reads-back : WrittenLineReadsBack
 written-line-reads-back columns reference row out at w out′ narrow written z strict changes r changes′ roomy c =
-    let n : writeLine columns reference row out at .number ≡ 0 = sym (ap (λ (x : Answer). x .number) (written .answer)) ∙ z in
+    let n : writeLine columns reference row out at .number ≡ complete = sym (ap (λ (x : Answer). x .number) (written .answer)) ∙ z in
     let l = line-written columns narrow reference row out at n in
     let end = ap (λ (x : Answer). x .bytes) (written .answer) ∙ l .end-is in
     subst (λ (after : ℕ). Back row after r changes′) (sym end)
@@ -75,9 +76,9 @@ prefix xs ys zs ws e h =
     sym (take-append-drop (length zs) xs)
     ∙ ap (λ (l : List Bool). l ++ drop (length zs) xs) (sym (take-append-le (length zs) xs ys h) ∙ ap (take (length zs)) e ∙ take-at zs ws (length zs) refl)
 
-module _ (columns : ℕ) (changes ends out : List ℕ) (w : Answer) (out′ : List ℕ) (narrow : columns ≤ 4294967295)
-    (written : Answers (writePage columns changes ends out) out w out′) (z : w .number ≡ 0) where
-  number : writePage columns changes ends out .number ≡ 0
+module _ (columns : ℕ) (changes ends out : List ℕ) (w : Answer) (out′ : List ℕ) (narrow : columns ≤ mostPixels)
+    (written : Answers (writePage columns changes ends out) out w out′) (z : w .number ≡ complete) where
+  number : writePage columns changes ends out .number ≡ complete
   number = sym (ap (λ (x : Answer). x .number) (written .answer)) ∙ z
 
   p : PageWritten columns changes ends out (writePage columns changes ends out)

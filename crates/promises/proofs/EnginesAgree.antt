@@ -7,6 +7,7 @@ use Prim.Native.Nat.{ℕ, _+_, _≤_}
 use native.Mathlib.Omega.{arith}
 use lib.ListN.{length, drop, length-drop}
 use borrow.Author.Tests.{le-leb, lt-leb}
+use Rattle.rules.specs.Answers.{overflow}
 use Rattle.rules.specs.Bits.{bitsOf}
 use Rattle.rules.specs.Codes.{Colour, Code, codesOf}
 use Rattle.rules.specs.Lookup.{codeIn, longestShared, Entry, valid, invalid, entryFor, lookup}
@@ -51,7 +52,7 @@ valid-bits : (colour : Colour) (ws : List Bool) (run size : ℕ) → lookup colo
 valid-bits colour ws run size e = let v = lookup-valid colour ws run size e in omega (arith, shape colour (v .code) (v .member) .some-bits, v .size-is)
 
 -- what the rule of the lookup says of a code at which a run fails
-fails-by : (colour : Colour) (bs : List Bool) (sum place n : ℕ) → CodeFails colour bs sum place n → (n ≡ 3 → ⊥) → (taken : ℕ) × (byLookup colour (drop place bs) ≡ lost n taken)
+fails-by : (colour : Colour) (bs : List Bool) (sum place n : ℕ) → CodeFails colour bs sum place n → (n ≡ overflow → ⊥) → (taken : ℕ) × (byLookup colour (drop place bs) ≡ lost n taken)
 fails-by colour bs sum place n (no-code {size} e h) k =
     (size, ap (byEntry (length (drop place bs))) e ∙ simp (le-leb size (length (drop place bs)) (omega (arith, length-drop place bs))))
 fails-by colour bs sum place n (cut-code {pixels} {size} e h) k = (

@@ -7,6 +7,7 @@ use native.Mathlib.Omega.{arith}
 use native.Mathlib.Nat.{mul-suc, mul-le-mul-left, sub-zero}
 use lib.ListN.{length, take, length-append}
 use lib.Seq.{take-at}
+use Rattle.rules.specs.Answers.{complete, tooFewRows}
 use Rattle.rules.specs.Machine.{Out, more, done, ends, costs}
 use Rattle.rules.specs.Bits.{bitsOf}
 use Rattle.rules.specs.Lines.{movedTo, apply, afterMode, code2D}
@@ -89,11 +90,11 @@ exact-is-strict bytes settings c d t not-1 not-14 =
 
 -- what 14 stands for
 record Short (asked : ℕ) (a b : Page.Answer) : Type 0 where
-  finished : b .number ≡ 0
+  finished : b .number ≡ complete
   fewer : length (b .rows) < asked
   short-of : a ≡ shortOf b
 
-short-beside : {asked : ℕ} {a b : Page.Answer} → Beside asked a b → (b .number ≡ 14 → ⊥) → a .number ≡ 14 → Short asked a b
+short-beside : {asked : ℕ} {a b : Page.Answer} → Beside asked a b → (b .number ≡ tooFewRows → ⊥) → a .number ≡ tooFewRows → Short asked a b
 short-beside agrees x e = absurd (x e)
 short-beside (lacks d h) x e = record { finished = d; fewer = h; short-of = refl }
 short-beside (refuses d f) x e = absurd (omega arith)

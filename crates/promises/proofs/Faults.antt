@@ -7,6 +7,7 @@ use native.Mathlib.Omega.{arith}
 use lib.Dec.{eqb, leb, ltb}
 use lib.ListN.{length, drop, length-append}
 use borrow.Author.Tests.{leb-true, leb-false, eqb-true, not-true}
+use Rattle.rules.specs.Answers.{invalidCode, overflow, noEntry, mostPixels}
 use Rattle.rules.specs.Machine.{Out, more, done, run, ends}
 use Rattle.rules.specs.Codes.{Colour, Code, codeBits}
 use Rattle.rules.specs.Lookup.{Entry, valid, invalid}
@@ -44,9 +45,9 @@ module _ (colour : Colour) (bs : List Bool) where
           tests : (b : Bool) → (b ≡ true → s .at + size ≤ length bs) → (b ≡ false → length bs < s .at + size) → Why (done (fault (cond b 1 2) (s .at)))
           tests true h k = at-fault 1 (no-code q (h refl))
           tests false h k = at-fault 2 (cut-short q (k refl))
-      entry (valid pixels size) q = tests (leb (s .at + size) (length bs)) (leb-true _ _) (leb-false _ _) (leb (s .total + pixels) 4294967295) (leb-false _ _) (ltb pixels 64)
+      entry (valid pixels size) q = tests (leb (s .at + size) (length bs)) (leb-true _ _) (leb-false _ _) (leb (s .total + pixels) mostPixels) (leb-false _ _) (ltb pixels 64)
         where
-          tests : (b : Bool) → (b ≡ true → s .at + size ≤ length bs) → (b ≡ false → length bs < s .at + size) → (c : Bool) → (c ≡ false → 4294967295 < s .total + pixels) → (d : Bool)
+          tests : (b : Bool) → (b ≡ true → s .at + size ≤ length bs) → (b ≡ false → length bs < s .at + size) → (c : Bool) → (c ≡ false → mostPixels < s .total + pixels) → (d : Bool)
               → Why (cond b (cond c (cond d (done (ok (sum (s .at + size) (s .total + pixels)))) (more (sum (s .at + size) (s .total + pixels)))) (done (fault 3 (s .at)))) (done (fault 2 (s .at))))
           tests true h k true l true e = absurd (let z : _≡_ {A = ℕ} 0 1 = cc in omega arith)
           tests true h k true l false e = absurd (let z : _≡_ {A = ℕ} 0 1 = cc in omega arith)
@@ -58,14 +59,14 @@ module _ (colour : Colour) (bs : List Bool) where
     more-sum : ℕ
     codes : List Code
     make-ups : MakeUps colour more-sum codes
-    within : s .total + more-sum ≤ 4294967295
+    within : s .total + more-sum ≤ mostPixels
     there : drop (s .at) bs ≡ codesBits codes ++ drop place bs
     place-is : place ≡ s .at + length (codesBits codes)
     fails : CodeFails colour bs (s .total + more-sum) place n
 
   abbrev Blames : Sum → Res Sum → Type 0
   Blames s (ok r) = Unit {0}
-  Blames s (fault n p) = s .total ≤ 4294967295 → Blamed s n p
+  Blames s (fault n p) = s .total ≤ mostPixels → Blamed s n p
 
   run-blames : (s : Sum) (r : Res Sum) → ends (runStep colour bs) (bitsAfter bs) s ≡ done r → Blames s r
   unfolding codesBits
@@ -149,23 +150,23 @@ mode-fault bs at n p = cases (modeByTable (drop at bs)) refl
 
 module _ (R : Rules) where
   -- a count that fits fails with 4 alone
-  add-why : (count : ℕ) (s : Line) (n p : ℕ) (t : Line) → add R count s ≡ failed n p t → n ≡ 4
+  add-why : (count : ℕ) (s : Line) (n p : ℕ) (t : Line) → add R count s ≡ failed n p t → n ≡ noEntry
   unfolding add
   add-why count s n p t = tests (eqb count 0) (leb (length (recorded s)) (R .room))
     where
-      tests : (b c : Bool) → cond b (went s) (cond c (went (line (s .at) (s .position + count) (s .colour) (recorded s) (s .cut))) (failed 4 0 s)) ≡ failed n p t → n ≡ 4
+      tests : (b c : Bool) → cond b (went s) (cond c (went (line (s .at) (s .position + count) (s .colour) (recorded s) (s .cut))) (failed noEntry 0 s)) ≡ failed n p t → n ≡ noEntry
       tests true c e = absurd (let z : _≡_ {A = ℕ} 0 1 = cc in omega arith)
       tests false true e = absurd (let z : _≡_ {A = ℕ} 0 1 = cc in omega arith)
       tests false false e = sym (let q : 4 ≡ n = cc in q)
 
   -- too many pixels
   pub record TooMany (place count : ℕ) (s : Line) (n p : ℕ) : Type 0 where
-    pub number : n ≡ 1
+    pub number : n ≡ invalidCode
     pub place-is : p ≡ place
     pub strict : R .strict ≡ true
     pub beyond : R .width - s .position < count
 
-  pub push-why : (place count : ℕ) (s : Line) (n p : ℕ) (t : Line) → push R place count s ≡ failed n p t → n ≤ 3 → TooMany place count s n p
+  pub push-why : (place count : ℕ) (s : Line) (n p : ℕ) (t : Line) → push R place count s ≡ failed n p t → n ≤ overflow → TooMany place count s n p
   unfolding push
   push-why place count s n p t e h = tests (leb count (R .width - s .position)) (leb-false _ _) (R .strict) refl e
     where
@@ -181,7 +182,7 @@ module _ (R : Rules) where
 
   -- exact implies strict (A12)
   module _ (bs : List Bool) (implies : R .exact ≡ true → R .strict ≡ true) where
-    run-why : (s : Line) (n p : ℕ) (t : Line) → pushRun R bs s ≡ failed n p t → n ≤ 3 → PushFails R bs s n p
+    run-why : (s : Line) (n p : ℕ) (t : Line) → pushRun R bs s ≡ failed n p t → n ≤ overflow → PushFails R bs s n p
     unfolding pushRun
     run-why s n p t e h = cases (readRun (s .colour) bs (s .at)) refl e
       where
@@ -194,7 +195,7 @@ module _ (R : Rules) where
 
     -- ---- The codes of a 2D line
 
-    module _ (reference : List ℕ) (s : Line) (n p : ℕ) (t : Line) (few : n ≤ 3) where
+    module _ (reference : List ℕ) (s : Line) (n p : ℕ) (t : Line) (few : n ≤ overflow) where
       abbrev B1 : ℕ
       B1 = b1 (R .width) reference (s .position) (s .colour)
 
@@ -215,9 +216,9 @@ module _ (R : Rules) where
 
         moved : (a1 : ℕ) → MovesTo B1 B2 (m .mode) a1 → vertical R reference (s .at) a1 (movedTo (m .at) s) ≡ failed n p t → Why
         unfolding vertical
-        moved a1 v = tests (leb a1 4294967295) (leb-false _ _) (leb (s .position) a1) (leb-false _ _)
+        moved a1 v = tests (leb a1 mostPixels) (leb-false _ _) (leb (s .position) a1) (leb-false _ _)
           where
-            tests : (b : Bool) → (b ≡ false → 4294967295 < a1) → (c : Bool) → (c ≡ false → a1 < s .position)
+            tests : (b : Bool) → (b ≡ false → mostPixels < a1) → (c : Bool) → (c ≡ false → a1 < s .position)
                 → cond (b && c) (pushTurn R (s .at) (a1 - s .position) (movedTo (m .at) s)) (failed 3 (s .at) (movedTo (m .at) s)) ≡ failed n p t → Why
             tests true h true k e = pushed a1 v (turn-why (push R (s .at) (a1 - s .position) (movedTo (m .at) s)) n p t e)
             tests true h false k e = over (left-of v (k refl)) e
@@ -297,7 +298,7 @@ module _ (R : Rules) where
               let f = mode-fault bs (s .at) m i q in
               subst₂ (λ (m i : ℕ). Fails R bs s (two reference) m i) (let z : m ≡ n = cc in z) (sym (f .0) ∙ (let z : i ≡ p = cc in z)) (mode (f .1))
 
-    pub code-why : (kind : Kind) (s : Line) (n p : ℕ) (t : Line) → codeOf R kind bs s ≡ failed n p t → n ≤ 3 → Fails R bs s kind n p
+    pub code-why : (kind : Kind) (s : Line) (n p : ℕ) (t : Line) → codeOf R kind bs s ≡ failed n p t → n ≤ overflow → Fails R bs s kind n p
     code-why one s n p t e h = run-1D (run-why s n p t e h)
     code-why (two reference) s n p t e h = code-2D reference s n p t h e
 
@@ -309,7 +310,7 @@ module _ (R : Rules) where
 
       abbrev Told : Line → Went → Type 0
       Told s (went t) = Unit {0}
-      Told s (failed n p t) = n ≤ 3 → (l : Line) × Reaches step s (more l) × Fails R bs l kind n p
+      Told s (failed n p t) = n ≤ overflow → (l : Line) × Reaches step s (more l) × Fails R bs l kind n p
 
       line-told : (s : Line) (r : Went) → ends step (λ t. length bs - t .at) s ≡ done r → Told s r
       line-told s r e = ends-ind step Told base goes (λ t. length bs - t .at) s r e
@@ -328,7 +329,7 @@ module _ (R : Rules) where
           goes : (s t : Line) (r : Went) → step s ≡ more t → Told t r → Told s r
           goes s t r e = further s t e r
 
-      pub line-fault : (start n p : ℕ) (t : Line) → readLine R kind bs start ≡ failed n p t → n ≤ 3 → LineFault R kind bs start n p
+      pub line-fault : (start n p : ℕ) (t : Line) → readLine R kind bs start ≡ failed n p t → n ≤ overflow → LineFault R kind bs start n p
       unfolding readLine lineEnd
       line-fault start n p t e h =
           let q = ends-stops step (λ u. length bs - u .at) (line-falls (R .width) (codeOf R kind bs) bs (moves R kind bs)) (newLine start) in

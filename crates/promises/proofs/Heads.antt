@@ -10,6 +10,7 @@ use lib.IntN.{ℤ, pos, _-ℤ_}
 use lib.ListN.{length, getD}
 use lib.Seq.{ext-getD}
 use borrow.Author.Tests.{leb-true, ltb-true, le-leb, lt-ltb, eqb-true, eqb-false}
+use Rattle.rules.specs.Answers.{complete, badRows, badForm, notOneTick, mendedRow}
 use Rattle.heads.specs.Form.{all, sum, ink, Page, pixel, blackIn, ticked, ticks, told, refusal, tickTable, headsIn, given, touches, cleanUnder, clean, heads}
 use Rattle.heads.specs.Numbers.{formIn, headsFrom}
 use Rattle.heads.specs.declared.Box.{Box}
@@ -30,8 +31,8 @@ abbrev readOf : Asked → HeadsAnswer
 readOf a = headsIn (tableOf a) (a .least) (a .quota)
 
 -- the definition's case principle, of what was asked
-cases : (a : Asked) (P : HeadsAnswer → Type 0) → (isSound a ≡ false → P (refusal 8)) → (isSound a ≡ true → isGiven a ≡ false → P (refusal 11))
-    → (isSound a ≡ true → isGiven a ≡ true → isClean a ≡ false → P (refusal 13)) → (Passes a → P (readOf a)) → {r : HeadsAnswer} → Answers a r → P r
+cases : (a : Asked) (P : HeadsAnswer → Type 0) → (isSound a ≡ false → P (refusal badRows)) → (isSound a ≡ true → isGiven a ≡ false → P (refusal badForm))
+    → (isSound a ≡ true → isGiven a ≡ true → isClean a ≡ false → P (refusal mendedRow)) → (Passes a → P (readOf a)) → {r : HeadsAnswer} → Answers a r → P r
 cases a P p8 p11 p13 p0 =
     heads-cases (a .columns) (a .changes) (a .ends) (a .marks) (a .form) (a .least) (a .quota) P p8 p11 p13 (λ s g k. p0 (record { sound = s; given = g; clean = k }))
 
@@ -82,7 +83,7 @@ module _ (a : Asked) (shape : Shaped (a .form)) where
   -- the table says heads, or 12
   data Read : HeadsAnswer → Type 0 where
     says : (tens units : ℕ) → OneEach a tens units → Read (answerFor tens units)
-    neither : Read (refusal 12)
+    neither : Read (refusal notOneTick)
 
   read-says : Read (readOf a)
   unfolding headsIn
@@ -106,17 +107,17 @@ record Zero (a : Asked) (r : HeadsAnswer) : Type 0 where
   heads-are : r .heads ≡ 10 * tens + units
   left-is : r .left ≡ a .quota -ℤ pos (10 * tens + units)
 
-zero-of : (a : Asked) (r : HeadsAnswer) → Shaped (a .form) → Answers a r → r .number ≡ 0 → Zero a r
+zero-of : (a : Asked) (r : HeadsAnswer) → Shaped (a .form) → Answers a r → r .number ≡ complete → Zero a r
 zero-of a r shape =
-    cases a (λ r. r .number ≡ 0 → Zero a r) (λ s e. absurd (omega arith)) (λ s g e. absurd (omega arith)) (λ s g k e. absurd (omega arith))
+    cases a (λ r. r .number ≡ complete → Zero a r) (λ s e. absurd (omega arith)) (λ s g e. absurd (omega arith)) (λ s g k e. absurd (omega arith))
     (λ p. by p (read-says a shape))
   where
-    by : Passes a → {r : HeadsAnswer} → Read a shape r → r .number ≡ 0 → Zero a r
+    by : Passes a → {r : HeadsAnswer} → Read a shape r → r .number ≡ complete → Zero a r
     by p (says t u o) e = record { passes = p; tens = t; units = u; one-each = o; heads-are = refl; left-is = refl }
     by p neither e = absurd (omega arith)
 
 -- and so it passed the tests
-pub zero-passes : (a : Asked) (r : HeadsAnswer) → Shaped (a .form) → Answers a r → r .number ≡ 0 → Passes a
+pub zero-passes : (a : Asked) (r : HeadsAnswer) → Shaped (a .form) → Answers a r → r .number ≡ complete → Passes a
 zero-passes a r shape c e = zero-of a r shape c e .passes
 
 pub heads-are-ticked : HeadsAreTicked
@@ -154,7 +155,7 @@ every-tick-tells a b r s shape shape′ c d e f g = by
 
 pub ticked-are-heads : TickedAreHeads
 ticked-are-heads a r tens units shape c p o =
-    cases a (λ r. (r .number ≡ 0) × (r .heads ≡ 10 * tens + units))
+    cases a (λ r. (r .number ≡ complete) × (r .heads ≡ 10 * tens + units))
     (λ s. absurd (not-both (p .sound) s)) (λ s g. absurd (not-both (p .given) g)) (λ s g k. absurd (not-both (p .clean) k))
     (λ q. rw (ticked-read a shape tens units o) (refl, refl))
     c
@@ -162,12 +163,12 @@ ticked-are-heads a r tens units shape c p o =
 pub heads-listed : HeadsListed
 unfolding headsIn
 heads-listed a r =
-    cases a (λ r. (r .number ≡ 0) ⊎ ((r ≡ refusal 8) ⊎ ((r ≡ refusal 11) ⊎ ((r ≡ refusal 13) ⊎ (r ≡ refusal 12)))))
+    cases a (λ r. (r .number ≡ complete) ⊎ ((r ≡ refusal badRows) ⊎ ((r ≡ refusal badForm) ⊎ ((r ≡ refusal mendedRow) ⊎ (r ≡ refusal notOneTick)))))
     (λ s. inr (inl refl)) (λ s g. inr (inr (inl refl))) (λ s g k. inr (inr (inr (inl refl))))
     (λ p. by (ticks (a .least) 0 0 (tableOf a)) (ticks (a .least) 1 0 (tableOf a)))
   where
-    by : (t u : List ℕ) → (told (a .quota) t u .number ≡ 0)
-        ⊎ ((told (a .quota) t u ≡ refusal 8) ⊎ ((told (a .quota) t u ≡ refusal 11) ⊎ ((told (a .quota) t u ≡ refusal 13) ⊎ (told (a .quota) t u ≡ refusal 12))))
+    by : (t u : List ℕ) → (told (a .quota) t u .number ≡ complete)
+        ⊎ ((told (a .quota) t u ≡ refusal badRows) ⊎ ((told (a .quota) t u ≡ refusal badForm) ⊎ ((told (a .quota) t u ≡ refusal mendedRow) ⊎ (told (a .quota) t u ≡ refusal notOneTick))))
     by (t ∷ []) (u ∷ []) = inl refl
     by (t ∷ []) [] = inr (inr (inr (inr refl)))
     by (t ∷ []) (u ∷ v ∷ us) = inr (inr (inr (inr refl)))
@@ -238,7 +239,7 @@ only-clean-rows a r shape c e = touched-clean a shape (zero-of a r shape c e .pa
 
 pub mended-answers-13 : MendedAnswers13
 mended-answers-13 a r shape c s g y x t m =
-    cases a (λ r. r .number ≡ 13) (λ f. absurd (not-both s f)) (λ s′ f. absurd (not-both g f)) (λ s′ g′ k. refl)
+    cases a (λ r. r .number ≡ mendedRow) (λ f. absurd (not-both s f)) (λ s′ f. absurd (not-both g f)) (λ s′ g′ k. refl)
     (λ p. absurd (m (touched-clean a shape (p .clean) y x t)))
     c
 
@@ -300,7 +301,7 @@ same-table page page′ form shape f =
 
 -- the answer, where 8 and 13 do not apply, depends on what is given and on the table alone
 abbrev byTable : List (List Box) → ℕ → ℤ → List (List ℕ) → HeadsAnswer
-byTable form least quota table = elim (given form least quota) [ false ↦ refusal 11 | true ↦ headsIn table least quota ]
+byTable form least quota table = elim (given form least quota) [ false ↦ refusal badForm | true ↦ headsIn table least quota ]
 
 by-table : (a : Asked) (r : HeadsAnswer) → Answers a r → isSound a ≡ true → isClean a ≡ true → r ≡ byTable (a .form) (a .least) (a .quota) (tableOf a)
 by-table a r c s k =

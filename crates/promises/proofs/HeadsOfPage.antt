@@ -9,6 +9,7 @@ use lib.Dec.{ltb}
 use lib.ListN.{length, getD, take, replicate, length-append, length-take, length-replicate, getD-replicate, List·getD-append}
 use lib.Seq.{getD-take, take-append-le, take-append-seam, getD-append-seam}
 use borrow.Author.Tests.{ltb-true, ltb-false}
+use Rattle.rules.specs.Answers.{complete, mostPixels}
 use Rattle.rules.specs.Bits.{bitsOf}
 use Rattle.rules.specs.Codes.{white}
 use Rattle.rules.specs.Lines.{Went, went, failed}
@@ -133,7 +134,7 @@ unfolding allAscend
 rows-ascend no-rows = refl
 rows-ascend (row-then r rs) = rw (rises-ascends r) (rows-ascend rs)
 
-module _ (bytes : List ℕ) (settings : DecodeSettings) (c : Call) (narrow : settings .columns ≤ 4294967295) (read : Reading bytes settings c) where
+module _ (bytes : List ℕ) (settings : DecodeSettings) (c : Call) (narrow : settings .columns ≤ mostPixels) (read : Reading bytes settings c) where
   abbrev said : Page.Answer
   said = decode (settingsOf settings) bytes (length (c .changes)) (placesIn (c .ends) (c .marks))
 
@@ -207,7 +208,7 @@ heads-of-page bytes settings c narrow read count enough form least quota r shape
 -- ---- A form that was written
 
 -- what was written passed the test of its rows
-written-good : (columns : ℕ) (changes ends out : List ℕ) (w : Answer) (out′ : List ℕ) → Writer.Answers (writePage columns changes ends out) out w out′ → w .number ≡ 0
+written-good : (columns : ℕ) (changes ends out : List ℕ) (w : Answer) (out′ : List ℕ) → Writer.Answers (writePage columns changes ends out) out w out′ → w .number ≡ complete
     → goodRows columns changes 0 ends ≡ true
 written-good columns changes ends out w out′ written z = by (goodRows columns changes 0 ends) refl
   where
@@ -217,7 +218,7 @@ written-good columns changes ends out w out′ written z = by (goodRows columns 
     by : (b : Bool) → goodRows columns changes 0 ends ≡ b → goodRows columns changes 0 ends ≡ true
     by true e = e
     by false e =
-        let no-line : (columns ≡ 0) ⊎ (columns ≡ 4294967295) → ⊥ = λ n. absurd (omega (arith, z, l .six .1 n)) in
+        let no-line : (columns ≡ 0) ⊎ (columns ≡ mostPixels) → ⊥ = λ n. absurd (omega (arith, z, l .six .1 n)) in
         absurd (omega (arith, z, l .eight .1 (no-line, (λ t. absurd (omega (arith, z, l .seven .1 (no-line, t)))), e)))
 
 good-sound : (columns : ℕ) (changes ends : List ℕ) → goodRows columns changes 0 ends ≡ true → sound columns changes ends (replicate (length ends) 0) ≡ true
@@ -237,7 +238,7 @@ written-form-keeps-heads columns changes ends out w out′ narrow written z byte
     (Mark.all-clean columns (length ends) (replicate (length ends) 0) form (λ n h. getD-replicate (length ends) n 0 0 h))
     (λ digit column y x hd hc inside. ap₂ (λ n rows. pixel (record { columns = n; rows = rows }) y x) (plain .same-columns) back)
   where
-    fits : settings .columns ≤ 4294967295
+    fits : settings .columns ≤ mostPixels
     fits = omega (arith, plain .same-columns)
 
     back : rowsIn 0 (c .changes′) (take (c .answer .rows) (c .ends′)) ≡ rowsIn 0 changes ends
@@ -250,14 +251,14 @@ written-form-keeps-heads columns changes ends out w out′ narrow written z byte
 
 -- ---- A form with bad lines
 
-written-1d-good : (columns : ℕ) (changes ends out : List ℕ) (fill : ℕ) (w : Answer) (out′ : List ℕ) → Writer.Answers (write1D true fill columns changes ends out) out w out′ → w .number ≡ 0
+written-1d-good : (columns : ℕ) (changes ends out : List ℕ) (fill : ℕ) (w : Answer) (out′ : List ℕ) → Writer.Answers (write1D true fill columns changes ends out) out w out′ → w .number ≡ complete
     → goodRows columns changes 0 ends ≡ true
 written-1d-good columns changes ends out fill w out′ written z = by (goodRows columns changes 0 ends) refl
   where
     l : Write3Listed (fill ≤ 64) columns changes ends out (length (page3Bits columns (layout1D true fill) (rowsIn 0 changes ends))) w out′
     l = write-1d-answers columns changes ends out true fill w out′ written
 
-    no-line : (columns ≡ 0) ⊎ (columns ≡ 4294967295) → ⊥
+    no-line : (columns ≡ 0) ⊎ (columns ≡ mostPixels) → ⊥
     no-line n = absurd (omega (arith, z, l .six .1 n))
 
     by : (b : Bool) → goodRows columns changes 0 ends ≡ b → goodRows columns changes 0 ends ≡ true
@@ -321,10 +322,10 @@ bad-lines-keep-heads columns changes ends out fill w out′ written z lines of b
     ap (λ n. pixel (record { columns = n; rows = rowsOf c }) y x) (a .set .same-columns)
     ∙ same-pixel columns (rowsOf c) (rowsIn 0 changes ends) y x (λ k. same-row digit column y x hd hc inside k (ltb y (length ends)) (ltb-true y (length ends)) (ltb-false y (length ends))))
   where
-    fits : settings .columns ≤ 4294967295
+    fits : settings .columns ≤ mostPixels
     fits = omega (arith, a .set .same-columns, a .narrow)
 
-    saved : (c .answer .number ≡ 0) × (c .answer .rows ≡ length lines) × Spared lines (rowsOf c) (marksOf c)
+    saved : (c .answer .number ≡ complete) × (c .answer .rows ≡ length lines) × Spared lines (rowsOf c) (marksOf c)
     saved = k-bad-lines columns fill lines bytes settings c a
 
     as-many : length lines ≡ length ends

@@ -8,6 +8,7 @@ use lib.Dec.{eqb, leb, ltb}
 use lib.ListN.{length, getD, take, getD-replicate}
 use lib.Seq.{getD-take}
 use borrow.Author.Tests.{leb-true, eqb-false}
+use Rattle.rules.specs.Answers.{complete, invalidCode}
 use Rattle.rules.specs.Bits.{bitsOf}
 use Rattle.rules.specs.Lines.{Rules, Line, headOr, Went, went, failed, two, readLine}
 use Rattle.rules.specs.Rows.{readMark}
@@ -76,7 +77,7 @@ abbrev markOf : Page.Answer → ℕ
 markOf a = headOr 0 (a .marks)
 
 abbrev LineMarked : Bool → Page.Answer → Type 0
-LineMarked strict a = (markOf a ≤ 1) × (markOf a ≡ 1 → a .number ≡ 0) × (strict ≡ true → markOf a ≡ 0)
+LineMarked strict a = (markOf a ≤ 1) × (markOf a ≡ 1 → a .number ≡ complete) × (strict ≡ true → markOf a ≡ 0)
 
 -- an answer without a row has no mark
 unmarked : (strict : Bool) (n : ℕ) → LineMarked strict (Page.refusal n)
@@ -115,13 +116,13 @@ read-line-marks bytes at columns strict reference changes r changes′ called =
 
 -- a lenient and a strict answer to the same line
 abbrev Tells : Page.Answer → Page.Answer → Type 0
-Tells a b = a .number ≡ 0 → (markOf a ≡ 0 → b ≡ a) × (markOf a ≡ 1 → b .number ≡ 1)
+Tells a b = a .number ≡ complete → (markOf a ≡ 0 → b ≡ a) × (markOf a ≡ 1 → b .number ≡ invalidCode)
 
 twins-tell : (v w : Went) → ((n p : ℕ) (l : Line) → w ≡ failed n p l → 1 ≤ n) → Twin cutOf Refused false v w → Tells (oneLine w) (oneLine v)
 twins-tell v (failed n p l) some t e = absurd (omega (arith, some n p l refl))
 twins-tell v (went l) some t e = cases v t
   where
-    cases : (v : Went) → Twin cutOf Refused false v (went l) → (readMark l ≡ 0 → oneLine v ≡ oneLine (went l)) × (readMark l ≡ 1 → oneLine v .number ≡ 1)
+    cases : (v : Went) → Twin cutOf Refused false v (went l) → (readMark l ≡ 0 → oneLine v ≡ oneLine (went l)) × (readMark l ≡ 1 → oneLine v .number ≡ invalidCode)
     cases v (alike c) = ((λ q. refl), λ q. absurd (let z : _≡_ {A = ℕ} 0 1 = ap (λ (b : Bool). cond b 1 0) (sym c) ∙ q in omega arith))
     cases v (apart refused c d) = ((λ q. absurd (let z : _≡_ {A = ℕ} 1 0 = ap (λ (b : Bool). cond b 1 0) (sym d) ∙ q in omega arith)), λ q. refl)
 

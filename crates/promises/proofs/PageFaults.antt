@@ -8,6 +8,7 @@ use native.Mathlib.Omega.{arith}
 use lib.Dec.{eqb, leb, ltb}
 use lib.ListN.{length, drop, length-append}
 use borrow.Author.Tests.{leb-false, ltb-true, ltb-false, eqb-true}
+use Rattle.rules.specs.Answers.{invalidCode, overflow}
 use Rattle.rules.specs.Machine.{Out, more, done, run, ends}
 use Rattle.rules.specs.Bits.{firstBit}
 use Rattle.rules.specs.Lines.{Rules, Line, newLine, Went, went, failed, push, Kind, one, two, readLine}
@@ -95,7 +96,7 @@ module _ (S : Settings) (implies : Implied S) (bs : List Bool) (room : ℕ) (st 
 
   abbrev RowTold : RowOut → Type 0
   RowTold (row r mark next) = Unit {0}
-  RowTold (stop n p b loose) = 1 ≤ n → n ≤ 3 → RowFault S bs room st n p
+  RowTold (stop n p b loose) = invalidCode ≤ n → n ≤ overflow → RowFault S bs room st n p
 
   row4-told : S .encoding ≡ group4 → RowTold (row4 S bs room st)
   row4-told g = row4-cases S bs room st RowTold (λ e a b. absurd (omega arith)) (λ e. cases)
@@ -115,13 +116,13 @@ module _ (S : Settings) (implies : Implied S) (bs : List Bool) (room : ℕ) (st 
 
   module _ (at : ℕ) (expected : Bool) where
     -- a line behind its tag bit
-    behind-tag : (t : Tagging) (b : Bool) (n p : ℕ) (l : Line) → taggedLine S t bs R (st .reference) at b ≡ failed n p l → n ≤ 3 → LineFault R (kindOf b (st .reference)) bs (suc at) n p
+    behind-tag : (t : Tagging) (b : Bool) (n p : ℕ) (l : Line) → taggedLine S t bs R (st .reference) at b ≡ failed n p l → n ≤ overflow → LineFault R (kindOf b (st .reference)) bs (suc at) n p
     behind-tag t true n p l e h = line-fault R bs implies one (suc at) n p l e h
     behind-tag t false n p l e h = line-fault R bs implies (two (st .reference)) (suc at) n p l e h
 
     -- the line's fault is the row's, where it is not recovered
     of-line : (t : Tagging) → Encoded t → before S t bs st (eqb (st .count) 0) ≡ line-at at expected → (expected ≡ true → S .strict ≡ true) → (n p : ℕ) (l : Line)
-        → line3 S t bs R (st .reference) at t ≡ failed n p l → n ≤ 3 → RowFault S bs room st n p
+        → line3 S t bs R (st .reference) at t ≡ failed n p l → n ≤ overflow → RowFault S bs room st n p
     of-line untagged g e x n p l q h = in-group3-1D g e x (line-fault R bs implies one at n p l q h)
     of-line tagged g e x n p l q h = cases (ltb at (length bs)) (ltb-true _ _) (ltb-false _ _) q
       where
@@ -189,7 +190,7 @@ module _ (S : Settings) (implies : Implied S) (wide : 0 < S .columns) (bs : List
     fails : RowFault S bs (store - entries (kept .rows)) (kept .state) (a .number) (a .place)
 
   abbrev Tells : Kept → Answer → Type 0
-  Tells k a = 1 ≤ a .number → a .number ≤ 3 → Told k a
+  Tells k a = invalidCode ≤ a .number → a .number ≤ overflow → Told k a
 
   page-told : (k : Kept) (a : Answer) → ends stepped (rowsLeft bs) k ≡ done a → Tells k a
   unfolding run
@@ -223,11 +224,11 @@ module _ (S : Settings) (implies : Implied S) (wide : 0 < S .columns) (bs : List
   abbrev page : Answer
   page = readPage S bs store places
 
-  pub page-fault : 1 ≤ page .number → page .number ≤ 3 → PageFault S bs store places (length (page .rows)) (page .number) (page .place)
+  pub page-fault : invalidCode ≤ page .number → page .number ≤ overflow → PageFault S bs store places (length (page .rows)) (page .number) (page .place)
   unfolding readPage
   page-fault =
       let k : Kept = noneKept in
       let p = ends-stops stepped (rowsLeft bs) (page-falls (S .encoding) S wide bs bytes store places) k in
-      subst (λ (a : Answer). 1 ≤ a .number → a .number ≤ 3 → PageFault S bs store places (length (a .rows)) (a .number) (a .place)) (sym (ap pageOf (p .1)))
+      subst (λ (a : Answer). invalidCode ≤ a .number → a .number ≤ overflow → PageFault S bs store places (length (a .rows)) (a .number) (a .place)) (sym (ap pageOf (p .1)))
       (λ x y. let t = page-told k (p .0) (p .1) x y in
       record { kept = t .kept; reached = subst (λ (n : ℕ). run stepped n k ≡ more (t .kept)) (let z : t .rows ≡ length (p .0 .rows) = omega (arith, t .counted) in z) (t .reached); fails = t .fails })

@@ -5,6 +5,7 @@ use mathlib.Core.List.{List}
 use Prim.Native.Nat.{ℕ, zero, suc, _*_, _≤_, _<_}
 use native.Mathlib.Omega.{arith}
 use lib.ListN.{length}
+use Rattle.rules.specs.Answers.{invalidCode, unexpectedEof, overflow}
 use Rattle.rules.specs.Bits.{bitsOf}
 use Rattle.rules.specs.Lines.{Rules, Went, went, failed, two, readLine}
 use Rattle.rules.specs.Rows.{Settings}
@@ -78,7 +79,7 @@ module _ (bytes : List ℕ) (settings : DecodeSettings) (changes ends marks : Li
       (λ k. page-placed (settingsOf settings .encoding) S (positive (settings .columns) z) (bitsOf bytes) whole (length changes) (placesIn ends marks) refl)
 
   abbrev Blames : Page.Answer → Type 0
-  Blames a = 1 ≤ a .number → a .number ≤ 3 → PageFault S (bitsOf bytes) (length changes) (placesIn ends marks) (length (a .rows)) (a .number) (a .place)
+  Blames a = invalidCode ≤ a .number → a .number ≤ overflow → PageFault S (bitsOf bytes) (length changes) (placesIn ends marks) (length (a .rows)) (a .number) (a .place)
 
   page-blames : {a : Page.Answer} → Paged.Said settings bytes changes ends marks a → Blames a
   page-blames (Paged.is-six e) = λ x y. absurd (omega arith)
@@ -94,7 +95,7 @@ decode-places bytes settings changes ends marks r changes′ ends′ marks′ ca
 
 pub decode-faults : DecodeFaults
 decode-faults bytes settings changes ends marks r changes′ ends′ marks′ called =
-    subst (λ (x : Answer). 1 ≤ x .number → x .number ≤ 3 → PageFault (strictIfExact (settingsOf settings)) (bitsOf bytes) (length changes) (placesIn ends marks) (x .rows) (x .number) (x .place)) (sym (called .answer))
+    subst (λ (x : Answer). invalidCode ≤ x .number → x .number ≤ overflow → PageFault (strictIfExact (settingsOf settings)) (bitsOf bytes) (length changes) (placesIn ends marks) (x .rows) (x .number) (x .place)) (sym (called .answer))
     (page-blames bytes settings changes ends marks (Paged.said settings bytes changes ends marks))
 
 -- ---- One line
@@ -115,7 +116,7 @@ module _ (bytes : List ℕ) (at columns : ℕ) (strict : Bool) (reference change
       cases (failed m p s) h = h
 
   -- a start past the data
-  starts-past : {a : Page.Answer} → Lined.Said bytes at columns strict reference changes a → a .number ≡ 2 → 8 * length bytes < at → a .place ≡ 8 * length bytes
+  starts-past : {a : Page.Answer} → Lined.Said bytes at columns strict reference changes a → a .number ≡ unexpectedEof → 8 * length bytes < at → a .place ≡ 8 * length bytes
   starts-past (Lined.is-six e) q l = absurd (omega arith)
   starts-past (Lined.is-seven n x) q l = absurd (omega arith)
   starts-past (Lined.is-eight n x e) q l = absurd (omega arith)
@@ -123,7 +124,7 @@ module _ (bytes : List ℕ) (at columns : ℕ) (strict : Bool) (reference change
   starts-past (Lined.is-read n x up i) q l = absurd (omega (arith, i, length-bitsOf bytes))
 
   abbrev Blamed : Page.Answer → Type 0
-  Blamed a = 1 ≤ a .number → a .number ≤ 3 → at ≤ 8 * length bytes → LineFault R (two reference) (bitsOf bytes) at (a .number) (a .place)
+  Blamed a = invalidCode ≤ a .number → a .number ≤ overflow → at ≤ 8 * length bytes → LineFault R (two reference) (bitsOf bytes) at (a .number) (a .place)
 
   line-blamed : {a : Page.Answer} → Lined.Said bytes at columns strict reference changes a → Blamed a
   line-blamed (Lined.is-six e) = λ x y z. absurd (omega arith)
@@ -147,5 +148,5 @@ read-line-places bytes at columns strict reference changes r changes′ called =
 
 pub read-line-faults : ReadLineFaults
 read-line-faults bytes at columns strict reference changes r changes′ called =
-    subst (λ (x : Answer). 1 ≤ x .number → x .number ≤ 3 → at ≤ 8 * length bytes → LineFault (R bytes at columns strict reference changes) (two reference) (bitsOf bytes) at (x .number) (x .place)) (sym (called .answer))
+    subst (λ (x : Answer). invalidCode ≤ x .number → x .number ≤ overflow → at ≤ 8 * length bytes → LineFault (R bytes at columns strict reference changes) (two reference) (bitsOf bytes) at (x .number) (x .place)) (sym (called .answer))
     (line-blamed bytes at columns strict reference changes (Lined.said bytes at columns strict reference changes))

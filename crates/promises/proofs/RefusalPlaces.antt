@@ -6,12 +6,12 @@ use mathlib.Core.List.{List}
 use Prim.Native.Nat.{ℕ, zero, suc, _≤_, _<_}
 use native.Mathlib.Omega.{arith}
 use lib.ListN.{length}
+use Rattle.rules.specs.Answers.{noRowEnd, badNumber, tooFewRows, moreToCome}
 use Rattle.rules.specs.Machine.{Out, more, done}
 use Rattle.rules.specs.Bits.{bitsOf}
 use Rattle.rules.specs.Rows.{Settings, RowOut, row, stop}
 use Rattle.rules.specs.Pages as Page
 use Rattle.rules.specs.Pages.{strictIfExact, placesIn}
-use Rattle.rules.specs.Answers.{moreToCome}
 use Rattle.rules.specs.InSteps.{Said, saysOnly}
 use Rattle.rules.specs.ByRow as Rows
 use Rattle.rules.specs.ByRow.{ended, unended, afterRow, unlessFew}
@@ -46,7 +46,7 @@ abbrev Passing : ℕ → Type 0
 Passing n = Refusal n ⊎ (n ≡ moreToCome)
 
 -- neither is an end of the page
-not-passing : {n : ℕ} → (n ≤ 5) ⊎ (n ≡ 14) → Passing n → ⊥
+not-passing : {n : ℕ} → (n ≤ noRowEnd) ⊎ (n ≡ tooFewRows) → Passing n → ⊥
 not-passing (inl h) (inl k) = omega (arith, k .0)
 not-passing (inl h) (inr k) = omega arith
 not-passing (inr h) (inl k) = omega (arith, k .1)
@@ -70,14 +70,14 @@ module _ (bytes : List ℕ) (settings : DecodeSettings) (c : RowCall) (g : RowRe
   lent = record { first = c .first; second = c .second }
 
   -- an end that a state of the code has
-  row-end : (st : RowState) (n place b loose : ℕ) → endOf (st .end) ≡ ended n place b loose → (n ≤ 5) ⊎ (n ≡ 14)
+  row-end : (st : RowState) (n place b loose : ℕ) → endOf (st .end) ≡ ended n place b loose → (n ≤ noRowEnd) ⊎ (n ≡ tooFewRows)
   row-end st n place b loose q = wider (subst EndOf q (RowEnds.end-listed (st .end)))
     where
       EndOf : Rows.End → Type 0
       EndOf unended = Unit {0}
       EndOf (ended n place b loose) = Ending n
 
-      wider : Ending n → (n ≤ 5) ⊎ (n ≡ 14)
+      wider : Ending n → (n ≤ noRowEnd) ⊎ (n ≡ tooFewRows)
       wider (inl h) = inl (omega arith)
       wider (inr h) = inr h
 
@@ -171,5 +171,5 @@ pub ten-counts-nothing : TenCountsNothing
 unfolding turn
 ten-counts-nothing bytes settings c g e =
     let t = ap (λ (n : ℕ). turn (asGroup4 (settingsOf settings)) bytes (c .changes) (c .ends) (c .marks) n (readingOf (c .reading)) .answer) (ten-means bytes settings c g .0 .0 e) in
-    let a : c .turn .answer ≡ answerOf (saysOnly 10) = g .answer ∙ ap answerOf t in
+    let a : c .turn .answer ≡ answerOf (saysOnly badNumber) = g .answer ∙ ap answerOf t in
     (ap (λ (x : Answer). x .rows) a, ap (λ (x : Answer). x .entries) a, ap (λ (x : Answer). x .loose) a, ap (λ (x : Answer). x .bytes) a)

@@ -8,6 +8,7 @@ use lib.Dec.{eqb, leb, ltb}
 use lib.ListN.{length, take, drop}
 use lib.Seq.{take-at, drop-at}
 use borrow.Author.Tests.{ne-eqb, eqb-true, eqb-false, leb-true}
+use Rattle.rules.specs.Answers.{complete, noEntry, badWidth, badRows, tooFewRows, moreToCome}
 use Rattle.rules.specs.Bits.{bitsOf}
 use Rattle.rules.specs.Lines.{Went, went, failed, two, readLine}
 use Rattle.rules.specs.Rows.{Encoding, group4, group3-1D, group3-2D, Settings, State, RowOut, row, stop, rulesOf}
@@ -41,7 +42,7 @@ use Rattle.promises.proofs.ByRow.{both, array-at, other-is, room-is, to
 
 abbrev Keeps : ℕ → ℕ → RowOut → Type 0
 Keeps width room (row r mark next) = Rising width 0 r × (length r ≤ room)
-Keeps width room (stop n place b loose) = (n ≤ 4) × (length loose ≤ room) × (n ≡ 0 → loose ≡ [])
+Keeps width room (stop n place b loose) = (n ≤ noEntry) × (length loose ≤ room) × (n ≡ complete → loose ≡ [])
 
 module _ (S : Settings) (wide : 0 < S .columns) (bytes : List ℕ) (room : ℕ) (st : State) (inside : st .at ≤ length (bitsOf bytes)) where
   abbrev bs : List Bool
@@ -107,16 +108,16 @@ module _ (S : Settings) (bytes : List ℕ) (p : Rule.RowState) (xs : Arrays) whe
     rows : d .said .rows ≡ p .rows
     entries : d .said .entries ≡ p .entries
     loose : d .said .loose ≡ countOf d
-    clean : d .said .number ≡ 0 → countOf d ≡ 0
-    short : d .said .number ≡ 14 → (countOf d ≡ 0) × (d .said .bytes ≡ 0)
-    full : d .said .number ≡ 4 → countOf d ≡ roomIn p xs
+    clean : d .said .number ≡ complete → countOf d ≡ 0
+    short : d .said .number ≡ tooFewRows → (countOf d ≡ 0) × (d .said .bytes ≡ 0)
+    full : d .said .number ≡ noEntry → countOf d ≡ roomIn p xs
 
   record Stores (d : Rule.RowStep) : Type 0 where
     fits : countOf d ≤ roomIn p xs
     later : drop (countOf d) (arrayAt into (d .arrays)) ≡ drop (countOf d) (arrayAt into xs)
     same : arrayAt (p .side) (d .arrays) ≡ arrayAt (p .side) xs
-    given : d .said .number ≡ 15 → Given d
-    over : (d .said .number ≡ 15 → ⊥) → Over d
+    given : d .said .number ≡ moreToCome → Given d
+    over : (d .said .number ≡ moreToCome → ⊥) → Over d
 
   stores-row : (r : List ℕ) (mark : ℕ) (next : State) → Keeps (S .columns) (roomIn p xs) (row r mark next) → Stores (afterRow p xs (row r mark next))
   stores-row r mark next (rising, roomy) = record {
@@ -135,7 +136,7 @@ module _ (S : Settings) (bytes : List ℕ) (p : Rule.RowState) (xs : Arrays) whe
   }
 
   -- an end whose number is not 15; 14 replaces 0 alone
-  stores-end : (n place b : ℕ) (loose : List ℕ) → (n ≡ 15 → ⊥) → length loose ≤ roomIn p xs → (n ≡ 0 → loose ≡ []) → (n ≡ 14 → (loose ≡ []) × (b ≡ 0)) → (n ≡ 4 → roomIn p xs ≤ length loose)
+  stores-end : (n place b : ℕ) (loose : List ℕ) → (n ≡ moreToCome → ⊥) → length loose ≤ roomIn p xs → (n ≡ complete → loose ≡ []) → (n ≡ tooFewRows → (loose ≡ []) × (b ≡ 0)) → (n ≡ noEntry → roomIn p xs ≤ length loose)
       → Stores (afterRow p xs (stop n place b loose))
   stores-end n place b loose ne roomy clean short full =
       let q : countOf (afterRow p xs (stop n place b loose)) ≡ length loose = ap (λ (t : Bool). cond t (p .held) (length loose)) (ne-eqb n 15 ne) in
@@ -165,9 +166,9 @@ module _ (S : Settings) (bytes : List ℕ) (p : Rule.RowState) (xs : Arrays) whe
           stores-end 14 0 0 loose (λ z. omega arith) roomy (λ z. none) (λ z. (none, refl)) (λ z. absurd (omega arith))
 
   -- before the page's end, where it is not refused
-  stores : p .end ≡ unended → 0 < S .columns → (6 ≤ readRow S bytes p xs .said .number → readRow S bytes p xs .said .number ≤ 8 → ⊥) → Stores (readRow S bytes p xs)
+  stores : p .end ≡ unended → 0 < S .columns → (badWidth ≤ readRow S bytes p xs .said .number → readRow S bytes p xs .said .number ≤ badRows → ⊥) → Stores (readRow S bytes p xs)
   stores open′ wide =
-      call-cases S bytes p xs (λ d. (6 ≤ d .said .number → d .said .number ≤ 8 → ⊥) → Stores d)
+      call-cases S bytes p xs (λ d. (badWidth ≤ d .said .number → d .said .number ≤ badRows → ⊥) → Stores d)
       (λ n place b loose e h. absurd (let z : _≡_ {A = ℕ} 0 1 = cc in omega arith))
       (λ u e h. absurd (h (omega arith) (omega arith))) (λ u e f h. absurd (h (omega arith) (omega arith))) (λ u e f g h. absurd (h (omega arith) (omega arith))) (λ u e f g c h. absurd (omega arith))
       (λ u e f g w o q h. stores-so o
@@ -198,7 +199,7 @@ module _ (bytes : List ℕ) (settings : DecodeSettings) (c : RowCall) (g : RowRe
   after-reference : arrayOf (c .state .side) (c .first′) (c .second′) ≡ arrayAt (sideOf (c .state .side)) (d .arrays)
   after-reference = array-at (c .state .side) (c .first′) (c .second′) ∙ ap (arrayAt (sideOf (c .state .side))) (arrays-are bytes settings c g)
 
-  next-is : ByRow.numberOf c ≡ 15 → take (c .step .state .held) (arrayOf (c .step .state .side) (c .first′) (c .second′)) ≡ changesOf c
+  next-is : ByRow.numberOf c ≡ moreToCome → take (c .step .state .held) (arrayOf (c .step .state .side) (c .first′) (c .second′)) ≡ changesOf c
   next-is e =
       ap (take (c .step .state .held)) (array-at (c .step .state .side) (c .first′) (c .second′))
       ∙ ap₂ (λ (q : Rule.RowState) (xs : Arrays). take (q .held) (arrayAt (q .side) xs)) (g .state) (arrays-are bytes settings c g)
@@ -252,7 +253,7 @@ module _ (S : Settings) (bytes : List ℕ) (p : Rule.RowState) (xs ys : Arrays) 
 
   -- what both do, by cases: they refuse, have no columns, or read a row
   both-cases : (C : Rule.RowStep → Rule.RowStep → Type 0) → p .end ≡ unended
-      → ((n : ℕ) → 6 ≤ n → n ≤ 8 → C (refuses S bytes p xs n) (refuses S bytes p ys n)) → C (noColumns S bytes p xs) (noColumns S bytes p ys)
+      → ((n : ℕ) → badWidth ≤ n → n ≤ badRows → C (refuses S bytes p xs n) (refuses S bytes p ys n)) → C (noColumns S bytes p xs) (noColumns S bytes p ys)
       → (0 < S .columns → sound S bytes p xs ≡ true → C (nextRow S bytes p xs) (nextRow S bytes p ys))
       → C (readRow S bytes p xs) (readRow S bytes p ys)
   unfolding readRow tested
@@ -287,8 +288,8 @@ module _ (S : Settings) (bytes : List ℕ) (p : Rule.RowState) (xs ys : Arrays) 
   spoken d = take (countOf d) (arrayAt (other (p .side)) (d .arrays))
 
   record Wider (d e : Rule.RowStep) : Type 0 where
-    four : d .said .number ≡ 4 → (roomIn p xs < countOf e) × (spoken d ≡ take (roomIn p xs) (spoken e))
-    else : (d .said .number ≡ 4 → ⊥) → (e .said ≡ d .said) × (e .state ≡ d .state) × (spoken e ≡ spoken d)
+    four : d .said .number ≡ noEntry → (roomIn p xs < countOf e) × (spoken d ≡ take (roomIn p xs) (spoken e))
+    else : (d .said .number ≡ noEntry → ⊥) → (e .said ≡ d .said) × (e .state ≡ d .state) × (spoken e ≡ spoken d)
 
   -- a row's changes, or the loose ones, are those that it speaks of
   spoken-is : (zs : Arrays) (w : RowOut) → Bounded (bitsOf bytes) w
@@ -296,7 +297,7 @@ module _ (S : Settings) (bytes : List ℕ) (p : Rule.RowState) (xs ys : Arrays) 
   spoken-is zs (row r mark next) h = (refl, front-written (other (p .side)) r zs)
   spoken-is zs (stop n place b loose) h = tests (tooFew S n (p .rows))
     where
-      ended-so : (n place b : ℕ) → (n ≡ 15 → ⊥) → (countOf (afterRow p zs (stop n place b loose)) ≡ length loose) × (spoken (afterRow p zs (stop n place b loose)) ≡ loose)
+      ended-so : (n place b : ℕ) → (n ≡ moreToCome → ⊥) → (countOf (afterRow p zs (stop n place b loose)) ≡ length loose) × (spoken (afterRow p zs (stop n place b loose)) ≡ loose)
       ended-so n place b ne =
           let q : countOf (afterRow p zs (stop n place b loose)) ≡ length loose = ap (λ (t : Bool). cond t (p .held) (length loose)) (ne-eqb n 15 ne) in
           (q, ap (λ (m : ℕ). take m (arrayAt (other (p .side)) (written (other (p .side)) loose zs))) q ∙ front-written (other (p .side)) loose zs)
@@ -354,15 +355,15 @@ module _ (S : Settings) (bytes : List ℕ) (p : Rule.RowState) (xs ys : Arrays) 
         subst (λ (r : List ℕ). Wider (nextRow S bytes p xs) (afterRow p ys (unlessFew S bytes p ys (rowOf (S .encoding) (strictIfExact S) (bitsOf bytes) (roomIn p ys) (record { at = p .at; reference = take (p .held) r; count = p .rows; eols = p .eols })))))
         (sym same) (wider-row _ wide g refl))
       where
-        no-entries : (n : ℕ) → (n ≡ 15 → ⊥) → spoken (refuses S bytes p ys n) ≡ spoken (refuses S bytes p xs n)
+        no-entries : (n : ℕ) → (n ≡ moreToCome → ⊥) → spoken (refuses S bytes p ys n) ≡ spoken (refuses S bytes p xs n)
         no-entries n ne = rw (ne-eqb n 15 ne)
 
 module _ (bytes : List ℕ) (settings : DecodeSettings) (c : RowCall) (g : RowReading bytes settings c) (open′ : c .state .end ≡ Unended) where
   -- the second call has this state, and its own arrays
   four-leaves : (w : RowCall) → let v : RowCall = record { state = c .state; first = w .first; second = w .second; step = w .step; first′ = w .first′; second′ = w .second′ } in
       RowReading bytes settings v → referenceOf v ≡ referenceOf c → length (rowArrayOf c) < length (rowArrayOf v)
-      → (ByRow.numberOf c ≡ 4 → (length (rowArrayOf c) < w .step .count) × (changesOf c ≡ take (length (rowArrayOf c)) (changesOf w)))
-      × ((ByRow.numberOf c ≡ 4 → ⊥) → (w .step ≡ c .step) × (changesOf w ≡ changesOf c))
+      → (ByRow.numberOf c ≡ noEntry → (length (rowArrayOf c) < w .step .count) × (changesOf c ≡ take (length (rowArrayOf c)) (changesOf w)))
+      × ((ByRow.numberOf c ≡ noEntry → ⊥) → (w .step ≡ c .step) × (changesOf w ≡ changesOf c))
   four-leaves w h reference longer =
       let v : RowCall = record { state = c .state; first = w .first; second = w .second; step = w .step; first′ = w .first′; second′ = w .second′ } in
       let side = sideOf (c .state .side) in

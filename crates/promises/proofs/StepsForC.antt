@@ -8,6 +8,7 @@ use Prim.Native.Nat.{ℕ, zero, suc, _≤_}
 use native.Mathlib.Omega.{arith}
 use lib.Dec.{eqb}
 use lib.ListN.{length, take, getD}
+use Rattle.rules.specs.Answers.{moreToCome, mostPixels}
 use Rattle.rules.specs.Rows.{group4, Settings}
 use Rattle.rules.specs.Group4.{row4}
 use Rattle.rules.specs.Pages as Page′
@@ -88,13 +89,13 @@ module _ (bytes : List ℕ) (settings : DecodeSettings) (d : RowCall) (g : RowRe
   abbrev back : List ℕ
   back = Row.numbersOf (d .step .state)
 
-  row-found : numberOf d ≡ 15 → take (d .step .state .held) (ccittRow back (d .first′) (d .second′)) ≡ changesOf d
+  row-found : numberOf d ≡ moreToCome → take (d .step .state .held) (ccittRow back (d .first′) (d .second′)) ≡ changesOf d
   row-found e =
       ap (take (d .step .state .held)) (row-at (d .step .state .side) (d .first′) (d .second′))
       ∙ ap₂ (λ (q : Rule.RowState) (xs : Arrays). take (q .held) (arrayAt (q .side) xs)) (g .state) (arrays-are bytes settings d g)
       ∙ sym (changes-given bytes settings d g e)
 
-  loose-found : (numberOf d ≡ 15 → ⊥) → take (d .step .answer .loose) (ccittLoose back (d .first′) (d .second′)) ≡ changesOf d
+  loose-found : (numberOf d ≡ moreToCome → ⊥) → take (d .step .answer .loose) (ccittLoose back (d .first′) (d .second′)) ≡ changesOf d
   loose-found ne =
       ap₂ (λ (n : ℕ) (l : List ℕ). take n l) (ap (λ (a : Answer). a .loose) (g .answer)) (loose-at (d .step .state .side) (d .first′) (d .second′))
       ∙ ap₂ (λ (q : Rule.RowState) (xs : Arrays). take (told bytes settings d .said .loose) (arrayAt (other (q .side)) xs)) (g .state) (arrays-are bytes settings d g)
@@ -226,7 +227,7 @@ forms-agree-for-c bytes p few page r four five xs ys fits cs last f ne =
 
 -- a state of the rules that 32 bits hold
 abbrev Small : Rule′.Reading → Type 0
-Small (opened s) = (s .position ≤ 4294967295) × (s .run ≤ 4294967295)
+Small (opened s) = (s .position ≤ mostPixels) × (s .run ≤ mostPixels)
 Small (ended c) = Unit {0}
 
 small-wordy : (r : Unit.Reading) → Small (readingOf r) → Units.Wordy r
@@ -237,10 +238,10 @@ wordy-small : (r : Unit.Reading) → Units.Wordy r → Small (readingOf r)
 wordy-small (Open s) h = h
 wordy-small (Ended e c) h = tt
 
-within : 4294967295 ≤ 4294967295
+within : mostPixels ≤ mostPixels
 within = omega arith
 
-module _ (bytes : List ℕ) (settings : DecodeSettings) (narrow : settings .columns ≤ 4294967295) where
+module _ (bytes : List ℕ) (settings : DecodeSettings) (narrow : settings .columns ≤ mostPixels) where
   -- an open page's state, and what a call on it comes to
   module _ (c : UnitCall) (s : Saved) (h : Small (opened (savedOf s))) where
     abbrev S : Settings
@@ -250,7 +251,7 @@ module _ (bytes : List ℕ) (settings : DecodeSettings) (narrow : settings .colu
     places = placesIn (c .ends) (c .marks)
 
     abbrev WellHere : Keeping → Stand → Type 0
-    WellHere = Well (strictIfExact S) (bitsOf bytes) (length (c .changes)) places (s .rows) (endOf (c .ends) (s .rows)) 4294967295 within
+    WellHere = Well (strictIfExact S) (bitsOf bytes) (length (c .changes)) places (s .rows) (endOf (c .ends) (s .rows)) mostPixels within
 
     small-stand : (k : Keeping) (t : Stand) → WellHere k t → Small (opened (savedAt (k .count) t))
     small-stand k (between e) w = (omega arith, omega arith)
@@ -258,7 +259,7 @@ module _ (bytes : List ℕ) (settings : DecodeSettings) (narrow : settings .colu
     small-stand k (inRun (first m) l t) w = (omega (arith, w .0 .fits), w .1)
     small-stand k (inRun (second m z) l t) w = (omega (arith, w .0 .fits), w .1)
 
-    small-left : (o : Out Going Page′.Answer) (x : Said) → WellOut (strictIfExact S) (bitsOf bytes) (length (c .changes)) places (s .rows) (endOf (c .ends) (s .rows)) 4294967295 within o → Small (readingAfter x o)
+    small-left : (o : Out Going Page′.Answer) (x : Said) → WellOut (strictIfExact S) (bitsOf bytes) (length (c .changes)) places (s .rows) (endOf (c .ends) (s .rows)) mostPixels within o → Small (readingAfter x o)
     small-left (done a) x w = tt
     small-left (more g) x w = small-stand (g .keeping) (g .stand) w
 
@@ -266,8 +267,8 @@ module _ (bytes : List ℕ) (settings : DecodeSettings) (narrow : settings .colu
     small-open n =
         turn-cases S bytes (c .changes) (c .ends) (c .marks) n (savedOf s) (λ t. Small (t .reading)) (λ e. h) (λ e f. h) (λ e f q. h) (λ e f q z. tt)
         (λ e f q z. small-left o (unlessFewer S (saidBehind (s .rows) (endOf (c .ends) (s .rows)) (soFar o)))
-        (well-call (strictIfExact S) (bitsOf bytes) (length (c .changes)) places (s .rows) (endOf (c .ends) (s .rows)) 4294967295 within (suc n) (goingOf (c .changes) (c .ends) (savedOf s))
-        (well-start bytes settings c s 4294967295 within (h .1) (passes-sound bytes settings c s q))))
+        (well-call (strictIfExact S) (bitsOf bytes) (length (c .changes)) places (s .rows) (endOf (c .ends) (s .rows)) mostPixels within (suc n) (goingOf (c .changes) (c .ends) (savedOf s))
+        (well-start bytes settings c s mostPixels within (h .1) (passes-sound bytes settings c s q))))
       where
         o : Out Going Page′.Answer
         o = call (strictIfExact S) (bitsOf bytes) (length (c .changes)) places (suc n) (more (goingOf (c .changes) (c .ends) (savedOf s)))
@@ -314,7 +315,7 @@ numbers-tell bytes p narrow c g d h es w en ex ee em = cases g
             (subst (λ (l : List ℕ). ReadsUnits bytes S (d .changes) l (c .marks) r (c .n) t (c .changes′) (c .ends′) (c .marks′)) ee
             (subst (λ (l : List ℕ). ReadsUnits bytes S l (c .ends) (c .marks) r (c .n) t (c .changes′) (c .ends′) (c .marks′)) ex x)))
 
-module _ (bytes : List ℕ) (p : Parameters) (narrow : p .columns ≤ 4294967295) where
+module _ (bytes : List ℕ) (p : Parameters) (narrow : p .columns ≤ mostPixels) where
   -- the unit form's call that C made
   record UnitMade (r : Unit.Reading) (c : UnitCallForC) : Type 0 where
     call : UnitCall

@@ -9,6 +9,7 @@ use lib.Dec.{eqb}
 use lib.ListN.{length, take, drop, length-append, length-drop}
 use lib.Seq.{take-at, drop-at, drop-drop, length-take-le}
 use borrow.Author.Tests.{eqb-true}
+use Rattle.rules.specs.Answers.{complete, badWidth, badRows, tooFewRows, moreToCome, mostPixels}
 use Rattle.rules.specs.Bits.{bitsOf}
 use Rattle.rules.specs.Rows.{Settings}
 use Rattle.rules.specs.Pages as Page
@@ -87,7 +88,7 @@ module _ (S : Settings) (x : Said) where
       tests false = (refl, refl, refl)
 
 -- an outcome behind so many rows and entries, whose rows and loose entries have their places
-module _ (S Q : Settings) (changes ends marks : List ℕ) (rows₀ base₀ most : ℕ) (enough : 4294967295 ≤ most) (bs : List Bool) (o : Out Going Page.Answer) (units : ℕ)
+module _ (S Q : Settings) (changes ends marks : List ℕ) (rows₀ base₀ most : ℕ) (enough : mostPixels ≤ most) (bs : List Bool) (o : Out Going Page.Answer) (units : ℕ)
     (w : AnswersWell Q bs (length changes) (placesIn ends marks) rows₀ base₀ most enough (soFar o)) where
   abbrev a : Page.Answer
   a = soFar o
@@ -147,7 +148,7 @@ module _ (S Q : Settings) (changes ends marks : List ℕ) (rows₀ base₀ most 
       ∙ take-at (a .loose) _ (t .answer .loose) (sym loose-are)
 
 -- a state whose run's sum keeps a limit
-module _ (bytes : List ℕ) (settings : DecodeSettings) (c : UnitCall) (s : Saved) (most : ℕ) (enough : 4294967295 ≤ most) (limited : s .run ≤ most) where
+module _ (bytes : List ℕ) (settings : DecodeSettings) (c : UnitCall) (s : Saved) (most : ℕ) (enough : mostPixels ≤ most) (limited : s .run ≤ most) where
   abbrev pub S₄ : Settings
   S₄ = asGroup4 (settingsOf settings)
 
@@ -224,9 +225,9 @@ module _ (bytes : List ℕ) (settings : DecodeSettings) (c : UnitCall) (s : Save
 
   -- what 0, 14 and 15 have
   record Has (x : Said) : Type 0 where
-    clean : x .number ≡ 0 → x .loose ≡ 0
-    short : x .number ≡ 14 → (x .loose ≡ 0) × (x .bytes ≡ 0)
-    more : x .number ≡ 15 → (x .bytes ≡ 0) × (x .place ≡ 0)
+    clean : x .number ≡ complete → x .loose ≡ 0
+    short : x .number ≡ tooFewRows → (x .loose ≡ 0) × (x .bytes ≡ 0)
+    more : x .number ≡ moreToCome → (x .bytes ≡ 0) × (x .place ≡ 0)
 
   said-has : (o : Out Going Page.Answer) → OutWell o → Has (saidAt o)
   said-has (more g) w = rw (and-false (settings .exact)) (record { clean = λ z. absurd (omega arith); short = λ z. absurd (omega arith); more = λ z. (refl, refl) })
@@ -242,16 +243,16 @@ module _ (bytes : List ℕ) (settings : DecodeSettings) (c : UnitCall) (s : Save
       tests false e = record { clean = λ z. ap length (w .clean z); short = λ z. absurd (omega arith); more = λ z. absurd (omega arith) }
 
   unit-stores : (n : ℕ) → TurnIs (turn S₄ bytes (c .changes) (c .ends) (c .marks) (suc n) (opened (savedOf s))) (c .turn) (c .changes′) (c .ends′) (c .marks′)
-      → 0 < settings .columns → (6 ≤ ByUnit.numberOf c → ByUnit.numberOf c ≤ 8 → ⊥) → UnitStores settings c s
+      → 0 < settings .columns → (badWidth ≤ ByUnit.numberOf c → ByUnit.numberOf c ≤ badRows → ⊥) → UnitStores settings c s
   unit-stores n =
-      turn-cases S₄ bytes (c .changes) (c .ends) (c .marks) n (savedOf s) (λ t. TurnIs t (c .turn) (c .changes′) (c .ends′) (c .marks′) → 0 < settings .columns → (6 ≤ ByUnit.numberOf c → ByUnit.numberOf c ≤ 8 → ⊥) → UnitStores settings c s)
+      turn-cases S₄ bytes (c .changes) (c .ends) (c .marks) n (savedOf s) (λ t. TurnIs t (c .turn) (c .changes′) (c .ends′) (c .marks′) → 0 < settings .columns → (badWidth ≤ ByUnit.numberOf c → ByUnit.numberOf c ≤ badRows → ⊥) → UnitStores settings c s)
       (λ e g w h. absurd (refused 6 (ap (λ (x : Answer). x .number) (g .answer)) (omega arith) (omega arith) h))
       (λ e f g w h. absurd (refused 7 (ap (λ (x : Answer). x .number) (g .answer)) (omega arith) (omega arith) h))
       (λ e f q g w h. absurd (refused 8 (ap (λ (x : Answer). x .number) (g .answer)) (omega arith) (omega arith) h))
       (λ e f q z g w h. absurd (omega arith))
       (λ e f q z g w h. reads g (passes-sound′ bytes settings c s q))
     where
-      refused : (m : ℕ) → ByUnit.numberOf c ≡ m → 6 ≤ m → m ≤ 8 → (6 ≤ ByUnit.numberOf c → ByUnit.numberOf c ≤ 8 → ⊥) → ⊥
+      refused : (m : ℕ) → ByUnit.numberOf c ≡ m → badWidth ≤ m → m ≤ badRows → (badWidth ≤ ByUnit.numberOf c → ByUnit.numberOf c ≤ badRows → ⊥) → ⊥
       refused m e l k h = h (omega arith) (omega arith)
 
       o : Out Going Page.Answer
@@ -351,7 +352,7 @@ at-open bytes settings c s C f g some′ q =
 
 pub unit-stored : UnitStored
 unit-stored bytes settings c g some′ s q wide served =
-    at-open bytes settings c s (λ n. UnitStores settings c s) (λ n t. unit-stores bytes settings c s (4294967295 + s .run) (omega arith) (omega arith) n t wide served) g some′ q
+    at-open bytes settings c s (λ n. UnitStores settings c s) (λ n t. unit-stores bytes settings c s (mostPixels + s .run) (omega arith) (omega arith) n t wide served) g some′ q
 
 -- ---- Columns 0
 
@@ -374,7 +375,7 @@ no-columns-in-steps = record { by-row = by-row′; by-unit = by-unit′ }
         none =
             call-cases (settingsOf settings) bytes (rowStateOf (c .state)) (both (c .first) (c .second)) (λ d. d ≡ noColumns (settingsOf settings) bytes (rowStateOf (c .state)) (both (c .first) (c .second)))
             (λ n place b loose e. absurd (let q : endOf (c .state .end) ≡ unended = ap endOf open′ in let y : _≡_ {A = ℕ} 0 1 = cc in omega arith))
-            (λ u e. absurd (omega (arith, eqb-true (settings .columns) 4294967295 e)))
+            (λ u e. absurd (omega (arith, eqb-true (settings .columns) mostPixels e)))
             (λ u e l. absurd (omega arith))
             (λ u e l s. absurd (true≢false (sym (sound-passes bytes settings c h) ∙ s)))
             (λ u e l s k. refl)
@@ -387,7 +388,7 @@ no-columns-in-steps = record { by-row = by-row′; by-unit = by-unit′ }
         none : (n : ℕ) → TurnIs (turn (asGroup4 (settingsOf settings)) bytes (c .changes) (c .ends) (c .marks) (suc n) (opened (savedOf s))) (c .turn) (c .changes′) (c .ends′) (c .marks′) → UnitNothing c
         none n =
             turn-cases (asGroup4 (settingsOf settings)) bytes (c .changes) (c .ends) (c .marks) n (savedOf s) (λ t. TurnIs t (c .turn) (c .changes′) (c .ends′) (c .marks′) → UnitNothing c)
-            (λ e t. absurd (omega (arith, eqb-true (settings .columns) 4294967295 e)))
+            (λ e t. absurd (omega (arith, eqb-true (settings .columns) mostPixels e)))
             (λ e l t. absurd (omega arith))
             (λ e l k t. absurd (true≢false (sym (sound-passes′ bytes settings c s h) ∙ k)))
             (λ e l k y t. record { answer = t .answer; units = t .units; changes = t .changes; ends = t .ends; marks = t .marks; over = t .reading })

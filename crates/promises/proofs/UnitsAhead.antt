@@ -9,6 +9,7 @@ use native.Mathlib.Omega.{arith}
 use lib.Dec.{eqb, leb, ltb}
 use lib.ListN.{length, take, getD, length-append}
 use lib.Seq.{take-at}
+use Rattle.rules.specs.Answers.{mostPixels}
 use Rattle.rules.specs.Machine.{Out, more, done}
 use Rattle.rules.specs.Codes.{differ}
 use Rattle.rules.specs.Runs.{Res, ok, fault, Sum, runStep, readRun}
@@ -69,7 +70,7 @@ module _ (R : Rules) where
 
   on-vertical : (reference : List ℕ) (place a1 : ℕ) (s : Line) → On s (vertical R reference place a1 s)
   unfolding vertical
-  on-vertical reference place a1 s = tests (leb a1 4294967295 && leb (s .position) a1)
+  on-vertical reference place a1 s = tests (leb a1 mostPixels && leb (s .position) a1)
     where
       tests : (b : Bool) → On s (cond b (pushTurn R place (a1 - s .position) s) (failed 3 place s))
       tests true = on-turn place (a1 - s .position) s

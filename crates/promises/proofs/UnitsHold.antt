@@ -9,6 +9,7 @@ use native.Mathlib.Omega.{arith}
 use lib.Dec.{eqb, leb, ltb}
 use lib.ListN.{length, length-append}
 use borrow.Author.Tests.{ltb-true}
+use Rattle.rules.specs.Answers.{complete, invalidCode, noEntry, noRowEnd, mostPixels}
 use Rattle.rules.specs.Machine.{Out, more, done}
 use Rattle.rules.specs.Runs.{Res, ok, fault, Sum, runStep}
 use Rattle.rules.specs.Modes.{Mode, pass, horizontal, VR, VL, Moded, readMode}
@@ -34,14 +35,14 @@ rows-snoc (q ∷ rs) r (row-then k l) h = row-then k (rows-snoc rs r l h)
 
 abbrev Fails : Went → Type 0
 Fails (went t) = Unit {0}
-Fails (failed n place t) = (1 ≤ n) × (n ≤ 4)
+Fails (failed n place t) = (invalidCode ≤ n) × (n ≤ noEntry)
 
 module _ (R : Rules) where
   fails-add : (count : ℕ) (s : Line) → Fails (add R count s)
   unfolding add
   fails-add count s = tests (eqb count 0) (leb (length (recorded s)) (R .room))
     where
-      tests : (b c : Bool) → Fails (cond b (went s) (cond c (went (line (s .at) (s .position + count) (s .colour) (recorded s) (s .cut))) (failed 4 0 s)))
+      tests : (b c : Bool) → Fails (cond b (went s) (cond c (went (line (s .at) (s .position + count) (s .colour) (recorded s) (s .cut))) (failed noEntry 0 s)))
       tests true c = tt
       tests false true = tt
       tests false false = (omega arith, omega arith)
@@ -64,7 +65,7 @@ module _ (R : Rules) where
 
   fails-vertical : (reference : List ℕ) (place a1 : ℕ) (s : Line) → Fails (vertical R reference place a1 s)
   unfolding vertical
-  fails-vertical reference place a1 s = tests (leb a1 4294967295 && leb (s .position) a1)
+  fails-vertical reference place a1 s = tests (leb a1 mostPixels && leb (s .position) a1)
     where
       tests : (b : Bool) → Fails (cond b (pushTurn R place (a1 - s .position) s) (failed 3 place s))
       tests true = fails-turn place (a1 - s .position) s
@@ -85,7 +86,7 @@ module _ (R : Rules) where
 -- ---- What holds
 
 -- rows and entries that were kept before the call, and the most that a run's sum may be
-module _ (S : Settings) (bs : List Bool) (store places rows₀ base₀ most : ℕ) (enough : 4294967295 ≤ most) where
+module _ (S : Settings) (bs : List Bool) (store places rows₀ base₀ most : ℕ) (enough : mostPixels ≤ most) where
   pub record KeepsWell (k : Keeping) : Type 0 where
     pub placed : k .count ≤ places
     pub roomy : k .base ≤ store
@@ -111,11 +112,11 @@ module _ (S : Settings) (bs : List Bool) (store places rows₀ base₀ most : �
     pub marks-are : length (a .marks) ≡ length (a .rows)
     pub rising : Rows (S .columns) (a .rows)
     pub loose-rising : Rising (S .columns) 0 (a .loose)
-    pub clean : a .number ≡ 0 → a .loose ≡ []
+    pub clean : a .number ≡ complete → a .loose ≡ []
 
   abbrev pub WellOut : Out Going Answer → Type 0
   WellOut (more g) = Well (g .keeping) (g .stand)
-  WellOut (done a) = AnswersWell a × (a .number ≤ 5)
+  WellOut (done a) = AnswersWell a × (a .number ≤ noRowEnd)
 
   -- ---- Closing
 
@@ -143,7 +144,7 @@ module _ (S : Settings) (bs : List Bool) (store places rows₀ base₀ most : �
   }
 
   -- the page ends so
-  well-broken : (k : Keeping) (n place : ℕ) (l : Line) → (1 ≤ n) × (n ≤ 5) → LineWell k l → WellOut (broken S bs store places k n place l)
+  well-broken : (k : Keeping) (n place : ℕ) (l : Line) → (invalidCode ≤ n) × (n ≤ noRowEnd) → LineWell k l → WellOut (broken S bs store places k n place l)
   well-broken k n place l h w = (answers-line k n place l (h .0) w, h .1)
 
   well-between : (k : Keeping) (e : Eols) → KeepsWell k → WellOut (betweenRows S bs store places k e)

@@ -7,6 +7,7 @@ use native.Mathlib.Omega.{arith}
 use lib.Dec.{eqb, ltb}
 use lib.ListN.{length}
 use borrow.Author.Tests.{ltb-true, ltb-false, eqb-true, eqb-false}
+use Rattle.rules.specs.Answers.{complete, moreToCome, mostPixels}
 use Rattle.rules.specs.Machine.{Out, more, done}
 use Rattle.rules.specs.Bits.{bitsOf}
 use Rattle.rules.specs.Rows.{Settings}
@@ -38,7 +39,7 @@ ahead-short S a b f =
     short-cases S b (Ahead a) (λ k. record { rest = f .rest; rows = f .rows; rest-marks = f .rest-marks; marks = f .marks; loose = f .loose }) (λ k. f)
 
 module _ (bytes : List ℕ) (settings : DecodeSettings) (xs es ms : List ℕ) (before : List UnitCall) (last : UnitCall) (p : Page bytes settings xs es ms before last)
-    (wide : 0 < settings .columns) (narrow : settings .columns < 4294967295) (few : length bytes ≤ mostBytes) where
+    (wide : 0 < settings .columns) (narrow : settings .columns < mostPixels) (few : length bytes ≤ mostBytes) where
   abbrev S : Settings
   S = asGroup4 (settingsOf settings)
 
@@ -83,7 +84,7 @@ module _ (bytes : List ℕ) (settings : DecodeSettings) (xs es ms : List ℕ) (b
       (record { answer = sym (open-said unitsStart); tie = tie-start S wide narrow bytes few xs es ms })
 
   -- the page that is open stands so
-  module _ (e : numberOf last ≡ 15) where
+  module _ (e : numberOf last ≡ moreToCome) where
     fewer : total ns < units bytes settings xs es ms before last p wide narrow few
     fewer = omega (arith, open-exactly bytes settings xs es ms before last p wide narrow few .0 e, asked-total bytes settings xs es ms before last p)
 
@@ -141,7 +142,7 @@ units-so-far bytes settings small enc page r before last p e = tests (tooWide (s
     ms : List ℕ
     ms = page .marks
 
-    reads : 0 < settings .columns → settings .columns < 4294967295 → length bytes ≤ mostBytes → SoFar page last
+    reads : 0 < settings .columns → settings .columns < mostPixels → length bytes ≤ mostBytes → SoFar page last
     reads w n few =
         let g = at-open bytes settings xs es ms before last p w n few e .0 in
         let h = gives-so bytes settings xs es ms before last p w n few e in
@@ -155,7 +156,7 @@ units-so-far bytes settings small enc page r before last p e = tests (tooWide (s
         }
 
     -- a page that is refused, or has no columns, never answers 15
-    never : (n : ℕ) (held : Rule.Reading) → (n ≡ 15 → ⊥) → ((m : ℕ) → 0 < m → turn (asGroup4 (settingsOf settings)) bytes xs es ms m (opened savedStart) ≡ Rule.still (asGroup4 (settingsOf settings)) bytes xs es ms (saysOnly n) held)
+    never : (n : ℕ) (held : Rule.Reading) → (n ≡ moreToCome → ⊥) → ((m : ℕ) → 0 < m → turn (asGroup4 (settingsOf settings)) bytes xs es ms m (opened savedStart) ≡ Rule.still (asGroup4 (settingsOf settings)) bytes xs es ms (saysOnly n) held)
         → ((m : ℕ) → 0 < m → turn (asGroup4 (settingsOf settings)) bytes xs es ms m held ≡ Rule.still (asGroup4 (settingsOf settings)) bytes xs es ms (saysOnly n) held) → ⊥
     never n held ne first later = ne (sym (ap (λ (x : Answer). x .number) (stuck bytes settings xs es ms before last p (saysOnly n) held first later .answer)) ∙ e)
 
@@ -163,8 +164,8 @@ units-so-far bytes settings small enc page r before last p e = tests (tooWide (s
     tests true q b f c h = let k = refused-6 bytes settings xs es ms (eqb-true _ _ q) in absurd (never 6 (opened savedStart) (λ z. omega arith) k k)
     tests false q true f c h = let k = refused-7 bytes settings xs es ms (eqb-false _ _ q) (ltb-true _ _ f) in absurd (never 7 (opened savedStart) (λ z. omega arith) k k)
     tests false q false f true h =
-        absurd (never 0 (ended (saysOnly 0)) (λ z. omega arith) (no-columns bytes settings xs es ms (eqb-true _ _ h) (ltb-false _ _ f)) (repeated bytes settings xs es ms (saysOnly 0)))
+        absurd (never 0 (ended (saysOnly complete)) (λ z. omega arith) (no-columns bytes settings xs es ms (eqb-true _ _ h) (ltb-false _ _ f)) (repeated bytes settings xs es ms (saysOnly complete)))
     tests false q false f false h =
         let z : settings .columns ≡ 0 → ⊥ = eqb-false _ _ h in
-        let n : settings .columns ≡ 4294967295 → ⊥ = eqb-false _ _ q in
+        let n : settings .columns ≡ mostPixels → ⊥ = eqb-false _ _ q in
         reads (omega (arith, z)) (omega (arith, n, small)) (ltb-false _ _ f)

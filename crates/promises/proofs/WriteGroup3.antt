@@ -8,6 +8,7 @@ use native.Mathlib.Omega.{arith}
 use lib.Dec.{leb, ltb}
 use lib.ListN.{length, getD, take, replicate, getD-replicate}
 use borrow.Author.Tests.{leb-true, leb-false, le-leb, ltb-true, ltb-false}
+use Rattle.rules.specs.Answers.{complete, badWidth, tooLong, badRows, noFit, badNumber, mostPixels}
 use Rattle.rules.specs.Lines.{one}
 use Rattle.rules.specs.Pages as Page
 use Rattle.rules.specs.Pages.{mostBytes, entries, decode, placesIn}
@@ -50,7 +51,7 @@ module _ (layout : Layout) (fine : Bool) (Allowed : Type 0) (granted : fine ≡ 
   size = length (page3Bits columns layout (rowsIn 0 changes ends))
 
   abbrev Nothing : Type 0
-  Nothing = (columns ≡ 0) ⊎ (columns ≡ 4294967295)
+  Nothing = (columns ≡ 0) ⊎ (columns ≡ mostPixels)
 
   abbrev Long : Type 0
   Long = mostBytes < length out
@@ -60,12 +61,12 @@ module _ (layout : Layout) (fine : Bool) (Allowed : Type 0) (granted : fine ≡ 
 
   -- what is written, by the tests
   data Said : Written → Type 0 where
-    is-six : Nothing → Said (unwritten 6 out)
-    is-seven : (Nothing → ⊥) → Long → Said (unwritten 7 out)
-    is-ten : (Nothing → ⊥) → (Long → ⊥) → (Allowed → ⊥) → Said (unwritten 10 out)
-    is-eight : (Nothing → ⊥) → (Long → ⊥) → Allowed → Bad → Said (unwritten 8 out)
-    is-nine : (Nothing → ⊥) → (Long → ⊥) → Allowed → (Bad → ⊥) → 8 * length out < size → Said (unwritten 9 out)
-    is-done : (Nothing → ⊥) → (Long → ⊥) → Allowed → (Bad → ⊥) → size ≤ 8 * length out → (w : Written) → w .number ≡ 0 → Said w
+    is-six : Nothing → Said (unwritten badWidth out)
+    is-seven : (Nothing → ⊥) → Long → Said (unwritten tooLong out)
+    is-ten : (Nothing → ⊥) → (Long → ⊥) → (Allowed → ⊥) → Said (unwritten badNumber out)
+    is-eight : (Nothing → ⊥) → (Long → ⊥) → Allowed → Bad → Said (unwritten badRows out)
+    is-nine : (Nothing → ⊥) → (Long → ⊥) → Allowed → (Bad → ⊥) → 8 * length out < size → Said (unwritten noFit out)
+    is-done : (Nothing → ⊥) → (Long → ⊥) → Allowed → (Bad → ⊥) → size ≤ 8 * length out → (w : Written) → w .number ≡ complete → Said w
 
   said : Said (writeGroup3 layout fine columns changes ends out)
   said =
@@ -79,13 +80,13 @@ module _ (layout : Layout) (fine : Bool) (Allowed : Type 0) (granted : fine ≡ 
 
   -- what holds of everything that is written
   record Fine (w : Written) : Type 0 where
-    listed : (w .number ≡ 0) ⊎ ((6 ≤ w .number) × (w .number ≤ 10))
-    six : (w .number ≡ 6) ↔ Nothing
-    seven : (w .number ≡ 7) ↔ ((Nothing → ⊥) × Long)
-    ten : (w .number ≡ 10) ↔ ((Nothing → ⊥) × (Long → ⊥) × (Allowed → ⊥))
-    eight : (w .number ≡ 8) ↔ ((Nothing → ⊥) × (Long → ⊥) × Allowed × Bad)
-    nine : (w .number ≡ 9) ↔ ((Nothing → ⊥) × (Long → ⊥) × Allowed × (Bad → ⊥) × (8 * length out < size))
-    nowhere : (w .number ≡ 0 → ⊥) → w .end ≡ 0
+    listed : (w .number ≡ complete) ⊎ ((badWidth ≤ w .number) × (w .number ≤ badNumber))
+    six : (w .number ≡ badWidth) ↔ Nothing
+    seven : (w .number ≡ tooLong) ↔ ((Nothing → ⊥) × Long)
+    ten : (w .number ≡ badNumber) ↔ ((Nothing → ⊥) × (Long → ⊥) × (Allowed → ⊥))
+    eight : (w .number ≡ badRows) ↔ ((Nothing → ⊥) × (Long → ⊥) × Allowed × Bad)
+    nine : (w .number ≡ noFit) ↔ ((Nothing → ⊥) × (Long → ⊥) × Allowed × (Bad → ⊥) × (8 * length out < size))
+    nowhere : (w .number ≡ complete → ⊥) → w .end ≡ 0
 
   each : {w : Written} → Said w → Fine w
   each (is-six n) = record {
@@ -181,7 +182,7 @@ write-2d-answers columns changes ends out k r out′ g =
 -- ---- Reading back
 
 -- what a writer wrote, of whose page the rules say that it returns
-module _ (W : Written) (changes ends out : List ℕ) (w : Answer) (out′ : List ℕ) (written : Answers W out w out′) (z : w .number ≡ 0)
+module _ (W : Written) (changes ends out : List ℕ) (w : Answer) (out′ : List ℕ) (written : Answers W out w out′) (z : w .number ≡ complete)
     (settings : DecodeSettings) (returns : Returns W (settingsOf settings) changes ends out) where
   pub gives-back : (zeros : ℕ) → w .bytes + zeros ≤ mostBytes → GivesBack changes ends w settings (take (w .bytes) out′ ++ replicate zeros 0)
   gives-back zeros small store places marks r store′ places′ marks′ roomy placed marked called = (
@@ -209,7 +210,7 @@ module _ (W : Written) (changes ends out : List ℕ) (w : Answer) (out′ : List
       a = called .answer ∙ ap answerOf is
 
 -- the settings of the rules
-told-2d : (columns rows : ℕ) (settings : DecodeSettings) → 0 < columns → columns ≤ 4294967295 → For2D columns rows settings → Told2D (settingsOf settings) rows
+told-2d : (columns rows : ℕ) (settings : DecodeSettings) → 0 < columns → columns ≤ mostPixels → For2D columns rows settings → Told2D (settingsOf settings) rows
 told-2d columns rows settings wide narrow s = record {
   encoded = ap encodingOf (s .group-3);
   wide = omega (arith, s .same-columns);
@@ -219,7 +220,7 @@ told-2d columns rows settings wide narrow s = record {
   counted = s .counted;
 }
 
-told : (columns : ℕ) (eols : Bool) (rows : ℕ) (settings : DecodeSettings) → 0 < columns → columns ≤ 4294967295 → For1D columns eols rows settings → Told1D (settingsOf settings) eols rows
+told : (columns : ℕ) (eols : Bool) (rows : ℕ) (settings : DecodeSettings) → 0 < columns → columns ≤ mostPixels → For1D columns eols rows settings → Told1D (settingsOf settings) eols rows
 told columns eols rows settings wide narrow s = record {
   encoded = ap encodingOf (s .group-3);
   wide = omega (arith, s .same-columns);
@@ -231,8 +232,8 @@ told columns eols rows settings wide narrow s = record {
 }
 
 -- what a 0 says of the width and of the page's bytes
-module _ (layout : Layout) (fine : Bool) (columns : ℕ) (changes ends out : List ℕ) (w : Answer) (out′ : List ℕ) (narrow : columns ≤ 4294967295)
-    (written : Answers (writeGroup3 layout fine columns changes ends out) out w out′) (z : w .number ≡ 0) where
+module _ (layout : Layout) (fine : Bool) (columns : ℕ) (changes ends out : List ℕ) (w : Answer) (out′ : List ℕ) (narrow : columns ≤ mostPixels)
+    (written : Answers (writeGroup3 layout fine columns changes ends out) out w out′) (z : w .number ≡ complete) where
   p : Page3Written layout fine columns changes ends out (writeGroup3 layout fine columns changes ends out)
   p = page3-written layout fine columns changes ends out narrow (sym (ap (λ (x : Answer). x .number) (written .answer)) ∙ z)
 

@@ -5,6 +5,7 @@ use mathlib.Core.Bool.{Bool, true, false}
 use mathlib.Core.List.{List, [], _∷_, _++_}
 use Prim.Native.Nat.{ℕ, _≤_, _<_}
 use lib.ListN.{length, getD, take}
+use Rattle.rules.specs.Answers.{complete, mostPixels}
 use Rattle.rules.specs.Bits.{bitsOf}
 use Rattle.rules.specs.Lines.{one}
 use Rattle.rules.specs.Pages.{mostBytes}
@@ -35,7 +36,7 @@ Roomy rows columns c = RoomFor rows columns (length (c .changes)) (places c) (c 
 -- a page of 1D lines as it arrives, each line its row's own or any others that A13 allows, whatever follows; and a call of `decode` on it
 pub record Arrival (columns fill : ℕ) (lines : List Arrived) (bytes : List ℕ) (settings : DecodeSettings) (c : Call) : Type 0 where
   pub wide : 0 < columns
-  pub narrow : columns < 4294967295
+  pub narrow : columns < mostPixels
   pub three : 3 ≤ fill
   pub some-lines : 0 < length lines
   pub allowed : mayAll columns lines ≡ true
@@ -50,7 +51,7 @@ pub record Arrival (columns fill : ℕ) (lines : List Arrived) (bytes : List ℕ
 abbrev pub KBadLinesCostKRows : Type 0
 KBadLinesCostKRows =
     (columns fill : ℕ) (lines : List Arrived) (bytes : List ℕ) (settings : DecodeSettings) (c : Call) → Arrival columns fill lines bytes settings c
-    → (c .answer .number ≡ 0) × (c .answer .rows ≡ length lines) × Spared lines (rowsOf c) (marksOf c)
+    → (c .answer .number ≡ complete) × (c .answer .rows ≡ length lines) × Spared lines (rowsOf c) (marksOf c)
 
 -- So a row that is not marked clean is one of the bad ones. (A bad one may be marked clean, as the bits 0001111 on a page of one column are: rules/proofs/Group3Sheets.antt, `bad-lines-sheet`.)
 abbrev pub MarkedAreBad : Type 0
@@ -72,12 +73,12 @@ backOf columns fill last = page3Bits columns (filled fill) last
 -- in what `write_group3_1d` wrote.
 abbrev pub OneBadLineCostsOneRow : Type 0
 OneBadLineCostsOneRow =
-    (columns : ℕ) (changes ends out : List ℕ) (fill : ℕ) (w : Answer) (out′ : List ℕ) → columns ≤ 4294967295 → 3 ≤ fill
-    → Answers (write1D true fill columns changes ends out) out w out′ → w .number ≡ 0
+    (columns : ℕ) (changes ends out : List ℕ) (fill : ℕ) (w : Answer) (out′ : List ℕ) → columns ≤ mostPixels → 3 ≤ fill
+    → Answers (write1D true fill columns changes ends out) out w out′ → w .number ≡ complete
     → (first : List (List ℕ)) (row : List ℕ) (last : List (List ℕ)) → rowsIn 0 changes ends ≡ first ++ row ∷ last
     → ((padding : List Bool) × (bitsOf (take (w .bytes) out′) ≡ frontOf columns fill first ++ (lineBits columns one row ++ (backOf columns fill last ++ padding))))
     × ((bits : List Bool) → stray bits ≡ true
     → (bytes : List ℕ) (padding : List Bool) → length bytes ≤ mostBytes → bitsOf bytes ≡ frontOf columns fill first ++ (bits ++ (backOf columns fill last ++ padding))
     → (settings : DecodeSettings) → ForBadLines columns (length ends) settings
     → (c : Call) → Reading bytes settings c → Roomy (length ends) columns c
-    → (c .answer .number ≡ 0) × AllButOne first last (rowsOf c) (marksOf c))
+    → (c .answer .number ≡ complete) × AllButOne first last (rowsOf c) (marksOf c))

@@ -5,6 +5,7 @@ use mathlib.Core.Bool.{Bool, true, false}
 use mathlib.Core.List.{List, [], _++_}
 use Prim.Native.Nat.{ℕ, _≤_, _<_}
 use lib.ListN.{length}
+use Rattle.rules.specs.Answers.{complete, mostPixels}
 use Rattle.rules.specs.Bits.{bitsOf}
 use Rattle.rules.specs.Pages.{mostBytes}
 use Rattle.rules.specs.Damage2D.{Arrived2D, arrivedPage2D, mayAll2D, SparedTo1D}
@@ -25,7 +26,7 @@ pub record ForBadLines2D (columns rows : ℕ) (settings : DecodeSettings) : Type
 -- a page of lines as they arrive, the first under a white row, whatever follows it; and a call of `decode` on it
 pub record Arrival2D (columns fill : ℕ) (lines : List Arrived2D) (bytes : List ℕ) (settings : DecodeSettings) (c : Call) : Type 0 where
   pub wide : 0 < columns
-  pub narrow : columns < 4294967295
+  pub narrow : columns < mostPixels
   pub three : 3 ≤ fill
   pub some-lines : 0 < length lines
   pub allowed : mayAll2D columns lines ≡ true
@@ -40,4 +41,4 @@ pub record Arrival2D (columns fill : ℕ) (lines : List Arrived2D) (bytes : List
 abbrev pub BadLinesCostRowsTo1D : Type 0
 BadLinesCostRowsTo1D =
     (columns fill : ℕ) (lines : List Arrived2D) (bytes : List ℕ) (settings : DecodeSettings) (c : Call) → Arrival2D columns fill lines bytes settings c
-    → (c .answer .number ≡ 0) × (c .answer .rows ≡ length lines) × SparedTo1D false lines (rowsOf c) (marksOf c)
+    → (c .answer .number ≡ complete) × (c .answer .rows ≡ length lines) × SparedTo1D false lines (rowsOf c) (marksOf c)

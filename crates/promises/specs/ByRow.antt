@@ -5,6 +5,7 @@ use mathlib.Core.Logic.{_⊎_, _↔_}
 use mathlib.Core.List.{List, [], _∷_, map}
 use Prim.Native.Nat.{ℕ, _+_, _*_, _≤_, _<_}
 use lib.ListN.{length, take}
+use Rattle.rules.specs.Answers.{complete, noEntry, noRowEnd, badWidth, tooLong, badRows, moreToCome, mostPixels}
 use Rattle.rules.specs.Pages.{mostBytes}
 use Rattle.rules.specs.ByRow.{rowStart, FitIn}
 use Rattle.rules.specs.Rising.{Rising}
@@ -63,7 +64,7 @@ module _ (bytes : List ℕ) (settings : DecodeSettings) where
   -- "arrays handed back as left", and the state too: calls that each gave a row, and then one more
   unfoldable pub Follows : RowState → List ℕ → List ℕ → List RowCall → RowCall → Type 0
   Follows st xs ys [] last = Handed st xs ys last × RowReading bytes settings last
-  Follows st xs ys (c ∷ cs) last = Handed st xs ys c × RowReading bytes settings c × (numberOf c ≡ 15) × Follows (c .step .state) (c .first′) (c .second′) cs last
+  Follows st xs ys (c ∷ cs) last = Handed st xs ys c × RowReading bytes settings c × (numberOf c ≡ moreToCome) × Follows (c .step .state) (c .first′) (c .second′) cs last
 
   -- the calls of a page, from the state that `row_start` gives
   pub record Page (first second : List ℕ) (given : List RowCall) (last : RowCall) : Type 0 where
@@ -79,10 +80,10 @@ module _ (bytes : List ℕ) (settings : DecodeSettings) where
 abbrev pub FormsAgree : Type 0
 FormsAgree =
     (bytes : List ℕ) (settings : DecodeSettings) (page : Call) → Reading bytes settings page
-    → (page .answer .number ≡ 4 → ⊥)
-    → (page .answer .number ≡ 5 → ⊥)
+    → (page .answer .number ≡ noEntry → ⊥)
+    → (page .answer .number ≡ noRowEnd → ⊥)
     → (first second : List ℕ) → FitIn (length first) (length second) (rowsOf page) (looseOf page)
-    → (given : List RowCall) (last : RowCall) → Page bytes settings first second given last → (numberOf last ≡ 15 → ⊥)
+    → (given : List RowCall) (last : RowCall) → Page bytes settings first second given last → (numberOf last ≡ moreToCome → ⊥)
     → (map changesOf given ≡ rowsOf page) × (map markOf given ≡ marksOf page) × (last .step .answer ≡ page .answer) × (changesOf last ≡ looseOf page)
 
 -- So n rows take n + 1 calls. And there is an end: calls that give a row are at most 8 × bytes + 1.
@@ -113,11 +114,11 @@ pub record Sound (bytes : List ℕ) (settings : DecodeSettings) (c : RowCall) : 
 
 -- Before the page's end each refusal is given exactly when 01 says so, and leaves everything as found with zero counts; any other answer is of the list, and 5 is none.
 pub record RowListed (bytes : List ℕ) (settings : DecodeSettings) (c : RowCall) : Type 0 where
-  pub listed : Ending (numberOf c) ⊎ ((numberOf c ≡ 6) ⊎ ((numberOf c ≡ 7) ⊎ ((numberOf c ≡ 8) ⊎ (numberOf c ≡ 15))))
-  pub six : (numberOf c ≡ 6) ↔ (settings .columns ≡ 4294967295)
-  pub seven : (numberOf c ≡ 7) ↔ ((settings .columns ≡ 4294967295 → ⊥) × (mostBytes < length bytes))
-  pub eight : (numberOf c ≡ 8) ↔ ((settings .columns ≡ 4294967295 → ⊥) × (length bytes ≤ mostBytes) × (Sound bytes settings c → ⊥))
-  pub no-columns : settings .columns ≡ 0 → length bytes ≤ mostBytes → Sound bytes settings c → (numberOf c ≡ 0) × (c .step .answer .rows ≡ 0) × (c .step .answer .bytes ≡ 0)
+  pub listed : Ending (numberOf c) ⊎ ((numberOf c ≡ badWidth) ⊎ ((numberOf c ≡ tooLong) ⊎ ((numberOf c ≡ badRows) ⊎ (numberOf c ≡ moreToCome))))
+  pub six : (numberOf c ≡ badWidth) ↔ (settings .columns ≡ mostPixels)
+  pub seven : (numberOf c ≡ tooLong) ↔ ((settings .columns ≡ mostPixels → ⊥) × (mostBytes < length bytes))
+  pub eight : (numberOf c ≡ badRows) ↔ ((settings .columns ≡ mostPixels → ⊥) × (length bytes ≤ mostBytes) × (Sound bytes settings c → ⊥))
+  pub no-columns : settings .columns ≡ 0 → length bytes ≤ mostBytes → Sound bytes settings c → (numberOf c ≡ complete) × (c .step .answer .rows ≡ 0) × (c .step .answer .bytes ≡ 0)
 
 pub record Left (c : RowCall) : Type 0 where
   pub state : c .step .state ≡ c .state
@@ -128,12 +129,12 @@ pub record Left (c : RowCall) : Type 0 where
 abbrev pub RowRefusals : Type 0
 RowRefusals =
     (bytes : List ℕ) (settings : DecodeSettings) (c : RowCall) → RowReading bytes settings c → c .state .end ≡ Unended
-    → RowListed bytes settings c × (6 ≤ numberOf c → numberOf c ≤ 8 → Left c)
+    → RowListed bytes settings c × (badWidth ≤ numberOf c → numberOf c ≤ badRows → Left c)
 
 -- "the state that is handed back" is never refused with 8, however many rows were given before.
 abbrev pub OwnStates : Type 0
 OwnStates =
-    (bytes : List ℕ) (settings : DecodeSettings) (first second : List ℕ) (given : List RowCall) (last : RowCall) → Page bytes settings first second given last → numberOf last ≡ 8 → ⊥
+    (bytes : List ℕ) (settings : DecodeSettings) (first second : List ℕ) (given : List RowCall) (last : RowCall) → Page bytes settings first second given last → numberOf last ≡ badRows → ⊥
 
 -- ---- 4, 5 and the marks
 
@@ -141,22 +142,22 @@ OwnStates =
 abbrev pub FourMeans : Type 0
 FourMeans =
     (bytes : List ℕ) (settings : DecodeSettings) (first second : List ℕ) (given : List RowCall) (last : RowCall) → Page bytes settings first second given last
-    → 0 < settings .columns → settings .columns < 4294967295 → length bytes ≤ mostBytes
+    → 0 < settings .columns → settings .columns < mostPixels → length bytes ≤ mostBytes
     → (wide : RowCall) → RowReading bytes settings wide → wide .state ≡ last .state → referenceOf wide ≡ referenceOf last → 8 * length bytes + 1 ≤ length (rowArrayOf wide)
-    → (numberOf last ≡ 4) ↔ (length (rowArrayOf last) < wide .step .count)
+    → (numberOf last ≡ noEntry) ↔ (length (rowArrayOf last) < wide .step .count)
 
 -- So an array with an entry for each bit of the data holds any row.
 abbrev pub LineArrayEnough : Type 0
 LineArrayEnough =
     (bytes : List ℕ) (settings : DecodeSettings) (first second : List ℕ) (given : List RowCall) (last : RowCall) → Page bytes settings first second given last
-    → 0 < settings .columns → settings .columns < 4294967295 → length bytes ≤ mostBytes
-    → 8 * length bytes ≤ length (rowArrayOf last) → numberOf last ≡ 4 → ⊥
+    → 0 < settings .columns → settings .columns < mostPixels → length bytes ≤ mostBytes
+    → 8 * length bytes ≤ length (rowArrayOf last) → numberOf last ≡ noEntry → ⊥
 
 -- "answer 5 can't occur", from any state. The mark is one of A5's list, and 0 where no row is given.
 abbrev pub NeverFive : Type 0
 NeverFive =
     (bytes : List ℕ) (settings : DecodeSettings) (c : RowCall) → RowReading bytes settings c
-    → (numberOf c ≡ 5 → ⊥) × (markOf c ≤ 2) × ((numberOf c ≡ 15 → ⊥) → markOf c ≡ 0)
+    → (numberOf c ≡ noRowEnd → ⊥) × (markOf c ≤ 2) × ((numberOf c ≡ moreToCome → ⊥) → markOf c ≡ 0)
 
 -- ---- Pinned
 

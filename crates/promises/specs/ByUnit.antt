@@ -6,6 +6,7 @@ use mathlib.Core.Logic.{_⊎_, _↔_}
 use mathlib.Core.List.{List, [], _∷_, map}
 use Prim.Native.Nat.{ℕ, _+_, _-_, _*_, _≤_, _<_, min}
 use lib.ListN.{length}
+use Rattle.rules.specs.Answers.{complete, badWidth, tooLong, badRows, badNumber, moreToCome, mostPixels}
 use Rattle.rules.specs.Bits.{bitsOf}
 use Rattle.rules.specs.Pages.{mostBytes, strictIfExact, placesIn}
 use Rattle.rules.specs.Units.{pageUnits, total, sameEach, callsFor}
@@ -70,10 +71,10 @@ module _ (bytes : List ℕ) (settings : DecodeSettings) where
 -- its answer and every entry of the store are those of the page form.
 abbrev pub UnitsAgree : Type 0
 UnitsAgree =
-    (bytes : List ℕ) (settings : DecodeSettings) → settings .columns ≤ 4294967295 → settings .encoding ≡ Group4
+    (bytes : List ℕ) (settings : DecodeSettings) → settings .columns ≤ mostPixels → settings .encoding ≡ Group4
     → (page : Call) → Reading bytes settings page
     → (before : List UnitCall) (last : UnitCall) → Page bytes settings (page .changes) (page .ends) (page .marks) before last
-    → (numberOf last ≡ 15 → ⊥)
+    → (numberOf last ≡ moreToCome → ⊥)
     → (last .turn .answer ≡ page .answer) × (last .changes′ ≡ page .changes′) × (last .ends′ ≡ page .ends′) × (last .marks′ ≡ page .marks′)
 
 -- "A form made for one encoding doesn't read that setting", and no answer depends on the engine.
@@ -94,7 +95,7 @@ EncodingUnread = (bytes : List ℕ) (s t : DecodeSettings) → SameButEncoding s
 -- a page that is read
 pub record Readable (bytes : List ℕ) (settings : DecodeSettings) : Type 0 where
   pub wide : 0 < settings .columns
-  pub narrow : settings .columns < 4294967295
+  pub narrow : settings .columns < mostPixels
   pub few : length bytes ≤ mostBytes
   pub encoding : settings .encoding ≡ Group4
 
@@ -114,7 +115,7 @@ abbrev pub MoreToCome : Type 0
 MoreToCome =
     (bytes : List ℕ) (settings : DecodeSettings) → Readable bytes settings
     → (changes ends marks : List ℕ) (before : List UnitCall) (last : UnitCall) → Page bytes settings changes ends marks before last
-    → (numberOf last ≡ 15) ↔ (total (numbersOf before) + last .n < unitsOf bytes settings changes ends marks)
+    → (numberOf last ≡ moreToCome) ↔ (total (numbersOf before) + last .n < unitsOf bytes settings changes ends marks)
 
 -- "A page of U units is done after U/N calls rounded up, or one call if U is 0": with one N for all calls, the last one is the first that does not answer 15 exactly where it is that one.
 abbrev pub CallsNeeded : Type 0
@@ -123,7 +124,7 @@ CallsNeeded =
     → (n : ℕ) → 0 < n
     → (changes ends marks : List ℕ) (before : List UnitCall) (last : UnitCall) → Page bytes settings changes ends marks before last
     → numbersOf before ≡ sameEach (length before) n → last .n ≡ n
-    → (numberOf last ≡ 15) ↔ (length before + 1 < callsFor (unitsOf bytes settings changes ends marks) n)
+    → (numberOf last ≡ moreToCome) ↔ (length before + 1 < callsFor (unitsOf bytes settings changes ends marks) n)
 
 -- ---- After the end, and N of 0
 
@@ -146,7 +147,7 @@ UnitFormRepeats =
 abbrev pub TenMeans : Type 0
 TenMeans =
     (bytes : List ℕ) (settings : DecodeSettings) (c : UnitCall) → UnitReading bytes settings c
-    → ((numberOf c ≡ 10) ↔ (c .n ≡ 0)) × (c .n ≡ 0 → Left c)
+    → ((numberOf c ≡ badNumber) ↔ (c .n ≡ 0)) × (c .n ≡ 0 → Left c)
 
 -- ---- Refusals
 
@@ -169,23 +170,23 @@ pub record Sound (bytes : List ℕ) (settings : DecodeSettings) (c : UnitCall) (
 
 -- Before the page's end each refusal is given exactly when 01 says so; any other answer is of the list.
 pub record UnitListed (bytes : List ℕ) (settings : DecodeSettings) (c : UnitCall) (s : Saved) : Type 0 where
-  pub listed : Ending (numberOf c) ⊎ ((numberOf c ≡ 6) ⊎ ((numberOf c ≡ 7) ⊎ ((numberOf c ≡ 8) ⊎ (numberOf c ≡ 15))))
-  pub six : (numberOf c ≡ 6) ↔ (settings .columns ≡ 4294967295)
-  pub seven : (numberOf c ≡ 7) ↔ ((settings .columns ≡ 4294967295 → ⊥) × (mostBytes < length bytes))
-  pub eight : (numberOf c ≡ 8) ↔ ((settings .columns ≡ 4294967295 → ⊥) × (length bytes ≤ mostBytes) × (Sound bytes settings c s → ⊥))
-  pub no-columns : settings .columns ≡ 0 → length bytes ≤ mostBytes → Sound bytes settings c s → (numberOf c ≡ 0) × (c .turn .answer .rows ≡ 0) × (c .turn .answer .bytes ≡ 0)
+  pub listed : Ending (numberOf c) ⊎ ((numberOf c ≡ badWidth) ⊎ ((numberOf c ≡ tooLong) ⊎ ((numberOf c ≡ badRows) ⊎ (numberOf c ≡ moreToCome))))
+  pub six : (numberOf c ≡ badWidth) ↔ (settings .columns ≡ mostPixels)
+  pub seven : (numberOf c ≡ tooLong) ↔ ((settings .columns ≡ mostPixels → ⊥) × (mostBytes < length bytes))
+  pub eight : (numberOf c ≡ badRows) ↔ ((settings .columns ≡ mostPixels → ⊥) × (length bytes ≤ mostBytes) × (Sound bytes settings c s → ⊥))
+  pub no-columns : settings .columns ≡ 0 → length bytes ≤ mostBytes → Sound bytes settings c s → (numberOf c ≡ complete) × (c .turn .answer .rows ≡ 0) × (c .turn .answer .bytes ≡ 0)
 
 -- A refusal does not end the page: it leaves everything as found, with zero counts, and takes no unit.
 abbrev pub UnitRefusals : Type 0
 UnitRefusals =
     (bytes : List ℕ) (settings : DecodeSettings) (c : UnitCall) → UnitReading bytes settings c → 0 < c .n → (s : Saved) → c .reading ≡ Open s
     → UnitListed bytes settings c s
-    × (6 ≤ numberOf c → numberOf c ≤ 8 → Left c × (c .turn .answer .rows ≡ 0) × (c .turn .answer .entries ≡ 0) × (c .turn .answer .loose ≡ 0) × (c .turn .answer .bytes ≡ 0))
+    × (badWidth ≤ numberOf c → numberOf c ≤ badRows → Left c × (c .turn .answer .rows ≡ 0) × (c .turn .answer .entries ≡ 0) × (c .turn .answer .loose ≡ 0) × (c .turn .answer .bytes ≡ 0))
 
 -- "the state that is handed back" is never refused with 8, whatever the numbers of the calls before it.
 abbrev pub OwnUnitStates : Type 0
 OwnUnitStates =
-    (bytes : List ℕ) (settings : DecodeSettings) → settings .columns ≤ 4294967295 → (changes ends marks : List ℕ) (before : List UnitCall) (last : UnitCall) → Page bytes settings changes ends marks before last → numberOf last ≡ 8 → ⊥
+    (bytes : List ℕ) (settings : DecodeSettings) → settings .columns ≤ mostPixels → (changes ends marks : List ℕ) (before : List UnitCall) (last : UnitCall) → Page bytes settings changes ends marks before last → numberOf last ≡ badRows → ⊥
 
 -- ---- Pinned
 

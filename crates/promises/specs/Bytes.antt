@@ -5,11 +5,11 @@ use mathlib.Core.Bool.{Bool, true}
 use mathlib.Core.List.{List}
 use Prim.Native.Nat.{ℕ, _-_, _*_, _≤_, _<_}
 use lib.ListN.{length}
+use Rattle.rules.specs.Answers.{complete, invalidCode, unexpectedEof, noEntry, moreToCome, mostPixels}
 use Rattle.rules.specs.Machine.{more, run}
 use Rattle.rules.specs.Bits.{bitsOf}
 use Rattle.rules.specs.Rows.{Settings, bytesTo, finished}
 use Rattle.rules.specs.Pages.{Kept, noneKept, entries, pageStep, rowOf, strictIfExact, mostBytes, ascends, placesIn}
-use Rattle.rules.specs.Answers.{moreToCome}
 use Rattle.answer.specs.declared.Answer.{Answer}
 use Rattle.settings.specs.declared.DecodeSettings.{DecodeSettings}
 use Rattle.settings.specs.Settings.{settingsOf}
@@ -31,11 +31,11 @@ pub record Consumed (S : Settings) (bs : List Bool) (store places rows bytes : �
 
 pub record PageBytes (bytes : List ℕ) (settings : DecodeSettings) (changes ends marks : List ℕ) (r : Answer) : Type 0 where
   -- 1 to 5 have none, nor have the refusals, nor 14 (A12)
-  pub none : (r .number ≡ 0 → ⊥) → r .bytes ≡ 0
+  pub none : (r .number ≡ complete → ⊥) → r .bytes ≡ 0
   -- "Columns 0, once the tests that apply are passed, gives 0, no rows, 0 bytes", and with a refusal there are none either
   pub no-columns : settings .columns ≡ 0 → r .bytes ≡ 0
   -- 0: what was consumed; an exact page is read strictly (A12)
-  pub done : r .number ≡ 0 → 0 < settings .columns → Consumed (strictIfExact (settingsOf settings)) (bitsOf bytes) (length changes) (placesIn ends marks) (r .rows) (r .bytes)
+  pub done : r .number ≡ complete → 0 < settings .columns → Consumed (strictIfExact (settingsOf settings)) (bitsOf bytes) (length changes) (placesIn ends marks) (r .rows) (r .bytes)
   -- so they are never more than the data's
   pub most : r .bytes ≤ length bytes
 
@@ -50,15 +50,15 @@ BytesOfPage =
 -- 6, 7 and 8 are passed
 pub record Passes (bytes : List ℕ) (columns : ℕ) (reference : List ℕ) : Type 0 where
   pub some : columns ≡ 0 → ⊥
-  pub narrow : columns ≡ 4294967295 → ⊥
+  pub narrow : columns ≡ mostPixels → ⊥
   pub short : length bytes ≤ mostBytes
   pub ascending : ascends columns reference ≡ true
 
 pub record LineBytes (bytes : List ℕ) (at columns : ℕ) (reference : List ℕ) (r : Answer) : Type 0 where
   -- 1 to 4: "A line read whole counts as one kept row", and one that is not counts as none
-  pub failed : 1 ≤ r .number → r .number ≤ 4 → (r .rows ≡ 0) × (r .entries ≡ 0) × (r .bytes ≡ 0)
+  pub failed : invalidCode ≤ r .number → r .number ≤ noEntry → (r .rows ≡ 0) × (r .entries ≡ 0) × (r .bytes ≡ 0)
   -- "A start past the data is 2", and has read nothing; at the end of the data a line may still be looked for
-  pub past : Passes bytes columns reference → 8 * length bytes < at → (r .number ≡ 2) × (r .loose ≡ 0)
+  pub past : Passes bytes columns reference → 8 * length bytes < at → (r .number ≡ unexpectedEof) × (r .loose ≡ 0)
 
 abbrev pub BytesOfLine : Type 0
 BytesOfLine =

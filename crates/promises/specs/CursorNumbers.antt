@@ -5,6 +5,7 @@ use mathlib.Core.Logic.{_⊎_, _↔_}
 use mathlib.Core.List.{List}
 use Prim.Native.Nat.{ℕ, _+_, _*_, _≤_, _<_, min}
 use lib.ListN.{length}
+use Rattle.rules.specs.Answers.{complete, unexpectedEof, tooLong}
 use Rattle.rules.specs.Pages.{mostBytes}
 use Rattle.bit_reader.specs.Cursor.{movedBy}
 use Rattle.bit_reader.specs.Loaded.{fedAt}
@@ -20,8 +21,8 @@ use Rattle.reader.specs.declared.cursor.Went.{Went}
 
 -- 2: `UnexpectedEof`
 abbrev pub movedNumber : Moved → ℕ
-movedNumber (Moved.To at) = 0
-movedNumber Moved.End = 2
+movedNumber (Moved.To at) = complete
+movedNumber Moved.End = unexpectedEof
 
 -- in data of `len` bytes
 abbrev pub movedBit : ℕ → Moved → ℕ
@@ -29,8 +30,8 @@ movedBit len (Moved.To at) = at
 movedBit len Moved.End = 8 * len
 
 abbrev pub fedNumber : Fed → ℕ
-fedNumber (Fed.On b) = 0
-fedNumber Fed.End = 2
+fedNumber (Fed.On b) = complete
+fedNumber Fed.End = unexpectedEof
 
 abbrev pub fedBit : List ℕ → Fed → ℕ
 fedBit bytes (Fed.On b) = b .at
@@ -40,8 +41,8 @@ fedBit bytes Fed.End = 8 * length bytes
 
 -- on to a bit, in data of so many bits: 0 or 2; 2 exactly where the data ends before that bit; and the reader stands there, or at the end where that comes first
 pub record Moves (bits to number bit : ℕ) : Type 0 where
-  pub listed : (number ≡ 0) ⊎ (number ≡ 2)
-  pub two : (number ≡ 2) ↔ (bits < to)
+  pub listed : (number ≡ complete) ⊎ (number ≡ unexpectedEof)
+  pub two : (number ≡ unexpectedEof) ↔ (bits < to)
   pub stands : bit ≡ min to bits
 
 -- consume, from a bit, n bits on in data of `len` bytes
@@ -56,4 +57,4 @@ FeedNumbers = (bytes : List ℕ) (b : Buffer) (n : ℕ) (r : Fed) → fedAt byte
 abbrev pub TakeNumbers : Type 0
 TakeNumbers =
     (len at n : ℕ) (r : Went) → r ≡ wentBy len at n
-    → (len ≤ mostBytes → Moves (8 * len) (at + n) (numberOf (r .answer)) (r .at)) × (mostBytes < len → (numberOf (r .answer) ≡ 7) × (r .at ≡ at))
+    → (len ≤ mostBytes → Moves (8 * len) (at + n) (numberOf (r .answer)) (r .at)) × (mostBytes < len → (numberOf (r .answer) ≡ tooLong) × (r .at ≡ at))

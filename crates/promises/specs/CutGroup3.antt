@@ -6,6 +6,7 @@ use mathlib.Core.List.{List}
 use mathlib.Core.Logic.{_⊎_}
 use Prim.Native.Nat.{ℕ, _≤_}
 use lib.ListN.{length, take}
+use Rattle.rules.specs.Answers.{complete, mostPixels}
 use Rattle.rules.specs.Bits.{bitsOf}
 use Rattle.rules.specs.Write.{rowsIn}
 use Rattle.rules.specs.WriteGroup3.{write1D}
@@ -25,8 +26,8 @@ pub record ForCut (columns rows : ℕ) (settings : DecodeSettings) : Type 0 wher
 -- With any fill and any room (`CutTold`). Cut behind its last byte it is the page whole.
 abbrev pub CutIsTold : Type 0
 CutIsTold =
-    (columns : ℕ) (changes ends out : List ℕ) (fill : ℕ) (w : Answer) (out′ : List ℕ) → columns ≤ 4294967295
-    → Answers (write1D true fill columns changes ends out) out w out′ → w .number ≡ 0
+    (columns : ℕ) (changes ends out : List ℕ) (fill : ℕ) (w : Answer) (out′ : List ℕ) → columns ≤ mostPixels
+    → Answers (write1D true fill columns changes ends out) out w out′ → w .number ≡ complete
     → (cut : ℕ) (settings : DecodeSettings) → ForCut columns (length ends) settings
     → (c : Call) → Reading (take cut (take (w .bytes) out′)) settings c
     → CutTold columns fill (rowsIn 0 changes ends) (bitsOf (take cut (take (w .bytes) out′))) (c .answer .number) (rowsOf c) (marksOf c)
@@ -34,8 +35,8 @@ CutIsTold =
 -- So with exact and the true number of rows nothing is left untold: 0 is answered only where all rows are there.
 abbrev pub ExactTellsEveryCut : Type 0
 ExactTellsEveryCut =
-    (columns : ℕ) (changes ends out : List ℕ) (fill : ℕ) (w : Answer) (out′ : List ℕ) → columns ≤ 4294967295
-    → Answers (write1D true fill columns changes ends out) out w out′ → w .number ≡ 0
+    (columns : ℕ) (changes ends out : List ℕ) (fill : ℕ) (w : Answer) (out′ : List ℕ) → columns ≤ mostPixels
+    → Answers (write1D true fill columns changes ends out) out w out′ → w .number ≡ complete
     → (cut : ℕ) (settings : DecodeSettings) → ForCut columns (length ends) settings → settings .exact ≡ true → settings .rows ≡ length ends
     → (c : Call) → Reading (take cut (take (w .bytes) out′)) settings c
-    → c .answer .number ≡ 0 → rowsOf c ≡ rowsIn 0 changes ends
+    → c .answer .number ≡ complete → rowsOf c ≡ rowsIn 0 changes ends

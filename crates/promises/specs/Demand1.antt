@@ -7,6 +7,7 @@ use mathlib.Core.Bool.{true}
 use mathlib.Core.List.{List}
 use Prim.Native.Nat.{ℕ, _+_, _*_, _≤_, _<_}
 use lib.ListN.{length, take, drop}
+use Rattle.rules.specs.Answers.{complete, overflow, badWidth, tooLong, noFit, tooFewRows, mostPixels}
 use Rattle.rules.specs.Pages.{mostBytes, entries}
 use Rattle.rules.specs.Write.{rowsIn}
 use Rattle.rules.specs.Rising.{Rows}
@@ -27,11 +28,11 @@ module _ (bytes : List ℕ) (settings : DecodeSettings) (changes ends marks : Li
   -- A number of the list: 0 to 5; a refusal with 6 or 7, each exactly when 01 says so; or 14. A page that ends has 14 exactly where its rows are too few, and else 0. Without columns,
   -- and without a refusal, it is 0.
   pub record Listed : Type 0 where
-    pub listed : (r .number ≤ 7) ⊎ (r .number ≡ 14)
-    pub fourteen : ((r .number ≡ 0) ⊎ (r .number ≡ 14)) → (r .number ≡ 14) ↔ TooFew
-    pub six : (r .number ≡ 6) ↔ (settings .columns ≡ 4294967295)
-    pub seven : (r .number ≡ 7) ↔ ((settings .columns ≡ 4294967295 → ⊥) × (mostBytes < length bytes))
-    pub no-columns : settings .columns ≡ 0 → length bytes ≤ mostBytes → r .number ≡ 0
+    pub listed : (r .number ≤ tooLong) ⊎ (r .number ≡ tooFewRows)
+    pub fourteen : ((r .number ≡ complete) ⊎ (r .number ≡ tooFewRows)) → (r .number ≡ tooFewRows) ↔ TooFew
+    pub six : (r .number ≡ badWidth) ↔ (settings .columns ≡ mostPixels)
+    pub seven : (r .number ≡ tooLong) ↔ ((settings .columns ≡ mostPixels → ⊥) × (mostBytes < length bytes))
+    pub no-columns : settings .columns ≡ 0 → length bytes ≤ mostBytes → r .number ≡ complete
 
   -- a refusal leaves everything as found and gives zero counts
   pub record Refused : Type 0 where
@@ -51,8 +52,8 @@ module _ (bytes : List ℕ) (settings : DecodeSettings) (changes ends marks : Li
     pub later-changes : drop (r .entries + r .loose) changes′ ≡ drop (r .entries + r .loose) changes
     pub later-ends : drop (r .rows) ends′ ≡ drop (r .rows) ends
     pub later-marks : drop (r .rows) marks′ ≡ drop (r .rows) marks
-    pub clean : r .number ≡ 0 → r .loose ≡ 0
-    pub short : r .number ≡ 14 → (r .loose ≡ 0) × (r .bytes ≡ 0)
+    pub clean : r .number ≡ complete → r .loose ≡ 0
+    pub short : r .number ≡ tooFewRows → (r .loose ≡ 0) × (r .bytes ≡ 0)
     pub no-rows : settings .columns ≡ 0 → r .rows ≡ 0
     pub few-rows : r .rows ≤ 8 * length bytes + 1
 
@@ -60,9 +61,9 @@ module _ (bytes : List ℕ) (settings : DecodeSettings) (changes ends marks : Li
 abbrev pub DecodeAnswers : Type 0
 DecodeAnswers =
     (bytes : List ℕ) (settings : DecodeSettings) (changes ends marks : List ℕ) (r : Answer) (changes′ ends′ marks′ : List ℕ)
-    → settings .columns ≤ 4294967295
+    → settings .columns ≤ mostPixels
     → Decodes bytes settings changes ends marks r changes′ ends′ marks′
-    → Listed bytes settings changes ends marks r changes′ ends′ marks′ × (6 ≤ r .number → r .number ≤ 9 → Refused bytes settings changes ends marks r changes′ ends′ marks′) × Stored bytes settings changes ends marks r changes′ ends′ marks′
+    → Listed bytes settings changes ends marks r changes′ ends′ marks′ × (badWidth ≤ r .number → r .number ≤ noFit → Refused bytes settings changes ends marks r changes′ ends′ marks′) × Stored bytes settings changes ends marks r changes′ ends′ marks′
 
 -- more room never changes an answer of which something holds: same number, counts, and the same front of the arrays
 abbrev pub Stays : (ℕ → Type 0) → Type 0
@@ -79,4 +80,4 @@ Stays Settled =
 
 -- more room never changes an answer from 0 to 3
 abbrev pub MoreRoom : Type 0
-MoreRoom = Stays (λ n. n ≤ 3)
+MoreRoom = Stays (λ n. n ≤ overflow)

@@ -5,6 +5,7 @@ use mathlib.Core.Bool.{Bool, true, false, _&&_}
 use mathlib.Core.List.{List}
 use Prim.Native.Nat.{ℕ, _+_, _*_, _≤_, _<_}
 use lib.ListN.{length}
+use Rattle.rules.specs.Answers.{complete, badWidth, tooLong, badRows, noFit, mostPixels}
 use Rattle.rules.specs.Lines.{two}
 use Rattle.rules.specs.Pages.{mostBytes, ascends}
 use Rattle.rules.specs.Write.{lineBits, pageBits, rowsIn, endsRise, allAscend, writeLine, writePage}
@@ -14,18 +15,18 @@ use Rattle.writer.specs.Outcome.{Answers}
 -- a call of a writer: whether what it is to write is good, and the bit after its last one
 module _ (columns : ℕ) (out : List ℕ) (good : Bool) (end : ℕ) (r : Answer) (out′ : List ℕ) where
   abbrev NoLine : Type 0
-  NoLine = (columns ≡ 0) ⊎ (columns ≡ 4294967295)
+  NoLine = (columns ≡ 0) ⊎ (columns ≡ mostPixels)
 
   abbrev TooLong : Type 0
   TooLong = mostBytes < length out
 
   pub record WriteListed : Type 0 where
-    pub listed : (r .number ≡ 0) ⊎ ((6 ≤ r .number) × (r .number ≤ 9))
-    pub six : (r .number ≡ 6) ↔ NoLine
-    pub seven : (r .number ≡ 7) ↔ ((NoLine → ⊥) × TooLong)
-    pub eight : (r .number ≡ 8) ↔ ((NoLine → ⊥) × (TooLong → ⊥) × (good ≡ false))
-    pub nine : (r .number ≡ 9) ↔ ((NoLine → ⊥) × (TooLong → ⊥) × (good ≡ true) × (8 * length out < end))
-    pub refused : (r .number ≡ 0 → ⊥) → (out′ ≡ out) × (r .bytes ≡ 0)
+    pub listed : (r .number ≡ complete) ⊎ ((badWidth ≤ r .number) × (r .number ≤ noFit))
+    pub six : (r .number ≡ badWidth) ↔ NoLine
+    pub seven : (r .number ≡ tooLong) ↔ ((NoLine → ⊥) × TooLong)
+    pub eight : (r .number ≡ badRows) ↔ ((NoLine → ⊥) × (TooLong → ⊥) × (good ≡ false))
+    pub nine : (r .number ≡ noFit) ↔ ((NoLine → ⊥) × (TooLong → ⊥) × (good ≡ true) × (8 * length out < end))
+    pub refused : (r .number ≡ complete → ⊥) → (out′ ≡ out) × (r .bytes ≡ 0)
     pub no-rows : (r .rows ≡ 0) × (r .entries ≡ 0) × (r .loose ≡ 0)
 
 abbrev pub WriteLineAnswers : Type 0

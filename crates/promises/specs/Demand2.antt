@@ -4,6 +4,7 @@ use mathlib.Core.Bool.{Bool}
 use mathlib.Core.List.{List, _++_}
 use Prim.Native.Nat.{ℕ, _+_, _≤_}
 use lib.ListN.{length, drop}
+use Rattle.rules.specs.Answers.{mostPixels}
 use Rattle.rules.specs.Bits.{bitsOf}
 use Rattle.rules.specs.Codes.{Colour, black, Code}
 use Rattle.rules.specs.Runs.{ok, sum, Made}
@@ -24,7 +25,7 @@ use Rattle.context.specs.declared.reference.FoundChanges.{FoundChanges}
 abbrev pub RunsAreTheStandards : Type 0
 RunsAreTheStandards =
     (colour : Colour) (bytes : List ℕ) (at : ℕ) (r : Run) → RunRead colour bytes at r
-    → ((n : ℕ) (cs : List Code) (rest : List Bool) → Made colour n cs → drop at (bitsOf bytes) ≡ codesBits cs ++ rest → n ≤ 4294967295
+    → ((n : ℕ) (cs : List Code) (rest : List Bool) → Made colour n cs → drop at (bitsOf bytes) ≡ codesBits cs ++ rest → n ≤ mostPixels
     → runOf r ≡ ok (sum (at + length (codesBits cs)) n))
     × ((end n : ℕ) → runOf r ≡ ok (sum end n) → (cs : List Code) × Made colour n cs × (drop at (bitsOf bytes) ≡ codesBits cs ++ drop end (bitsOf bytes)))
 

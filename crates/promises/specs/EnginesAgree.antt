@@ -4,6 +4,7 @@ use mathlib.Core.Bool.{Bool, true, false}
 use mathlib.Core.List.{List}
 use Prim.Native.Nat.{ℕ}
 use lib.ListN.{drop}
+use Rattle.rules.specs.Answers.{overflow}
 use Rattle.rules.specs.Bits.{bitsOf}
 use Rattle.rules.specs.Codes.{Colour}
 use Rattle.rules.specs.Plain.{lost, plain, byLookup}
@@ -44,7 +45,7 @@ RunsAgree =
 -- and of that code both engines take the same bits before they give the run's answer, 1 or 2; at 3 the code was read, and only the sum passed the limit
 abbrev pub FailingCodesAgree : Type 0
 FailingCodesAgree =
-    (colour : Colour) (bytes : List ℕ) (at : ℕ) (e : DecodeError) (place : ℕ) → RunRead colour bytes at (Bad e place) → (numberOf e ≡ 3 → ⊥)
+    (colour : Colour) (bytes : List ℕ) (at : ℕ) (e : DecodeError) (place : ℕ) → RunRead colour bytes at (Bad e place) → (numberOf e ≡ overflow → ⊥)
     → (r s : Found) → BothAt colour bytes place r s
     → (taken : ℕ) × (foundOf r ≡ lost (numberOf e) taken) × (foundOf s ≡ lost (numberOf e) taken)
 

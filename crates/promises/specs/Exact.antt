@@ -5,6 +5,7 @@ use mathlib.Core.Bool.{Bool, true, false, cond}
 use mathlib.Core.List.{List}
 use Prim.Native.Nat.{ℕ, _+_, _-_, _*_, _≤_, _<_}
 use lib.ListN.{length, take}
+use Rattle.rules.specs.Answers.{complete, invalidCode, tooFewRows, mostPixels}
 use Rattle.rules.specs.Machine.{costs}
 use Rattle.rules.specs.Bits.{bitsOf}
 use Rattle.rules.specs.Runs.{ok}
@@ -28,7 +29,7 @@ use Rattle.promises.specs.Rooms.{Call, rowsOf, marksOf, Reading}
 abbrev pub ExactOff : Type 0
 ExactOff =
     (bytes : List ℕ) (settings : DecodeSettings) (changes ends marks : List ℕ) (r : Answer) (changes′ ends′ marks′ : List ℕ) → settings .exact ≡ false
-    → 0 < settings .columns → settings .columns < 4294967295 → length bytes ≤ mostBytes
+    → 0 < settings .columns → settings .columns < mostPixels → length bytes ≤ mostBytes
     → Decodes bytes settings changes ends marks r changes′ ends′ marks′
     → Reads bytes settings changes ends marks r changes′ ends′ marks′
 
@@ -71,20 +72,20 @@ pub record SameArrays (c d : Call) : Type 0 where
 abbrev pub ExactIsStrict : Type 0
 ExactIsStrict =
     (bytes : List ℕ) (settings : DecodeSettings) (c d : Call) → Twice bytes settings c d
-    → (c .answer .number ≡ 1 → ⊥)
-    → (c .answer .number ≡ 14 → ⊥)
+    → (c .answer .number ≡ invalidCode → ⊥)
+    → (c .answer .number ≡ tooFewRows → ⊥)
     → (d .answer ≡ c .answer) × SameArrays c d
 
 -- an answer with the number 14, and so without bytes
 abbrev pub fourteen : Answer → Answer
-fourteen a = record { number = 14; mark = a .mark; rows = a .rows; entries = a .entries; loose = a .loose; bytes = 0; place = 0 }
+fourteen a = record { number = tooFewRows; mark = a .mark; rows = a .rows; entries = a .entries; loose = a .loose; bytes = 0; place = 0 }
 
 -- At 14 strict is done, with the same rows and too few of them.
 abbrev pub ShortIsStrict : Type 0
 ShortIsStrict =
     (bytes : List ℕ) (settings : DecodeSettings) (c d : Call) → Twice bytes settings c d
-    → c .answer .number ≡ 14
-    → (d .answer .number ≡ 0) × (d .answer .rows < settings .rows) × (c .answer ≡ fourteen (d .answer)) × SameArrays c d
+    → c .answer .number ≡ tooFewRows
+    → (d .answer .number ≡ complete) × (d .answer .rows < settings .rows) × (c .answer ≡ fourteen (d .answer)) × SameArrays c d
 
 -- And at 1 too the rows that exact hands over are the first that strict does, with their marks.
 abbrev pub ExactIsFront : Type 0
@@ -94,7 +95,7 @@ ExactIsFront =
 
 -- More room never changes a 14.
 abbrev pub ShortStays : Type 0
-ShortStays = Stays (λ n. n ≡ 14)
+ShortStays = Stays (λ n. n ≡ tooFewRows)
 
 -- ---- No idle codes
 
@@ -134,6 +135,6 @@ pageCodes S bs store places = costs (codesAfter S bs store) (pageStep (rowOf (S 
 abbrev pub FewCodesInAPage : Type 0
 FewCodesInAPage =
     (bytes : List ℕ) (settings : DecodeSettings) (changes ends marks : List ℕ) (r : Answer) (changes′ ends′ marks′ : List ℕ) → settings .exact ≡ true → settings .encoding ≡ Group4
-    → 0 < settings .columns → settings .columns < 4294967295 → length bytes ≤ mostBytes
+    → 0 < settings .columns → settings .columns < mostPixels → length bytes ≤ mostBytes
     → Decodes bytes settings changes ends marks r changes′ ends′ marks′
     → pageCodes (strictIfExact (settingsOf settings)) (bitsOf bytes) (length changes) (placesIn ends marks) ≤ (3 * settings .columns + 1) * (r .rows + 1)

@@ -8,6 +8,7 @@ use Prim.Native.Nat.{ℕ, _+_, _-_, _*_, _≤_, _<_}
 use lib.Dec.{eqb}
 use lib.IntN.{ℤ, pos, _-ℤ_}
 use lib.ListN.{length, getD}
+use Rattle.rules.specs.Answers.{complete, badRows, badForm, notOneTick, mendedRow}
 use Rattle.rules.specs.Rising.{Rising}
 use Rattle.heads.specs.Form.{sum, Page, pageIn, pixel, blackIn, ticked, sound, given, clean, refusal, heads}
 use Rattle.heads.specs.Numbers.{formIn, headsFrom}
@@ -91,26 +92,26 @@ pub record OneEach (a : Asked) (tens units : ℕ) : Type 0 where
 -- the heads that are answered are those that are ticked
 abbrev pub HeadsAreTicked : Type 0
 HeadsAreTicked =
-    (a : Asked) (r : HeadsAnswer) → Shaped (a .form) → Answers a r → r .number ≡ 0
+    (a : Asked) (r : HeadsAnswer) → Shaped (a .form) → Answers a r → r .number ≡ complete
     → (tens units : ℕ) × OneEach a tens units × (r .heads ≡ 10 * tens + units)
 
 -- and heads that are ticked are answered, where 8, 11 and 13 do not apply
 abbrev pub TickedAreHeads : Type 0
 TickedAreHeads =
     (a : Asked) (r : HeadsAnswer) (tens units : ℕ) → Shaped (a .form) → Answers a r → Passes a → OneEach a tens units
-    → (r .number ≡ 0) × (r .heads ≡ 10 * tens + units)
+    → (r .number ≡ complete) × (r .heads ≡ 10 * tens + units)
 
 -- one tick more, less or elsewhere is another answer, or a refusal: two calls that answer the same heads have the same ticks
 abbrev pub EveryTickTells : Type 0
 EveryTickTells =
     (a b : Asked) (r s : HeadsAnswer) → Shaped (a .form) → Shaped (b .form) → Answers a r → Answers b s
-    → r .number ≡ 0 → s .number ≡ 0 → r .heads ≡ s .heads
+    → r .number ≡ complete → s .number ≡ complete → r .heads ≡ s .heads
     → (column digit : ℕ) → column < 2 → digit < 10 → isTicked a column digit ≡ isTicked b column digit
 
 -- the quota left is the quota less the heads, exactly, also below zero, and a form says at most 99
 abbrev pub QuotaLeft : Type 0
 QuotaLeft =
-    (a : Asked) (r : HeadsAnswer) → Shaped (a .form) → Answers a r → r .number ≡ 0
+    (a : Asked) (r : HeadsAnswer) → Shaped (a .form) → Answers a r → r .number ≡ complete
     → (r .heads ≤ 99) × (r .left ≡ a .quota -ℤ pos (r .heads))
 
 -- ---- The answers
@@ -119,14 +120,14 @@ QuotaLeft =
 abbrev pub HeadsListed : Type 0
 HeadsListed =
     (a : Asked) (r : HeadsAnswer) → Answers a r
-    → (r .number ≡ 0) ⊎ ((r ≡ refusal 8) ⊎ ((r ≡ refusal 11) ⊎ ((r ≡ refusal 13) ⊎ (r ≡ refusal 12))))
+    → (r .number ≡ complete) ⊎ ((r ≡ refusal badRows) ⊎ ((r ≡ refusal badForm) ⊎ ((r ≡ refusal mendedRow) ⊎ (r ≡ refusal notOneTick))))
 
 -- each exactly where A11 says so, in the order 8, 11, 13, 12
 pub record Exactly (a : Asked) (r : HeadsAnswer) : Type 0 where
-  pub eight : (r .number ≡ 8) ↔ (isSound a ≡ false)
-  pub eleven : (r .number ≡ 11) ↔ ((isSound a ≡ true) × (isGiven a ≡ false))
-  pub thirteen : (r .number ≡ 13) ↔ ((isSound a ≡ true) × (isGiven a ≡ true) × (isClean a ≡ false))
-  pub twelve : (r .number ≡ 12) ↔ (Passes a × ((tens units : ℕ) → OneEach a tens units → ⊥))
+  pub eight : (r .number ≡ badRows) ↔ (isSound a ≡ false)
+  pub eleven : (r .number ≡ badForm) ↔ ((isSound a ≡ true) × (isGiven a ≡ false))
+  pub thirteen : (r .number ≡ mendedRow) ↔ ((isSound a ≡ true) × (isGiven a ≡ true) × (isClean a ≡ false))
+  pub twelve : (r .number ≡ notOneTick) ↔ (Passes a × ((tens units : ℕ) → OneEach a tens units → ⊥))
 
 abbrev pub HeadsRefused : Type 0
 HeadsRefused = (a : Asked) (r : HeadsAnswer) → Shaped (a .form) → Answers a r → Exactly a r
@@ -136,19 +137,19 @@ HeadsRefused = (a : Asked) (r : HeadsAnswer) → Shaped (a .form) → Answers a 
 -- under an answer 0, each row of which a box holds a pixel was read clean
 abbrev pub OnlyCleanRows : Type 0
 OnlyCleanRows =
-    (a : Asked) (r : HeadsAnswer) → Shaped (a .form) → Answers a r → r .number ≡ 0
+    (a : Asked) (r : HeadsAnswer) → Shaped (a .form) → Answers a r → r .number ≡ complete
     → (y x : ℕ) → Touched a y x → getD (a .marks) y 0 ≡ 0
 
 -- "any box touching a row that A5 marked other than clean answers 13", where 8 and 11 do not apply,
 abbrev pub MendedAnswers13 : Type 0
 MendedAnswers13 =
     (a : Asked) (r : HeadsAnswer) → Shaped (a .form) → Answers a r → isSound a ≡ true → isGiven a ≡ true
-    → (y x : ℕ) → Touched a y x → (getD (a .marks) y 0 ≡ 0 → ⊥) → r .number ≡ 13
+    → (y x : ℕ) → Touched a y x → (getD (a .marks) y 0 ≡ 0 → ⊥) → r .number ≡ mendedRow
 
 -- and only there
 abbrev pub ThirteenIsMended : Type 0
 ThirteenIsMended =
-    (a : Asked) (r : HeadsAnswer) → Shaped (a .form) → Answers a r → r .number ≡ 13
+    (a : Asked) (r : HeadsAnswer) → Shaped (a .form) → Answers a r → r .number ≡ mendedRow
     → (y x : ℕ) × Touched a y x × (getD (a .marks) y 0 ≡ 0 → ⊥)
 
 -- ---- The pixels in the boxes
@@ -191,4 +192,4 @@ abbrev pub OthersAreNone : Type 0
 OthersAreNone =
     (a : Asked) (boxes : List ℕ) (r : HeadsAnswer) → (length boxes ≡ 80 → ⊥)
     → r ≡ headsFrom (a .columns) (a .changes) (a .ends) (a .marks) boxes (a .least) (a .quota)
-    → (isSound a ≡ false → r ≡ refusal 8) × (isSound a ≡ true → r ≡ refusal 11)
+    → (isSound a ≡ false → r ≡ refusal badRows) × (isSound a ≡ true → r ≡ refusal badForm)

@@ -7,6 +7,7 @@ use mathlib.Core.List.{List, [], _∷_}
 use Prim.Native.Nat.{ℕ, _+_, _*_, _≤_, _<_}
 use lib.IntN.{ℤ, pos, _-ℤ_}
 use lib.ListN.{length, getD, take, replicate}
+use Rattle.rules.specs.Answers.{complete, badRows, mostPixels}
 use Rattle.rules.specs.Bits.{bitsOf}
 use Rattle.rules.specs.Rows.{Settings, State}
 use Rattle.rules.specs.Pages.{mostBytes, entries, strictIfExact}
@@ -41,10 +42,10 @@ askedOf settings c count form least quota = record {
 -- from any data, with any settings and into any store, whatever `decode` answered
 abbrev pub DecodedPagePasses : Type 0
 DecodedPagePasses =
-    (bytes : List ℕ) (settings : DecodeSettings) (c : Call) → settings .columns ≤ 4294967295 → Reading bytes settings c
+    (bytes : List ℕ) (settings : DecodeSettings) (c : Call) → settings .columns ≤ mostPixels → Reading bytes settings c
     → (count : ℕ) → c .answer .rows ≤ count
     → (form : List (List Box)) (least : ℕ) (quota : ℤ) (r : HeadsAnswer) → Shaped form → Answers (askedOf settings c count form least quota) r
-    → r .number ≡ 8 → ⊥
+    → r .number ≡ badRows → ⊥
 
 -- A row as its line says it. Behind the rows before it its line began, under the last of them; and from that line's first bit the page's reader and the strict reader
 -- both read this row (`Told`, with the mark 0).
@@ -67,16 +68,16 @@ pub record Counted (bytes : List ℕ) (settings : DecodeSettings) (c : Call) (as
 
 abbrev pub HeadsOfPage : Type 0
 HeadsOfPage =
-    (bytes : List ℕ) (settings : DecodeSettings) (c : Call) → settings .columns ≤ 4294967295 → Reading bytes settings c
+    (bytes : List ℕ) (settings : DecodeSettings) (c : Call) → settings .columns ≤ mostPixels → Reading bytes settings c
     → (count : ℕ) → c .answer .rows ≤ count
-    → (form : List (List Box)) (least : ℕ) (quota : ℤ) (r : HeadsAnswer) → Shaped form → Answers (askedOf settings c count form least quota) r → r .number ≡ 0
+    → (form : List (List Box)) (least : ℕ) (quota : ℤ) (r : HeadsAnswer) → Shaped form → Answers (askedOf settings c count form least quota) r → r .number ≡ complete
     → Counted bytes settings c (askedOf settings c count form least quota) r
 
 -- A form that `write_page` wrote, read as in demand 3, is answered as the written rows are, each of them clean: the same heads, the same quota left, the same refusal.
 abbrev pub WrittenFormKeepsHeads : Type 0
 WrittenFormKeepsHeads =
-    (columns : ℕ) (changes ends out : List ℕ) (w : Answer) (out′ : List ℕ) → columns ≤ 4294967295
-    → Writer.Answers (writePage columns changes ends out) out w out′ → w .number ≡ 0
+    (columns : ℕ) (changes ends out : List ℕ) (w : Answer) (out′ : List ℕ) → columns ≤ mostPixels
+    → Writer.Answers (writePage columns changes ends out) out w out′ → w .number ≡ complete
     → (bytes : List ℕ) → length bytes ≤ mostBytes → take (w .bytes) bytes ≡ take (w .bytes) out′
     → (settings : DecodeSettings) → Plainly columns settings → (settings .rows ≡ 0) ⊎ (settings .rows ≡ length ends)
     → (c : Call) → entries (rowsIn 0 changes ends) ≤ length (c .changes) → length ends ≤ length (c .ends) → length ends ≤ length (c .marks)
@@ -97,11 +98,11 @@ pub record LinesOf (rows : List (List ℕ)) (lines : List Arrived) : Type 0 wher
 -- they are those of the rows that were written, each of them clean. So a bad line changes no heads unless a box touches its row; and there a row that is not marked clean is 13.
 abbrev pub BadLinesKeepHeads : Type 0
 BadLinesKeepHeads =
-    (columns : ℕ) (changes ends out : List ℕ) (fill : ℕ) (w : Answer) (out′ : List ℕ) → Writer.Answers (write1D true fill columns changes ends out) out w out′ → w .number ≡ 0
+    (columns : ℕ) (changes ends out : List ℕ) (fill : ℕ) (w : Answer) (out′ : List ℕ) → Writer.Answers (write1D true fill columns changes ends out) out w out′ → w .number ≡ complete
     → (lines : List Arrived) → LinesOf (rowsIn 0 changes ends) lines
     → (bytes : List ℕ) (settings : DecodeSettings) (c : Call) → Arrival columns fill lines bytes settings c
     → (count : ℕ) → c .answer .rows ≤ count
-    → (form : List (List Box)) (least : ℕ) (quota : ℤ) (r s : HeadsAnswer) → Shaped form → Answers (askedOf settings c count form least quota) r → r .number ≡ 0
+    → (form : List (List Box)) (least : ℕ) (quota : ℤ) (r s : HeadsAnswer) → Shaped form → Answers (askedOf settings c count form least quota) r → r .number ≡ complete
     → Answers (record { columns = columns; changes = changes; ends = ends; marks = replicate (length ends) 0; form = form; least = least; quota = quota }) s
     → ((y x : ℕ) → Touched (askedOf settings c count form least quota) y x → (bits : List Bool) → getD lines y (own []) ≡ other bits → ⊥)
     → r ≡ s

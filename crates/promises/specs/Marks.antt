@@ -6,6 +6,7 @@ use mathlib.Core.Bool.{Bool, true, false}
 use mathlib.Core.List.{List, _++_}
 use Prim.Native.Nat.{ℕ, _≤_, _<_}
 use lib.ListN.{length, getD, take, drop}
+use Rattle.rules.specs.Answers.{complete, invalidCode, mostPixels}
 use Rattle.rules.specs.Bits.{bitsOf}
 use Rattle.rules.specs.Lines.{two}
 use Rattle.rules.specs.Rows.{State}
@@ -43,8 +44,8 @@ MarksTell =
 -- what `write_page` wrote is read back clean, strict or not
 abbrev pub WrittenPageIsClean : Type 0
 WrittenPageIsClean =
-    (columns : ℕ) (changes ends out : List ℕ) (w : Answer) (out′ : List ℕ) → columns ≤ 4294967295
-    → Answers (writePage columns changes ends out) out w out′ → w .number ≡ 0
+    (columns : ℕ) (changes ends out : List ℕ) (w : Answer) (out′ : List ℕ) → columns ≤ mostPixels
+    → Answers (writePage columns changes ends out) out w out′ → w .number ≡ complete
     → (bytes : List ℕ) → length bytes ≤ mostBytes → take (w .bytes) bytes ≡ take (w .bytes) out′
     → (settings : DecodeSettings) → Plainly columns settings → (settings .rows ≡ 0) ⊎ (settings .rows ≡ length ends)
     → (store places marks : List ℕ) (r : Answer) (store′ places′ marks′ : List ℕ) → entries (rowsIn 0 changes ends) ≤ length store → length ends ≤ length places → length ends ≤ length marks
@@ -58,7 +59,7 @@ abbrev pub ReadLineMarks : Type 0
 ReadLineMarks =
     (bytes : List ℕ) (at columns : ℕ) (strict : Bool) (reference changes : List ℕ) (r : Answer) (changes′ : List ℕ)
     → ReadOne bytes at columns strict reference changes r changes′
-    → (r .mark ≤ 1) × (r .mark ≡ 1 → r .number ≡ 0) × (strict ≡ true → r .mark ≡ 0)
+    → (r .mark ≤ 1) × (r .mark ≡ 1 → r .number ≡ complete) × (strict ≡ true → r .mark ≡ 0)
 
 -- the same line read leniently and strictly: clean, the answers and the arrays are one; cut, the strict one is 1
 abbrev pub LineMarkTells : Type 0
@@ -66,13 +67,13 @@ LineMarkTells =
     (bytes : List ℕ) (at columns : ℕ) (reference changes : List ℕ) (r s : Answer) (changes′ changes″ : List ℕ)
     → ReadOne bytes at columns false reference changes r changes′
     → ReadOne bytes at columns true reference changes s changes″
-    → r .number ≡ 0
-    → (r .mark ≡ 0 → (s ≡ r) × (changes″ ≡ changes′)) × (r .mark ≡ 1 → s .number ≡ 1)
+    → r .number ≡ complete
+    → (r .mark ≡ 0 → (s ≡ r) × (changes″ ≡ changes′)) × (r .mark ≡ 1 → s .number ≡ invalidCode)
 
 -- a written line is read back clean, strict or not, whatever stands around it
 abbrev pub WrittenLineIsClean : Type 0
 WrittenLineIsClean =
-    (columns : ℕ) (reference row : List ℕ) → 0 < columns → columns < 4294967295 → Rising columns 0 reference → Rising columns 0 row
+    (columns : ℕ) (reference row : List ℕ) → 0 < columns → columns < mostPixels → Rising columns 0 reference → Rising columns 0 row
     → (bytes : List ℕ) (at : ℕ) (rest : List Bool) → length bytes ≤ mostBytes → drop at (bitsOf bytes) ≡ lineBits columns (two reference) row ++ rest
     → (strict : Bool) (changes : List ℕ) (r : Answer) (changes′ : List ℕ) → length row ≤ length changes
     → ReadOne bytes at columns strict reference changes r changes′

@@ -6,6 +6,7 @@ use mathlib.Core.List.{List, [], _∷_, _++_}
 use Prim.Native.Nat.{ℕ, suc, _+_, _-_, _*_, _≤_, _<_}
 use lib.Dec.{eqb}
 use lib.ListN.{length, drop}
+use Rattle.rules.specs.Answers.{complete, invalidCode, unexpectedEof, overflow, mostPixels}
 use Rattle.rules.specs.Machine.{more, run}
 use Rattle.rules.specs.Bits.{bitsOf, window, firstBit}
 use Rattle.rules.specs.Codes.{Colour, Code, opposite}
@@ -37,8 +38,8 @@ use Rattle.writer.specs.Outcome.{Answers}
 
 pub record Placed (bytes : List ℕ) (r : Answer) : Type 0 where
   pub inside : r .place ≤ 8 * length bytes
-  pub none : r .number ≡ 0 → r .place ≡ 0
-  pub later : 3 < r .number → r .place ≡ 0
+  pub none : r .number ≡ complete → r .place ≡ 0
+  pub later : overflow < r .number → r .place ≡ 0
 
 abbrev pub DecodePlaces : Type 0
 DecodePlaces =
@@ -51,7 +52,7 @@ abbrev pub ReadLinePlaces : Type 0
 ReadLinePlaces =
     (bytes : List ℕ) (at columns : ℕ) (strict : Bool) (reference changes : List ℕ) (r : Answer) (changes′ : List ℕ)
     → ReadOne bytes at columns strict reference changes r changes′
-    → Placed bytes r × (r .number ≡ 2 → 8 * length bytes < at → r .place ≡ 8 * length bytes)
+    → Placed bytes r × (r .number ≡ unexpectedEof → 8 * length bytes < at → r .place ≡ 8 * length bytes)
 
 -- a writer names none
 abbrev pub WritersNameNone : Type 0
@@ -70,17 +71,17 @@ entryAt colour bs at = lookup colour (window 13 (drop at bs))
 -- the code at a bit fails behind make-up codes of some sum: no code begins there; its bits, or those up to the first that continues no code, are not all there; or it
 -- passes the limit
 pub data CodeFails (colour : Colour) (bs : List Bool) (sum place : ℕ) : ℕ → Type 0 where
-  no-code : {size : ℕ} → entryAt colour bs place ≡ invalid size → place + size ≤ length bs → CodeFails colour bs sum place 1
-  cut-code : {pixels size : ℕ} → entryAt colour bs place ≡ valid pixels size → length bs < place + size → CodeFails colour bs sum place 2
-  cut-short : {size : ℕ} → entryAt colour bs place ≡ invalid size → length bs < place + size → CodeFails colour bs sum place 2
-  passes : {pixels size : ℕ} → entryAt colour bs place ≡ valid pixels size → place + size ≤ length bs → 4294967295 < sum + pixels → CodeFails colour bs sum place 3
+  no-code : {size : ℕ} → entryAt colour bs place ≡ invalid size → place + size ≤ length bs → CodeFails colour bs sum place invalidCode
+  cut-code : {pixels size : ℕ} → entryAt colour bs place ≡ valid pixels size → length bs < place + size → CodeFails colour bs sum place unexpectedEof
+  cut-short : {size : ℕ} → entryAt colour bs place ≡ invalid size → length bs < place + size → CodeFails colour bs sum place unexpectedEof
+  passes : {pixels size : ℕ} → entryAt colour bs place ≡ valid pixels size → place + size ≤ length bs → mostPixels < sum + pixels → CodeFails colour bs sum place overflow
 
 -- from the run's first bit to the place there are make-up codes alone, which stay within the limit
 pub record RunFault (colour : Colour) (bs : List Bool) (at n place : ℕ) : Type 0 where
   pub sum : ℕ
   pub codes : List Code
   pub make-ups : MakeUps colour sum codes
-  pub within : sum ≤ 4294967295
+  pub within : sum ≤ mostPixels
   pub there : drop at bs ≡ codesBits codes ++ drop place bs
   pub place-is : place ≡ at + length (codesBits codes)
   pub fails : CodeFails colour bs sum place n
@@ -94,9 +95,9 @@ RunFaults =
 -- ---- A mode code: the bit at which it was looked for
 
 pub data ModeFault (bs : List Bool) (at : ℕ) : ℕ → Type 0 where
-  no-mode : modeByTable (drop at bs) ≡ unknown → at + 6 ≤ length bs → ModeFault bs at 1
-  cut-mode : {m : Rule.Mode} {size : ℕ} → modeByTable (drop at bs) ≡ known m size → length bs < at + size → ModeFault bs at 2
-  cut-zeros : modeByTable (drop at bs) ≡ unknown → length bs < at + 6 → ModeFault bs at 2
+  no-mode : modeByTable (drop at bs) ≡ unknown → at + 6 ≤ length bs → ModeFault bs at invalidCode
+  cut-mode : {m : Rule.Mode} {size : ℕ} → modeByTable (drop at bs) ≡ known m size → length bs < at + size → ModeFault bs at unexpectedEof
+  cut-zeros : modeByTable (drop at bs) ≡ unknown → length bs < at + 6 → ModeFault bs at unexpectedEof
 
 abbrev pub ModeFaults : Type 0
 ModeFaults =
@@ -109,7 +110,7 @@ ModeFaults =
 -- a run of a line, from the line's bit on: its own fault; or, where the line is strict, too many pixels, "at the run's first code"
 pub data PushFails (R : Rules) (bs : List Bool) (s : Line) : ℕ → ℕ → Type 0 where
   in-run : {n place : ℕ} → RunFault (s .colour) bs (s .at) n place → PushFails R bs s n place
-  too-long : {r : Sum} → readRun (s .colour) bs (s .at) ≡ ok r → R .strict ≡ true → R .width < s .position + r .total → PushFails R bs s 1 (s .at)
+  too-long : {r : Sum} → readRun (s .colour) bs (s .at) ≡ ok r → R .strict ≡ true → R .width < s .position + r .total → PushFails R bs s invalidCode (s .at)
 
 -- where a mode moves to, given b1 and b2
 pub data MovesTo (b1 b2 : ℕ) : Rule.Mode → ℕ → Type 0 where
@@ -120,7 +121,7 @@ pub data MovesTo (b1 b2 : ℕ) : Rule.Mode → ℕ → Type 0 where
 -- "a1 below 0, above 4,294,967,295, or left of the position is 3"
 pub data NoMove (b1 b2 position : ℕ) : Rule.Mode → Type 0 where
   below-0 : {k : ℕ} → b1 < k → NoMove b1 b2 position (VL k)
-  above : {m : Rule.Mode} {a1 : ℕ} → MovesTo b1 b2 m a1 → 4294967295 < a1 → NoMove b1 b2 position m
+  above : {m : Rule.Mode} {a1 : ℕ} → MovesTo b1 b2 m a1 → mostPixels < a1 → NoMove b1 b2 position m
   left-of : {m : Rule.Mode} {a1 : ℕ} → MovesTo b1 b2 m a1 → a1 < position → NoMove b1 b2 position m
 
 -- the two runs of a horizontal code, which begin at a bit, are both zero
@@ -138,18 +139,18 @@ pub data Fails (R : Rules) (bs : List Bool) (s : Line) : Kind → ℕ → ℕ �
   mode : {reference : List ℕ} {n : ℕ} → ModeFault bs (s .at) n → Fails R bs s (two reference) n (s .at)
   move : {reference : List ℕ} {m : Moded} → readMode bs (s .at) ≡ ok m
       → NoMove (b1 (R .width) reference (s .position) (s .colour)) (b2 (R .width) reference (s .position) (s .colour)) (s .position) (m .mode)
-      → Fails R bs s (two reference) 3 (s .at)
+      → Fails R bs s (two reference) overflow (s .at)
   too-many : {reference : List ℕ} {m : Moded} {a1 : ℕ} → readMode bs (s .at) ≡ ok m
       → MovesTo (b1 (R .width) reference (s .position) (s .colour)) (b2 (R .width) reference (s .position) (s .colour)) (m .mode) a1
       → R .strict ≡ true → R .width < a1
-      → Fails R bs s (two reference) 1 (s .at)
+      → Fails R bs s (two reference) invalidCode (s .at)
   idle-move : {reference : List ℕ} {m : Moded} → readMode bs (s .at) ≡ ok m → Vertical (m .mode)
       → MovesTo (b1 (R .width) reference (s .position) (s .colour)) (b2 (R .width) reference (s .position) (s .colour)) (m .mode) (s .position)
       → R .exact ≡ true → atFirst s ≡ false
-      → Fails R bs s (two reference) 1 (s .at)
+      → Fails R bs s (two reference) invalidCode (s .at)
   idle-runs : {reference : List ℕ} {after : ℕ} → readMode bs (s .at) ≡ ok (moded after horizontal)
       → ZeroRuns (s .colour) bs after → R .exact ≡ true
-      → Fails R bs s (two reference) 1 (s .at)
+      → Fails R bs s (two reference) invalidCode (s .at)
   first-run : {reference : List ℕ} {after n place : ℕ} → readMode bs (s .at) ≡ ok (moded after horizontal)
       → PushFails R bs (movedTo after s) n place
       → Fails R bs s (two reference) n place
@@ -169,7 +170,7 @@ abbrev pub ReadLineFaults : Type 0
 ReadLineFaults =
     (bytes : List ℕ) (at columns : ℕ) (strict : Bool) (reference changes : List ℕ) (r : Answer) (changes′ : List ℕ)
     → ReadOne bytes at columns strict reference changes r changes′
-    → 1 ≤ r .number → r .number ≤ 3 → at ≤ 8 * length bytes
+    → invalidCode ≤ r .number → r .number ≤ overflow → at ≤ 8 * length bytes
     → LineFault (record { width = columns; strict = strict; exact = false; room = length changes }) (two reference) (bitsOf bytes) at (r .number) (r .place)
 
 -- ---- A row of a page
@@ -192,9 +193,9 @@ pub data RowFault (S : Settings) (bs : List Bool) (room : ℕ) (st : State) : �
       → (expected ≡ true → S .strict ≡ true) → at < length bs → LineFault (rulesOf S room) (kindOf (firstBit (drop at bs)) (st .reference)) bs (suc at) n place
       → RowFault S bs room st n place
   no-tag : {at : ℕ} {expected : Bool} → S .encoding ≡ group3-2D → before S tagged bs st (eqb (st .count) 0) ≡ line-at at expected → length bs ≤ at
-      → RowFault S bs room st 2 (length bs)
+      → RowFault S bs room st unexpectedEof (length bs)
   no-eol : (S .encoding ≡ group4 → ⊥) → S .strict ≡ true → st .eols ≡ true → (EolAt bs (st .at) → ⊥)
-      → RowFault S bs room st 1 (st .at)
+      → RowFault S bs room st invalidCode (st .at)
 
 -- a page: rows are kept, and the next one fails
 pub record PageFault (S : Settings) (bs : List Bool) (store places rows n place : ℕ) : Type 0 where
@@ -207,5 +208,5 @@ abbrev pub DecodeFaults : Type 0
 DecodeFaults =
     (bytes : List ℕ) (settings : DecodeSettings) (changes ends marks : List ℕ) (r : Answer) (changes′ ends′ marks′ : List ℕ)
     → Decodes bytes settings changes ends marks r changes′ ends′ marks′
-    → 1 ≤ r .number → r .number ≤ 3
+    → invalidCode ≤ r .number → r .number ≤ overflow
     → PageFault (strictIfExact (settingsOf settings)) (bitsOf bytes) (length changes) (placesIn ends marks) (r .rows) (r .number) (r .place)

@@ -4,7 +4,7 @@ use mathlib.Core.Logic.{_⊎_}
 use mathlib.Core.Bool.{Bool}
 use mathlib.Core.List.{List}
 use Prim.Native.Nat.{ℕ, _≤_}
-use Rattle.rules.specs.Answers.{moreToCome}
+use Rattle.rules.specs.Answers.{badWidth, badNumber, mendedRow, moreToCome}
 use Rattle.rules.specs.Write.{Written}
 use Rattle.answer.specs.declared.Answer.{Answer}
 use Rattle.settings.specs.declared.DecodeSettings.{DecodeSettings}
@@ -19,7 +19,7 @@ use Rattle.promises.specs.ByUnit.{UnitCall, UnitReading}
 
 -- 6 to 9, which "leave everything as found and give zero counts", and the "later numbers" that do so too: 10, and 11 to 13, which are those of `heads`
 abbrev pub Refusal : ℕ → Type 0
-Refusal n = (6 ≤ n) × (n ≤ 13)
+Refusal n = (badWidth ≤ n) × (n ≤ mendedRow)
 
 -- neither done, nor at fault
 abbrev pub NamesNone : Answer → Type 0
@@ -42,5 +42,5 @@ pub record RefusalPlaces : Type 0 where
 -- "Later numbers give zero counts": so does the unit form's 10 (A9), as the refusals from 6 to 9 of every form do (`Refused`, `LineRefused`, `Left`, `WriteListed`).
 abbrev pub TenCountsNothing : Type 0
 TenCountsNothing =
-    (bytes : List ℕ) (settings : DecodeSettings) (c : UnitCall) → UnitReading bytes settings c → c .turn .answer .number ≡ 10
+    (bytes : List ℕ) (settings : DecodeSettings) (c : UnitCall) → UnitReading bytes settings c → c .turn .answer .number ≡ badNumber
     → (c .turn .answer .rows ≡ 0) × (c .turn .answer .entries ≡ 0) × (c .turn .answer .loose ≡ 0) × (c .turn .answer .bytes ≡ 0)

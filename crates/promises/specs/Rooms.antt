@@ -5,6 +5,7 @@ use mathlib.Core.Bool.{Bool}
 use mathlib.Core.List.{List, [], _∷_}
 use Prim.Native.Nat.{ℕ, _+_, _-_, _*_, _≤_, _<_, min}
 use lib.ListN.{length, take, drop, getD}
+use Rattle.rules.specs.Answers.{noEntry, noRowEnd}
 use Rattle.rules.specs.Pages as Page
 use Rattle.rules.specs.Pages.{changesAfter, placesIn}
 use Rattle.rules.specs.Write.{rowsIn}
@@ -68,11 +69,11 @@ Reading bytes settings c = Decodes bytes settings (c .changes) (c .ends) (c .mar
 abbrev pub FourFills : Type 0
 FourFills =
     (bytes : List ℕ) (settings : DecodeSettings) (c : Call) → Reading bytes settings c
-    → c .answer .number ≡ 4 → c .answer .entries + c .answer .loose ≡ length (c .changes)
+    → c .answer .number ≡ noEntry → c .answer .entries + c .answer .loose ≡ length (c .changes)
 
 -- and 5 only where no place for an end with its mark is.
 abbrev pub FiveFills : Type 0
-FiveFills = (bytes : List ℕ) (settings : DecodeSettings) (c : Call) → Reading bytes settings c → c .answer .number ≡ 5 → c .answer .rows ≡ places c
+FiveFills = (bytes : List ℕ) (settings : DecodeSettings) (c : Call) → Reading bytes settings c → c .answer .number ≡ noRowEnd → c .answer .rows ≡ places c
 
 -- two calls on the same, the second with arrays that are no shorter
 pub record Roomier (bytes : List ℕ) (settings : DecodeSettings) (small large : Call) : Type 0 where
@@ -86,13 +87,13 @@ pub record Roomier (bytes : List ℕ) (settings : DecodeSettings) (small large :
 abbrev pub FourGoesOn : Type 0
 FourGoesOn =
     (bytes : List ℕ) (settings : DecodeSettings) (small large : Call) → Roomier bytes settings small large → length (small .changes) < length (large .changes)
-    → small .answer .number ≡ 4 → length (small .changes) < large .answer .entries + large .answer .loose
+    → small .answer .number ≡ noEntry → length (small .changes) < large .answer .entries + large .answer .loose
 
 -- After 5 a row was complete: more places take more rows.
 abbrev pub FiveGoesOn : Type 0
 FiveGoesOn =
     (bytes : List ℕ) (settings : DecodeSettings) (small large : Call) → Roomier bytes settings small large → places small < places large
-    → small .answer .number ≡ 5 → places small < large .answer .rows
+    → small .answer .number ≡ noRowEnd → places small < large .answer .rows
 
 -- The smaller room's answer and arrays are, to the last entry, what `within` makes of what the larger one handed over: 4 at the first row whose changes do not all fit, with those
 -- that fit loose; 5 at the first row for which no place is left, with that row loose; 4 where the loose entries do not all fit; and else the same answer.
@@ -109,11 +110,11 @@ SmallerRoomIsFront = (bytes : List ℕ) (settings : DecodeSettings) (small large
 abbrev pub RoomEnough : Type 0
 RoomEnough =
     (bytes : List ℕ) (settings : DecodeSettings) (c : Call) → Reading bytes settings c
-    → (16 * length bytes ≤ length (c .changes) → c .answer .number ≡ 4 → ⊥) × (8 * length bytes + 1 ≤ places c → c .answer .number ≡ 5 → ⊥)
+    → (16 * length bytes ≤ length (c .changes) → c .answer .number ≡ noEntry → ⊥) × (8 * length bytes + 1 ≤ places c → c .answer .number ≡ noRowEnd → ⊥)
 
 -- With an entry for each bit of the data and one more 4 is never given either (A1; for any data but none that is less room).
 abbrev pub EntryForEachBit : Type 0
-EntryForEachBit = (bytes : List ℕ) (settings : DecodeSettings) (c : Call) → Reading bytes settings c → 8 * length bytes + 1 ≤ length (c .changes) → c .answer .number ≡ 4 → ⊥
+EntryForEachBit = (bytes : List ℕ) (settings : DecodeSettings) (c : Call) → Reading bytes settings c → 8 * length bytes + 1 ≤ length (c .changes) → c .answer .number ≡ noEntry → ⊥
 
 -- ---- One line
 
@@ -151,13 +152,13 @@ module _ (bytes : List ℕ) (at columns : ℕ) (strict : Bool) (reference : List
 abbrev pub LineFourFills : Type 0
 LineFourFills =
     (bytes : List ℕ) (at columns : ℕ) (strict : Bool) (reference : List ℕ) (c : LineCall) → LineReading bytes at columns strict reference c
-    → (c .answer .number ≡ 4 → c .answer .entries + c .answer .loose ≡ length (c .changes)) × (c .answer .number ≡ 5 → ⊥)
+    → (c .answer .number ≡ noEntry → c .answer .entries + c .answer .loose ≡ length (c .changes)) × (c .answer .number ≡ noRowEnd → ⊥)
 
 -- and after 4 a longer array takes more changes.
 abbrev pub LineFourGoesOn : Type 0
 LineFourGoesOn =
     (bytes : List ℕ) (at columns : ℕ) (strict : Bool) (reference : List ℕ) (small large : LineCall) → LineRoomier bytes at columns strict reference small large
-    → length (small .changes) < length (large .changes) → small .answer .number ≡ 4 → length (small .changes) < large .answer .entries + large .answer .loose
+    → length (small .changes) < length (large .changes) → small .answer .number ≡ noEntry → length (small .changes) < large .answer .entries + large .answer .loose
 
 -- The smaller array's answer, and every entry, are what `within` makes of what the larger one handed over: the line in one row, where it was read whole.
 abbrev pub SmallerLine : Type 0
@@ -175,4 +176,4 @@ SmallerLineIsFront =
 abbrev pub LineRoomEnough : Type 0
 LineRoomEnough =
     (bytes : List ℕ) (at columns : ℕ) (strict : Bool) (reference : List ℕ) (c : LineCall) → LineReading bytes at columns strict reference c
-    → min columns (8 * length bytes - at) ≤ length (c .changes) → c .answer .number ≡ 4 → ⊥
+    → min columns (8 * length bytes - at) ≤ length (c .changes) → c .answer .number ≡ noEntry → ⊥

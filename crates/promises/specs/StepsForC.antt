@@ -8,6 +8,7 @@ use mathlib.Core.List.{List, [], _∷_, map}
 use Prim.Native.Nat.{ℕ, _≤_, _<_}
 use lib.Dec.{eqb}
 use lib.ListN.{length, take, getD}
+use Rattle.rules.specs.Answers.{noEntry, noRowEnd, moreToCome, mostPixels}
 use Rattle.rules.specs.Units.{sameEach}
 use Rattle.rules.specs.ByRow.{rowStart, FitIn}
 use Rattle.rules.specs.ByUnit.{opened, savedStart}
@@ -105,8 +106,8 @@ pub record ToldAlike (c : RowCallForC) (d : RowCall) : Type 0 where
   pub state : c .state′ ≡ Row.numbersOf (d .step .state)
   pub first : c .first′ ≡ d .first′
   pub second : c .second′ ≡ d .second′
-  pub row : c .answer .number ≡ 15 → rowForC c ≡ changesOf d
-  pub loose : (c .answer .number ≡ 15 → ⊥) → looseForC c ≡ changesOf d
+  pub row : c .answer .number ≡ moreToCome → rowForC c ≡ changesOf d
+  pub loose : (c .answer .number ≡ moreToCome → ⊥) → looseForC c ≡ changesOf d
 
 abbrev pub MacrosTell : Type 0
 MacrosTell =
@@ -121,7 +122,7 @@ MacrosTell =
 unfoldable pub RowsFollow : List ℕ → Parameters → List ℕ → List ℕ → List ℕ → List RowCallForC → RowCallForC → Type 0
 RowsFollow bytes p state first second [] last = (last .state ≡ state) × (last .first ≡ first) × (last .second ≡ second) × RowReadingForC bytes p last
 RowsFollow bytes p state first second (c ∷ cs) last =
-    (c .state ≡ state) × (c .first ≡ first) × (c .second ≡ second) × RowReadingForC bytes p c × (c .answer .number ≡ 15) × RowsFollow bytes p (c .state′) (c .first′) (c .second′) cs last
+    (c .state ≡ state) × (c .first ≡ first) × (c .second ≡ second) × RowReadingForC bytes p c × (c .answer .number ≡ moreToCome) × RowsFollow bytes p (c .state′) (c .first′) (c .second′) cs last
 
 -- the page form of the same encoding: ccitt_decode_group4, which has no `end_of_line`, or ccitt_decode_group3_1d or ccitt_decode_group3_2d
 abbrev pub PageReadingForC : List ℕ → Parameters → Call → Type 0
@@ -134,10 +135,10 @@ abbrev pub FormsAgreeForC : Type 0
 FormsAgreeForC =
     (bytes : List ℕ) (p : Parameters) → p .encoding ≤ 2
     → (page : Call) → PageReadingForC bytes p page
-    → (page .answer .number ≡ 4 → ⊥)
-    → (page .answer .number ≡ 5 → ⊥)
+    → (page .answer .number ≡ noEntry → ⊥)
+    → (page .answer .number ≡ noRowEnd → ⊥)
     → (first second : List ℕ) → FitIn (length first) (length second) (rowsOf page) (looseOf page)
-    → (given : List RowCallForC) (last : RowCallForC) → RowsFollow bytes p (sameEach rowNumbers 0) first second given last → (last .answer .number ≡ 15 → ⊥)
+    → (given : List RowCallForC) (last : RowCallForC) → RowsFollow bytes p (sameEach rowNumbers 0) first second given last → (last .answer .number ≡ moreToCome → ⊥)
     → (map rowForC given ≡ rowsOf page) × (map markForC given ≡ marksOf page) × (last .answer ≡ page .answer) × (looseForC last ≡ looseOf page)
 
 -- ---- A little at a time
@@ -176,7 +177,7 @@ pub record UnitsAlike (c : UnitCallForC) (d : UnitCall) : Type 0 where
 
 abbrev pub NumbersTell : Type 0
 NumbersTell =
-    (bytes : List ℕ) (p : Parameters) → p .columns ≤ 4294967295
+    (bytes : List ℕ) (p : Parameters) → p .columns ≤ mostPixels
     → (c : UnitCallForC) → UnitReadingForC bytes p c
     → (d : UnitCall) → UnitReading bytes (group4Of p) d
     → c .state ≡ Units.numbersOf (d .reading) → Units.Wordy (d .reading)
@@ -195,8 +196,8 @@ UnitsFollow bytes p state xs es ms (c ∷ cs) last =
 -- sixteen zeros on: once a call does not answer 15, its answer and every entry of the store are those of ccitt_decode_group4.
 abbrev pub UnitsAgreeForC : Type 0
 UnitsAgreeForC =
-    (bytes : List ℕ) (p : Parameters) → p .columns ≤ 4294967295
+    (bytes : List ℕ) (p : Parameters) → p .columns ≤ mostPixels
     → (page : Call) → Reading bytes (group4Of p) page
     → (before : List UnitCallForC) (last : UnitCallForC) → UnitsFollow bytes p (sameEach unitNumbers 0) (page .changes) (page .ends) (page .marks) before last
-    → (last .answer .answer .number ≡ 15 → ⊥)
+    → (last .answer .answer .number ≡ moreToCome → ⊥)
     → (last .answer .answer ≡ page .answer) × (last .changes′ ≡ page .changes′) × (last .ends′ ≡ page .ends′) × (last .marks′ ≡ page .marks′)

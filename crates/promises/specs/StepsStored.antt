@@ -6,6 +6,7 @@ use mathlib.Core.Path.{_≡_}
 use mathlib.Core.List.{List}
 use Prim.Native.Nat.{ℕ, _+_, _≤_, _<_}
 use lib.ListN.{length, take, drop}
+use Rattle.rules.specs.Answers.{complete, noEntry, badWidth, badRows, tooFewRows, moreToCome}
 use Rattle.rules.specs.Pages.{mostBytes, entries}
 use Rattle.rules.specs.Write.{rowsIn}
 use Rattle.rules.specs.Rising.{Rising, Rows}
@@ -72,9 +73,9 @@ pub record RowOver (c : RowCall) : Type 0 where
   pub rows : c .step .answer .rows ≡ c .state .rows
   pub entries : c .step .answer .entries ≡ c .state .entries
   pub loose : c .step .answer .loose ≡ c .step .count
-  pub clean : ByRow.numberOf c ≡ 0 → c .step .count ≡ 0
-  pub short : ByRow.numberOf c ≡ 14 → (c .step .count ≡ 0) × (c .step .answer .bytes ≡ 0)
-  pub full : ByRow.numberOf c ≡ 4 → c .step .count ≡ length (rowArrayOf c)
+  pub clean : ByRow.numberOf c ≡ complete → c .step .count ≡ 0
+  pub short : ByRow.numberOf c ≡ tooFewRows → (c .step .count ≡ 0) × (c .step .answer .bytes ≡ 0)
+  pub full : ByRow.numberOf c ≡ noEntry → c .step .count ≡ length (rowArrayOf c)
 
 -- What it speaks of lies at the front of the array that the row goes to, and fits it; that array's later entries keep their value, and so does the
 -- other array.
@@ -83,14 +84,14 @@ pub record RowStores (settings : DecodeSettings) (c : RowCall) : Type 0 where
   pub fits : c .step .count ≤ length (rowArrayOf c)
   pub later : drop (c .step .count) (arrayOf (c .step .array) (c .first′) (c .second′)) ≡ drop (c .step .count) (rowArrayOf c)
   pub other : arrayOf (c .state .side) (c .first′) (c .second′) ≡ referenceOf c
-  pub given : ByRow.numberOf c ≡ 15 → RowGiven settings c
-  pub over : (ByRow.numberOf c ≡ 15 → ⊥) → RowOver c
+  pub given : ByRow.numberOf c ≡ moreToCome → RowGiven settings c
+  pub over : (ByRow.numberOf c ≡ moreToCome → ⊥) → RowOver c
 
 -- a call that is not refused, before the page's end
 abbrev pub RowStored : Type 0
 RowStored =
     (bytes : List ℕ) (settings : DecodeSettings) (c : RowCall) → RowReading bytes settings c
-    → c .state .end ≡ Unended → 0 < settings .columns → (6 ≤ ByRow.numberOf c → ByRow.numberOf c ≤ 8 → ⊥) → RowStores settings c
+    → c .state .end ≡ Unended → 0 < settings .columns → (badWidth ≤ ByRow.numberOf c → ByRow.numberOf c ≤ badRows → ⊥) → RowStores settings c
 
 -- After 4 as many of the row's changes as the array holds are left, its first ones: a longer array takes more of them. "More room never changes an
 -- answer from 0 to 3", nor any other.
@@ -98,8 +99,8 @@ abbrev pub RowFourLeaves : Type 0
 RowFourLeaves =
     (bytes : List ℕ) (settings : DecodeSettings) (c wide : RowCall) → RowReading bytes settings c → RowReading bytes settings wide
     → c .state .end ≡ Unended → wide .state ≡ c .state → referenceOf wide ≡ referenceOf c → length (rowArrayOf c) < length (rowArrayOf wide)
-    → (ByRow.numberOf c ≡ 4 → (length (rowArrayOf c) < wide .step .count) × (changesOf c ≡ take (length (rowArrayOf c)) (changesOf wide)))
-    × ((ByRow.numberOf c ≡ 4 → ⊥) → (wide .step ≡ c .step) × (changesOf wide ≡ changesOf c))
+    → (ByRow.numberOf c ≡ noEntry → (length (rowArrayOf c) < wide .step .count) × (changesOf c ≡ take (length (rowArrayOf c)) (changesOf wide)))
+    × ((ByRow.numberOf c ≡ noEntry → ⊥) → (wide .step ≡ c .step) × (changesOf wide ≡ changesOf c))
 
 -- ---- The unit form
 
@@ -133,12 +134,12 @@ pub record UnitStores (settings : DecodeSettings) (c : UnitCall) (s : Saved) : T
   pub later-changes : drop (c .turn .answer .entries + c .turn .answer .loose) (c .changes′) ≡ drop (c .turn .answer .entries + c .turn .answer .loose) (c .changes)
   pub later-ends : drop (c .turn .answer .rows) (c .ends′) ≡ drop (c .turn .answer .rows) (c .ends)
   pub later-marks : drop (c .turn .answer .rows) (c .marks′) ≡ drop (c .turn .answer .rows) (c .marks)
-  pub more : ByUnit.numberOf c ≡ 15 → UnitMore c
-  pub clean : ByUnit.numberOf c ≡ 0 → c .turn .answer .loose ≡ 0
-  pub short : ByUnit.numberOf c ≡ 14 → (c .turn .answer .loose ≡ 0) × (c .turn .answer .bytes ≡ 0)
+  pub more : ByUnit.numberOf c ≡ moreToCome → UnitMore c
+  pub clean : ByUnit.numberOf c ≡ complete → c .turn .answer .loose ≡ 0
+  pub short : ByUnit.numberOf c ≡ tooFewRows → (c .turn .answer .loose ≡ 0) × (c .turn .answer .bytes ≡ 0)
 
 -- a call that is not refused, before the page's end
 abbrev pub UnitStored : Type 0
 UnitStored =
     (bytes : List ℕ) (settings : DecodeSettings) (c : UnitCall) → UnitReading bytes settings c → 0 < c .n → (s : Saved) → c .reading ≡ Open s
-    → 0 < settings .columns → (6 ≤ ByUnit.numberOf c → ByUnit.numberOf c ≤ 8 → ⊥) → UnitStores settings c s
+    → 0 < settings .columns → (badWidth ≤ ByUnit.numberOf c → ByUnit.numberOf c ≤ badRows → ⊥) → UnitStores settings c s

@@ -5,6 +5,7 @@ use mathlib.Core.Path.{_≡_}
 use mathlib.Core.List.{List}
 use Prim.Native.Nat.{ℕ, _+_, _≤_}
 use lib.ListN.{drop}
+use Rattle.rules.specs.Answers.{moreToCome, mostPixels}
 use Rattle.settings.specs.declared.DecodeSettings.{DecodeSettings}
 use Rattle.settings.specs.declared.EncodingMode.the-variants.{Group4}
 use Rattle.promises.specs.Rooms.{Call, Reading, Front}
@@ -33,7 +34,7 @@ pub record SoFar (page : Call) (c : UnitCall) : Type 0 where
 -- "Any choice of N at each call, on the same data and with the store handed back as left", up to a call that answers 15
 abbrev pub UnitsSoFar : Type 0
 UnitsSoFar =
-    (bytes : List ℕ) (settings : DecodeSettings) → settings .columns ≤ 4294967295 → settings .encoding ≡ Group4
+    (bytes : List ℕ) (settings : DecodeSettings) → settings .columns ≤ mostPixels → settings .encoding ≡ Group4
     → (page : Call) → Reading bytes settings page
     → (before : List UnitCall) (last : UnitCall) → Page bytes settings (page .changes) (page .ends) (page .marks) before last
-    → numberOf last ≡ 15 → SoFar page last
+    → numberOf last ≡ moreToCome → SoFar page last

@@ -5,6 +5,7 @@ use mathlib.Core.Bool.{Bool, true, false, _&&_}
 use mathlib.Core.List.{List, [], _∷_, _++_}
 use Prim.Native.Nat.{ℕ, _+_, _*_, _≤_, _<_}
 use lib.ListN.{length, getD, take, replicate}
+use Rattle.rules.specs.Answers.{complete, badWidth, tooLong, badRows, noFit, badNumber, mostPixels}
 use Rattle.rules.specs.Lines.{one}
 use Rattle.rules.specs.Pages.{mostBytes, entries}
 use Rattle.rules.specs.Write.{lineBits, eolBits, rowsIn, endsRise, allAscend}
@@ -20,7 +21,7 @@ use Rattle.ccitt.specs.Decode.{Decodes}
 -- a call of a Group 3 writer: whether the caller's number is allowed, the rows, and how many bits their page has
 module _ (Allowed : Type 0) (columns : ℕ) (changes ends out : List ℕ) (size : ℕ) (r : Answer) (out′ : List ℕ) where
   abbrev pub NoLine : Type 0
-  NoLine = (columns ≡ 0) ⊎ (columns ≡ 4294967295)
+  NoLine = (columns ≡ 0) ⊎ (columns ≡ mostPixels)
 
   abbrev pub TooLong : Type 0
   TooLong = mostBytes < length out
@@ -30,13 +31,13 @@ module _ (Allowed : Type 0) (columns : ℕ) (changes ends out : List ℕ) (size 
   BadRows = (length ends ≡ 0) ⊎ ((endsRise (length changes) 0 ends && allAscend columns (rowsIn 0 changes ends)) ≡ false)
 
   pub record Write3Listed : Type 0 where
-    pub listed : (r .number ≡ 0) ⊎ ((6 ≤ r .number) × (r .number ≤ 10))
-    pub six : (r .number ≡ 6) ↔ NoLine
-    pub seven : (r .number ≡ 7) ↔ ((NoLine → ⊥) × TooLong)
-    pub ten : (r .number ≡ 10) ↔ ((NoLine → ⊥) × (TooLong → ⊥) × (Allowed → ⊥))
-    pub eight : (r .number ≡ 8) ↔ ((NoLine → ⊥) × (TooLong → ⊥) × Allowed × BadRows)
-    pub nine : (r .number ≡ 9) ↔ ((NoLine → ⊥) × (TooLong → ⊥) × Allowed × (BadRows → ⊥) × (8 * length out < size))
-    pub refused : (r .number ≡ 0 → ⊥) → (out′ ≡ out) × (r .bytes ≡ 0)
+    pub listed : (r .number ≡ complete) ⊎ ((badWidth ≤ r .number) × (r .number ≤ badNumber))
+    pub six : (r .number ≡ badWidth) ↔ NoLine
+    pub seven : (r .number ≡ tooLong) ↔ ((NoLine → ⊥) × TooLong)
+    pub ten : (r .number ≡ badNumber) ↔ ((NoLine → ⊥) × (TooLong → ⊥) × (Allowed → ⊥))
+    pub eight : (r .number ≡ badRows) ↔ ((NoLine → ⊥) × (TooLong → ⊥) × Allowed × BadRows)
+    pub nine : (r .number ≡ noFit) ↔ ((NoLine → ⊥) × (TooLong → ⊥) × Allowed × (BadRows → ⊥) × (8 * length out < size))
+    pub refused : (r .number ≡ complete → ⊥) → (out′ ≡ out) × (r .bytes ≡ 0)
     pub no-rows : (r .rows ≡ 0) × (r .entries ≡ 0) × (r .loose ≡ 0)
 
 -- A3: fill "0 to 64; more answers 10, tested after 7", with EOLs and without
@@ -77,21 +78,21 @@ abbrev pub GivesBack : List ℕ → List ℕ → Answer → DecodeSettings → L
 GivesBack changes ends w settings bytes =
     (store places marks : List ℕ) (r : Answer) (store′ places′ marks′ : List ℕ) → entries (rowsIn 0 changes ends) ≤ length store → length ends ≤ length places → length ends ≤ length marks
     → Decodes bytes settings store places marks r store′ places′ marks′
-    → (r .number ≡ 0) × (r .bytes ≡ w .bytes) × (rowsIn 0 store′ (take (r .rows) places′) ≡ rowsIn 0 changes ends) × ((n : ℕ) → n < r .rows → getD marks′ n 0 ≡ 0)
+    → (r .number ≡ complete) × (r .bytes ≡ w .bytes) × (rowsIn 0 store′ (take (r .rows) places′) ≡ rowsIn 0 changes ends) × ((n : ℕ) → n < r .rows → getD marks′ n 0 ≡ 0)
 
 -- what `write_group3_1d` wrote, `decode` reads, "nothing following"
 abbrev pub Written1DReadsBack : Type 0
 Written1DReadsBack =
-    (columns : ℕ) (changes ends out : List ℕ) (eols : Bool) (fill : ℕ) (w : Answer) (out′ : List ℕ) → columns ≤ 4294967295
-    → Answers (write1D eols fill columns changes ends out) out w out′ → w .number ≡ 0
+    (columns : ℕ) (changes ends out : List ℕ) (eols : Bool) (fill : ℕ) (w : Answer) (out′ : List ℕ) → columns ≤ mostPixels
+    → Answers (write1D eols fill columns changes ends out) out w out′ → w .number ≡ complete
     → (settings : DecodeSettings) → For1D columns eols (length ends) settings
     → GivesBack changes ends w settings (take (w .bytes) out′)
 
 -- beyond 02: and so it does with any number of zero bytes behind it
 abbrev pub Written1DBeforeZeros : Type 0
 Written1DBeforeZeros =
-    (columns : ℕ) (changes ends out : List ℕ) (eols : Bool) (fill : ℕ) (w : Answer) (out′ : List ℕ) → columns ≤ 4294967295
-    → Answers (write1D eols fill columns changes ends out) out w out′ → w .number ≡ 0
+    (columns : ℕ) (changes ends out : List ℕ) (eols : Bool) (fill : ℕ) (w : Answer) (out′ : List ℕ) → columns ≤ mostPixels
+    → Answers (write1D eols fill columns changes ends out) out w out′ → w .number ≡ complete
     → (settings : DecodeSettings) → For1D columns eols (length ends) settings
     → (zeros : ℕ) → w .bytes + zeros ≤ mostBytes
     → GivesBack changes ends w settings (take (w .bytes) out′ ++ replicate zeros 0)
@@ -99,16 +100,16 @@ Written1DBeforeZeros =
 -- what `write_group3_2d` wrote, `decode` reads, "nothing following"
 abbrev pub Written2DReadsBack : Type 0
 Written2DReadsBack =
-    (columns : ℕ) (changes ends out : List ℕ) (k : ℕ) (w : Answer) (out′ : List ℕ) → columns ≤ 4294967295
-    → Answers (write2D k columns changes ends out) out w out′ → w .number ≡ 0
+    (columns : ℕ) (changes ends out : List ℕ) (k : ℕ) (w : Answer) (out′ : List ℕ) → columns ≤ mostPixels
+    → Answers (write2D k columns changes ends out) out w out′ → w .number ≡ complete
     → (settings : DecodeSettings) → For2D columns (length ends) settings
     → GivesBack changes ends w settings (take (w .bytes) out′)
 
 -- beyond 02: and so it does with any number of zero bytes behind it
 abbrev pub Written2DBeforeZeros : Type 0
 Written2DBeforeZeros =
-    (columns : ℕ) (changes ends out : List ℕ) (k : ℕ) (w : Answer) (out′ : List ℕ) → columns ≤ 4294967295
-    → Answers (write2D k columns changes ends out) out w out′ → w .number ≡ 0
+    (columns : ℕ) (changes ends out : List ℕ) (k : ℕ) (w : Answer) (out′ : List ℕ) → columns ≤ mostPixels
+    → Answers (write2D k columns changes ends out) out w out′ → w .number ≡ complete
     → (settings : DecodeSettings) → For2D columns (length ends) settings
     → (zeros : ℕ) → w .bytes + zeros ≤ mostBytes
     → GivesBack changes ends w settings (take (w .bytes) out′ ++ replicate zeros 0)
