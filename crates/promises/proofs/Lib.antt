@@ -1,5 +1,6 @@
 pub mod Demand1
 pub mod Demand1Line
+pub mod WriteTests
 pub mod Demand1Write
 pub mod Rooms
 pub mod Demand2

@@ -8,7 +8,7 @@ use native.Mathlib.Omega.{arith}
 use lib.Dec.{leb, ltb}
 use lib.ListN.{length, getD, take, replicate, getD-replicate}
 use borrow.Author.Tests.{leb-true, leb-false, le-leb, ltb-true, ltb-false}
-use Rattle.rules.specs.Answers.{complete, badWidth, tooLong, badRows, noFit, badNumber, mostPixels}
+use Rattle.rules.specs.Answers.{complete, mostPixels}
 use Rattle.rules.specs.Lines.{one}
 use Rattle.rules.specs.Pages as Page
 use Rattle.rules.specs.Pages.{mostBytes, entries, decode, placesIn}
@@ -25,8 +25,8 @@ use Rattle.settings.specs.Settings.{encodingOf, settingsOf}
 use Rattle.writer.specs.Outcome.{Answers}
 use Rattle.promises.specs.WriteGroup3.{Write3Listed, Write1DAnswers, Write2DAnswers, For1D, For2D, GivesBack, Written1DReadsBack, Written1DBeforeZeros, Written2DReadsBack, Written2DBeforeZeros, tagged1D, KOneIsAll1D}
 use Rattle.promises.proofs.Demand1.{in-store}
-use Rattle.promises.proofs.Demand1Write.{none, some}
 use Rattle.promises.proofs.Marks.{mark-at}
+use Rattle.promises.proofs.WriteTests.{none, some, Said, is-six, is-seven, is-ten, is-eight, is-nine, is-done, tested}
 
 -- ---- The answers
 
@@ -50,118 +50,23 @@ module _ (layout : Layout) (fine : Bool) (Allowed : Type 0) (granted : fine ≡ 
   abbrev size : ℕ
   size = length (page3Bits columns layout (rowsIn 0 changes ends))
 
-  abbrev Nothing : Type 0
-  Nothing = (columns ≡ 0) ⊎ (columns ≡ mostPixels)
-
-  abbrev Long : Type 0
-  Long = mostBytes < length out
-
   abbrev Bad : Type 0
   Bad = (length ends ≡ 0) ⊎ ((endsRise (length changes) 0 ends && allAscend columns (rowsIn 0 changes ends)) ≡ false)
 
-  -- what is written, by the tests
-  data Said : Written → Type 0 where
-    is-six : Nothing → Said (unwritten badWidth out)
-    is-seven : (Nothing → ⊥) → Long → Said (unwritten tooLong out)
-    is-ten : (Nothing → ⊥) → (Long → ⊥) → (Allowed → ⊥) → Said (unwritten badNumber out)
-    is-eight : (Nothing → ⊥) → (Long → ⊥) → Allowed → Bad → Said (unwritten badRows out)
-    is-nine : (Nothing → ⊥) → (Long → ⊥) → Allowed → (Bad → ⊥) → 8 * length out < size → Said (unwritten noFit out)
-    is-done : (Nothing → ⊥) → (Long → ⊥) → Allowed → (Bad → ⊥) → size ≤ 8 * length out → (w : Written) → w .number ≡ complete → Said w
-
-  said : Said (writeGroup3 layout fine columns changes ends out)
+  said : Said Allowed (Bad → ⊥) Bad (λ g b. g b) columns out size (writeGroup3 layout fine columns changes ends out)
   said =
-      write3-cases layout fine columns changes ends out Said
-      (λ i. is-six (none columns out true 0 i))
-      (λ i h. is-seven (some columns out true 0 i) h)
-      (λ i h f. is-ten (some columns out true 0 i) (λ l. omega arith) (denied f))
-      (λ i h f g. is-eight (some columns out true 0 i) (λ l. omega arith) (granted f) (rows-bad (length ends) _ g))
-      (λ i h f g l. is-nine (some columns out true 0 i) (λ l. omega arith) (granted f) (rows-good (length ends) _ g) (omega arith))
-      (λ i h f g l. is-done (some columns out true 0 i) (λ l. omega arith) (granted f) (rows-good (length ends) _ g) (omega arith) _ refl)
-
-  -- what holds of everything that is written
-  record Fine (w : Written) : Type 0 where
-    listed : (w .number ≡ complete) ⊎ ((badWidth ≤ w .number) × (w .number ≤ badNumber))
-    six : (w .number ≡ badWidth) ↔ Nothing
-    seven : (w .number ≡ tooLong) ↔ ((Nothing → ⊥) × Long)
-    ten : (w .number ≡ badNumber) ↔ ((Nothing → ⊥) × (Long → ⊥) × (Allowed → ⊥))
-    eight : (w .number ≡ badRows) ↔ ((Nothing → ⊥) × (Long → ⊥) × Allowed × Bad)
-    nine : (w .number ≡ noFit) ↔ ((Nothing → ⊥) × (Long → ⊥) × Allowed × (Bad → ⊥) × (8 * length out < size))
-    nowhere : (w .number ≡ complete → ⊥) → w .end ≡ 0
-
-  each : {w : Written} → Said w → Fine w
-  each (is-six n) = record {
-    listed = inr (omega arith);
-    six = ((λ q. n), λ q. refl);
-    seven = ((λ q. absurd (omega arith)), λ q. absurd (q .0 n));
-    ten = ((λ q. absurd (omega arith)), λ q. absurd (q .0 n));
-    eight = ((λ q. absurd (omega arith)), λ q. absurd (q .0 n));
-    nine = ((λ q. absurd (omega arith)), λ q. absurd (q .0 n));
-    nowhere = λ q. refl;
-  }
-  each (is-seven n l) = record {
-    listed = inr (omega arith);
-    six = ((λ q. absurd (omega arith)), λ q. absurd (n q));
-    seven = ((λ q. (n, l)), λ q. refl);
-    ten = ((λ q. absurd (omega arith)), λ q. absurd (q .1 l));
-    eight = ((λ q. absurd (omega arith)), λ q. absurd (q .1 l));
-    nine = ((λ q. absurd (omega arith)), λ q. absurd (q .1 l));
-    nowhere = λ q. refl;
-  }
-  each (is-ten n l a) = record {
-    listed = inr (omega arith);
-    six = ((λ q. absurd (omega arith)), λ q. absurd (n q));
-    seven = ((λ q. absurd (omega arith)), λ q. absurd (l (q .1)));
-    ten = ((λ q. (n, l, a)), λ q. refl);
-    eight = ((λ q. absurd (omega arith)), λ q. absurd (a (q .2)));
-    nine = ((λ q. absurd (omega arith)), λ q. absurd (a (q .2)));
-    nowhere = λ q. refl;
-  }
-  each (is-eight n l a b) = record {
-    listed = inr (omega arith);
-    six = ((λ q. absurd (omega arith)), λ q. absurd (n q));
-    seven = ((λ q. absurd (omega arith)), λ q. absurd (l (q .1)));
-    ten = ((λ q. absurd (omega arith)), λ q. absurd (q .2 a));
-    eight = ((λ q. (n, l, a, b)), λ q. refl);
-    nine = ((λ q. absurd (omega arith)), λ q. absurd (q .3 b));
-    nowhere = λ q. refl;
-  }
-  each (is-nine n l a b f) = record {
-    listed = inr (omega arith);
-    six = ((λ q. absurd (omega arith)), λ q. absurd (n q));
-    seven = ((λ q. absurd (omega arith)), λ q. absurd (l (q .1)));
-    ten = ((λ q. absurd (omega arith)), λ q. absurd (q .2 a));
-    eight = ((λ q. absurd (omega arith)), λ q. absurd (b (q .3)));
-    nine = ((λ q. (n, l, a, b, f)), λ q. refl);
-    nowhere = λ q. refl;
-  }
-  each (is-done n l a b f w z) = record {
-    listed = inl z;
-    six = ((λ q. absurd (omega (arith, z, q))), λ q. absurd (n q));
-    seven = ((λ q. absurd (omega (arith, z, q))), λ q. absurd (l (q .1)));
-    ten = ((λ q. absurd (omega (arith, z, q))), λ q. absurd (q .2 a));
-    eight = ((λ q. absurd (omega (arith, z, q))), λ q. absurd (b (q .3)));
-    nine = ((λ q. absurd (omega (arith, z, q))), λ q. absurd (omega (arith, f, q .4)));
-    nowhere = λ q. absurd (q z);
-  }
-
-  answered : {w : Written} → Fine w → (r : Answer) (out′ : List ℕ) → Answers w out r out′ → Write3Listed Allowed columns changes ends out size r out′
-  unfolding entries
-  answered {w} f r out′ g = record {
-    listed = subst (λ (n : ℕ). (n ≡ 0) ⊎ ((6 ≤ n) × (n ≤ 10))) (sym number) (f .listed);
-    six = ((λ q. f .six .0 (sym number ∙ q)), λ q. number ∙ f .six .1 q);
-    seven = ((λ q. f .seven .0 (sym number ∙ q)), λ q. number ∙ f .seven .1 q);
-    ten = ((λ q. f .ten .0 (sym number ∙ q)), λ q. number ∙ f .ten .1 q);
-    eight = ((λ q. f .eight .0 (sym number ∙ q)), λ q. number ∙ f .eight .1 q);
-    nine = ((λ q. f .nine .0 (sym number ∙ q)), λ q. number ∙ f .nine .1 q);
-    refused = λ q. (g .kept (λ e. q (number ∙ e)), ap (λ (x : Answer). x .bytes) (g .answer) ∙ f .nowhere (λ e. q (number ∙ e)));
-    no-rows = (ap (λ (x : Answer). x .rows) (g .answer), ap (λ (x : Answer). x .entries) (g .answer), ap (λ (x : Answer). x .loose) (g .answer));
-  }
-    where
-      number : r .number ≡ w .number
-      number = ap (λ (x : Answer). x .number) (g .answer)
+      write3-cases layout fine columns changes ends out (Said Allowed (Bad → ⊥) Bad (λ g b. g b) columns out size)
+      (λ i. is-six (none columns i))
+      (λ i h. is-seven (some columns i) h)
+      (λ i h f. is-ten (some columns i) (λ l. omega arith) (denied f))
+      (λ i h f g. is-eight (some columns i) (λ l. omega arith) (granted f) (rows-bad (length ends) _ g))
+      (λ i h f g l. is-nine (some columns i) (λ l. omega arith) (granted f) (rows-good (length ends) _ g) (omega arith))
+      (λ i h f g l. is-done (some columns i) (λ l. omega arith) (granted f) (rows-good (length ends) _ g) (omega arith) _ refl)
 
   pub write3-answers : (r : Answer) (out′ : List ℕ) → Answers (writeGroup3 layout fine columns changes ends out) out r out′ → Write3Listed Allowed columns changes ends out size r out′
-  write3-answers = answered (each said)
+  write3-answers r out′ g =
+      let t = tested Allowed (Bad → ⊥) Bad (λ g b. g b) columns out size said r out′ g in
+      record { listed = t .listed; six = t .six; seven = t .seven; ten = t .ten; eight = t .eight; nine = t .nine; refused = t .refused; no-rows = t .no-rows }
 
 pub write-1d-answers : Write1DAnswers
 unfolding write1D
