@@ -278,6 +278,29 @@ module _ (bytes : List ℕ) (settings : DecodeSettings) (asked : Asked bytes set
           larger : {n : ℕ} → entries [] + length (t .changes) ≤ n → length (t .changes) ≤ n
           larger h = omega (arith, h)
 
+      -- in a run: the line and what is written are as they were
+      in-run : (h : Half) (from total next seen′ : ℕ) → next ≤ 8 * length bytes → Passed (rightOfA0 (l .position)) seen′ reference
+          → ComesTo (more (going K (inRun (halfOf h) (L from) (sum next total)))) (More k (InRun h l from total next) seen′) xs es ms
+      unfolding joined endsFrom
+      in-run h from total next seen′ inside p = record {
+        told = record {
+          is = refl;
+          rows-are = none .rows-are;
+          entries-are = none .entries-are;
+          kept = kept;
+          stand = record { inside = inside; width-is = line .width-is; holds = line .holds; rising = line .rising; passed = p };
+          settled = tt;
+        };
+        leaves = record {
+          changes = as-left bytes settings asked xs es ms k kept l at seen line;
+          ends = from-none (k .rows) es (placed-ends bytes settings asked xs es ms k kept);
+          marks = from-none (k .rows) ms (placed-marks bytes settings asked xs es ms k kept);
+          changes-long = refl;
+          ends-long = refl;
+          marks-long = refl;
+        };
+      }
+
       -- ---- A mode code
 
       module _ (short : l .position < l .width) where
@@ -312,25 +335,8 @@ module _ (bytes : List ℕ) (settings : DecodeSettings) (asked : Asked bytes set
         -- horizontal mode has its runs to come
         pub runs-come : (next : ℕ) → RunsAt bytes at next → (seen′ : ℕ) → Passed (rightOfA0 (l .position)) seen′ reference
             → ComesTo (unit S bs (length xs) places (going K (inLine (L at)))) (More k (InRun (First at) l next 0 next) seen′) xs es ms
-        unfolding unit joined endsFrom
-        runs-come next e seen′ p = rw e (record {
-          told = record {
-            is = refl;
-            rows-are = none .rows-are;
-            entries-are = none .entries-are;
-            kept = kept;
-            stand = record { inside = (let m = subst (ModeAt bs at) e (mode-at bs at) in omega (arith, m .fits, length-bitsOf bytes)); width-is = line .width-is; holds = line .holds; rising = line .rising; passed = p };
-            settled = tt;
-          };
-          leaves = record {
-            changes = as-left bytes settings asked xs es ms k kept l at seen line;
-            ends = from-none (k .rows) es (placed-ends bytes settings asked xs es ms k kept);
-            marks = from-none (k .rows) ms (placed-marks bytes settings asked xs es ms k kept);
-            changes-long = refl;
-            ends-long = refl;
-            marks-long = refl;
-          };
-        })
+        unfolding unit
+        runs-come next e seen′ p = rw e (in-run (First at) next 0 next seen′ (let m = subst (ModeAt bs at) e (mode-at bs at) in omega (arith, m .fits, length-bitsOf bytes)) p)
 
       -- ---- A code of a run whose first bit was `from`
 
@@ -365,27 +371,10 @@ module _ (bytes : List ℕ) (settings : DecodeSettings) (asked : Asked bytes set
             cases (Second m b) = ended
 
         pub run-goes : (total′ next : ℕ) → more (sum next total′) ≡ stepHere → ComesTo unitHere (More k (InRun h l from total′ next) seen) xs es ms
-        unfolding unit joined endsFrom
+        unfolding unit
         run-goes total′ next e =
             subst (λ (o : Rule.Out Sum (Res Sum)). ComesTo (runUnit S bs (length xs) places K (halfOf h) (L from) o) (More k (InRun h l from total′ next) seen) xs es ms) e
-            (record {
-              told = record {
-                is = refl;
-                rows-are = none .rows-are;
-                entries-are = none .entries-are;
-                kept = kept;
-                stand = record { inside = (let i : next ≤ length bs = subst Steady (sym e) steady in omega (arith, i, length-bitsOf bytes)); width-is = line .width-is; holds = line .holds; rising = line .rising; passed = line .passed };
-                settled = tt;
-              };
-              leaves = record {
-                changes = as-left bytes settings asked xs es ms k kept l at seen line;
-                ends = from-none (k .rows) es (placed-ends bytes settings asked xs es ms k kept);
-                marks = from-none (k .rows) ms (placed-marks bytes settings asked xs es ms k kept);
-                changes-long = refl;
-                ends-long = refl;
-                marks-long = refl;
-              };
-            })
+            (in-run h from total′ next seen (let i : next ≤ length bs = subst Steady (sym e) steady in omega (arith, i, length-bitsOf bytes)) (line .passed))
 
         -- what a whole run makes of the line
         module _ (total′ next : ℕ) (e : done (ok (sum next total′)) ≡ stepHere) (step : Step) (zs : List ℕ) (c : RunEnded row l total′ from next (rulesIn settings) step zs)
