@@ -1,4 +1,5 @@
-// The insides of the twenty boxes (examples/README.md): for each digit its tens box and its units box.
+// The insides of the twenty boxes (examples/README.md): for each digit its tens box and its units box. They stand in test_sheets too:
+// a library that both use would have a public function of which nothing is to be promised.
 use heads::Box;
 
 fn boxes_of(top: u32, bottom: u32) -> [Box; 2] {

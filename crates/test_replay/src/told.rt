@@ -101,7 +101,7 @@ fn entry(n: u64) {
     io::print_decimal(STDOUT_FILENO, n);
 }
 
-// The first `n` changes of an array, and the first `n` row ends.
+// The first `n` changes of an array, and the first `n` row ends. There are no generic functions, so each kind of element has its loop.
 fn entries(array: &[u32], n: u32) {
     io::write_all(STDOUT_FILENO, b":");
     let end = within(n, array.len());
