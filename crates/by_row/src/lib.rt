@@ -13,7 +13,8 @@ ghost use Rattle.rules.specs.ByRow.{ended, rowStart};
 ghost use Rattle.tables.specs.Pairs.{pairTable};
 ghost use Rattle.settings.specs.Between.{RowFrom, Rowed};
 ghost use Rattle.settings.specs.Ends.{Allowed};
-ghost use Rattle.by_row.specs.ByRow.{otherSide, endOf, Ending, rowStateOf, toldFor, saidFor, refusedFor, noneFor, soundFor, Grows, givenFor, Ends, NextFrom, Next, Tested, ReadsRow};
+ghost use Rattle.by_row.specs.ByRow.{otherSide, endOf, Ending, rowStateOf, toldFor, saidFor, refusedFor, noneFor};
+ghost use Rattle.by_row.specs.ByRow.{soundFor, Grows, givenFor, Ends, NextFrom, Next, Tested, ReadsRow};
 
 // One of the two line arrays.
 pub enum Side {

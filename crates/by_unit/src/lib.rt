@@ -15,7 +15,8 @@ ghost use mathlib.Core.Path.{_≡_};
 ghost use Rattle.rules.specs.InSteps.{says};
 ghost use Rattle.rules.specs.ByUnit.{opened, savedStart};
 ghost use Rattle.by_unit.specs.Standing.{answerOf};
-ghost use Rattle.by_unit.specs.Reading.{readingOf, asReadFor, endFrom, answerFor, stillFor, endedFor, unlessFew, turnFor, TurnsOn, ReadsUnits};
+ghost use Rattle.by_unit.specs.Reading.{readingOf, asReadFor, endFrom, answerFor, stillFor};
+ghost use Rattle.by_unit.specs.Reading.{endedFor, unlessFew, turnFor, TurnsOn, ReadsUnits};
 
 // What comes next: an EOL or a line; a mode code; a code of a horizontal code's first run, or of its second.
 pub enum Phase {

@@ -13,7 +13,8 @@ ghost use lib.ListN.{length};
 ghost use Rattle.rules.specs.Pages.{mostBytes};
 ghost use Rattle.rules.specs.ByUnit.{endOf};
 ghost use Rattle.context.specs.State.{flagOf, flagNumber};
-ghost use Rattle.by_unit.specs.Reading.{bitsFor, countsFor, InPlace, rowsFor, soundFor, keptBy, standBy, lineBy, looseFor, savedLineFor, savedBetweenFor, savedFor};
+ghost use Rattle.by_unit.specs.Reading.{bitsFor, countsFor, InPlace, rowsFor, soundFor, keptBy, standBy};
+ghost use Rattle.by_unit.specs.Reading.{lineBy, looseFor, savedLineFor, savedBetweenFor, savedFor};
 
 // ---- The tests
 

@@ -5,7 +5,8 @@ use by_row::Side;
 ghost use mathlib.Core.Path.{_≡_};
 ghost use Prim.Native.Nat.{_≤_};
 ghost use lib.ListN.{length};
-ghost use Rattle.exports.specs.RowState.{sideNumber, flagNumber, endedNumbers, endNumbers, endFrom, numbersOf, Same, EndTold, StateTold};
+ghost use Rattle.exports.specs.RowState.{sideNumber, flagNumber, endedNumbers, endNumbers};
+ghost use Rattle.exports.specs.RowState.{endFrom, numbersOf, Same, EndTold, StateTold};
 
 // The end that numbers are, or that no end has them.
 enum EndIn {

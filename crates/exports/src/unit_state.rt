@@ -13,7 +13,8 @@ ghost use lib.Dec.{eqb, leb};
 ghost use lib.ListN.{length, getD};
 ghost use Rattle.exports.specs.RowState as Row;
 ghost use Rattle.exports.specs.RowState.{flagNumber};
-ghost use Rattle.exports.specs.UnitState.{phaseNumber, endNumbers, endFrom, openNumbers, endedNumbers, numbersOf, EndTold, ReadingTold};
+ghost use Rattle.exports.specs.UnitState.{phaseNumber, endNumbers, endFrom, openNumbers};
+ghost use Rattle.exports.specs.UnitState.{endedNumbers, numbersOf, EndTold, ReadingTold};
 
 // What 32 bits hold.
 const MOST_WORD: u64 = answer::MOST_PIXELS as u64;

@@ -21,7 +21,8 @@ ghost use Rattle.tables.specs.Tables.{colourOf};
 ghost use Rattle.context.specs.declared.reference.Reference.the-variants.{Lent};
 ghost use Rattle.context.specs.Outcome.{Reads};
 ghost use Rattle.context.specs.Reference.{Finds};
-ghost use Rattle.context.specs.Coding.{Coloured, afterPush, unmovedFor, unlessIdleFor, TwoRuns, Coding, Coded, referenceIn, Seeks, Lines, Lined};
+ghost use Rattle.context.specs.Coding.{Coloured, afterPush, unmovedFor, unlessIdleFor, TwoRuns};
+ghost use Rattle.context.specs.Coding.{Coding, Coded, referenceIn, Seeks, Lines, Lined};
 
 // What a push makes of the code that began at `at` and ends at `next`; vertical mode turns the colour, pass mode keeps it.
 pub(crate) fn after_push(push: Push, at: usize, next: usize, turns: bool) -> Step

@@ -8,7 +8,8 @@ ghost use lib.ListN.{length};
 ghost use Rattle.rules.specs.Bits.{bitsOf};
 ghost use Rattle.rules.specs.Pages.{mostBytes};
 ghost use Rattle.tables.specs.Pairs.{pairTable};
-ghost use Rattle.swift_loops.specs.Pairs.{haltLine, startAt, paceOf, entryPair, Paired, Leaping, Leapt, Putting, Puts, Stepping, PacedTo, Pacing, Ran, Beginning, Begins, Fit, Pairing};
+ghost use Rattle.swift_loops.specs.Pairs.{haltLine, startAt, paceOf, entryPair, Paired, Leaping, Leapt, Putting};
+ghost use Rattle.swift_loops.specs.Pairs.{Puts, Stepping, PacedTo, Pacing, Ran, Beginning, Begins, Fit, Pairing};
 
 // Where a line stands before a black run, which begins with a change: the next bit, the position, the changes it has, an even
 // count, and the next bits, 13 of them at least.

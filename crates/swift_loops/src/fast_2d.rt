@@ -12,7 +12,8 @@ ghost use Rattle.rules.specs.Bits.{bitsOf};
 ghost use Rattle.rules.specs.Modes.{pass, horizontal, VR};
 ghost use Rattle.tables.specs.Tables.{Lookups};
 ghost use Rattle.context.specs.Places.{Onward, Reached, Turning, Back};
-ghost use Rattle.swift_loops.specs.Swift.{Noted, keptIn, Walked, sideMode, TookMode, TookBits, WalkedBits, TookAhead, Asks, Sided, Turned, Walks, Roomy};
+ghost use Rattle.swift_loops.specs.Swift.{Noted, keptIn, Walked, sideMode, TookMode, TookBits, WalkedBits};
+ghost use Rattle.swift_loops.specs.Swift.{TookAhead, Asks, Sided, Turned, Walks, Roomy};
 
 // Where a line stands between two codes: the next bit, the position, the changes it has, and b1's place on the reference. Its colour is the
 // place's parity.

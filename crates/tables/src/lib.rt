@@ -4,7 +4,8 @@
 ghost use mathlib.Core.Path.{_≡_};
 ghost use Prim.Native.Nat.{_-_, _≤_, _<_};
 ghost use Rattle.rules.specs.Bits.{bitsFor};
-ghost use Rattle.rules.specs.Codes.{white, black, whiteTerminating, whiteMakeup, blackTerminating, blackMakeup, commonMakeup, terminatingOf, makeupOf, codeAt};
+ghost use Rattle.rules.specs.Codes.{white, black, whiteTerminating, whiteMakeup, blackTerminating};
+ghost use Rattle.rules.specs.Codes.{blackMakeup, commonMakeup, terminatingOf, makeupOf, codeAt};
 ghost use Rattle.rules.specs.Lookup.{lookup, entryNumber, lookupTable};
 ghost use Rattle.tables.specs.Pairs.{pairTable};
 ghost use Rattle.tables.specs.Tables.{colourOf, rows, codeOf, SameBits, Lookups, Terminating, Makeup};
