@@ -5,7 +5,7 @@ ghost use Rattle.heads.specs.Form.{pageIn, refusal, headsOn};
 ghost use Rattle.heads.specs.Steps.{Sound};
 
 mod boxes;
-mod count;
+pub mod count;
 pub mod numbers;
 mod reading;
 mod store;

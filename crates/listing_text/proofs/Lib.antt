@@ -10,3 +10,4 @@ pub mod Lengths
 pub mod Whole
 pub mod Stored
 pub mod Wall
+pub mod Lining

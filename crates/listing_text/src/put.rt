@@ -5,7 +5,7 @@ ghost use Prim.Native.Nat.{_<_};
 ghost use Rattle.listing_text.specs.Text.{tab, digit, decimal};
 ghost use Rattle.listing_text.specs.Writing.{Room, Puts};
 
-pub(crate) fn put_byte(out: &mut [u8], at: usize, b: u8) -> usize
+pub fn put_byte(out: &mut [u8], at: usize, b: u8) -> usize
     requires { ⌜ Room (now out) at (b ∷ []) ⌝ }
     ensures { λ r. ⌜ Puts (now (out .entry)) at (b ∷ []) r (now (out .exit)) ⌝ }
 {
@@ -33,7 +33,7 @@ fn glyph(d: u64) -> u8
     48 + d as u8
 }
 
-pub(crate) fn put_number(out: &mut [u8], at: usize, n: u64) -> usize
+pub fn put_number(out: &mut [u8], at: usize, n: u64) -> usize
     requires { ⌜ Room (now out) at (decimal n) ⌝ }
     ensures { λ r. ⌜ Puts (now (out .entry)) at (decimal n) r (now (out .exit)) ⌝ }
 {
