@@ -1,0 +1,87 @@
+-- Sheets: lines of text with what they are made of, by computing. Assumes nothing.
+use mathlib.Core.Path.{_≡_, refl}
+use mathlib.Core.List.{List}
+use Prim.Native.Nat.{ℕ}
+use lib.IntN.{pos}
+use Rattle.listing_text.specs.Text.{ascii, digits, decimal}
+use Rattle.ledger.specs.Books as B
+use Rattle.ledger.specs.Phrases as P
+use Rattle.ledger.specs.Said as S
+use Rattle.ledger.specs.Said.{pageLine, totalLine}
+use Rattle.ledger.specs.declared.Verdict.{Verdict}
+use Rattle.ledger.specs.declared.Ledger.{Ledger}
+
+-- ---- Pages
+
+books : Ledger
+books = record { quota = pos 30; heads = 0; pages = 0; looked = 0 }
+
+party : Verdict
+party = record { number = 0; heads = 40; which = 0; line = 0; rows = 10; bytes = 5; place = 0; row = 0; count = 0; least = 0; most = 0 }
+
+over : pageLine (ascii "a.g4") party (B.booked books party) ≡ ascii "a.g4\t0\t40\t-10\tover by 10\n"
+unfolding ascii digits decimal S.fill S.shown S.pageLine P.words P.reasonAt P.plainAt B.booked books party
+over = refl
+
+total : totalLine (B.booked books party) ≡ ascii "total\t0\t40\t-10\t1 page, 1 counted, 0 to be looked at; over by 10\n"
+unfolding ascii digits decimal S.fill S.totalLine P.words B.booked books party
+total = refl
+
+-- a name can end no field and no line
+odd-name : pageLine (ascii "a\tb\nc") party books ≡ ascii "a?b?c\t0\t40\t30\tcounted\n"
+unfolding ascii digits decimal S.fill S.shown S.pageLine P.words P.reasonAt P.plainAt books party
+odd-name = refl
+
+-- ---- Reasons: a verdict's number, box, line, place, row, count and its bounds
+
+looked : ℕ → ℕ → ℕ → ℕ → ℕ → ℕ → ℕ → ℕ → Verdict
+looked number which line place row count least most =
+    record { number = number; heads = 0; which = which; line = line; rows = 10; bytes = 5; place = place; row = row; count = count; least = least; most = most }
+
+said : Verdict → List ℕ
+said v = pageLine (ascii "b") v books
+
+stopped : said (looked 2 0 0 4799 216 0 0 0) ≡ ascii "b\t2\t-\t30\t2: the data ends inside a code, at byte 599, bit 7, row 216\n"
+unfolding said looked ascii digits decimal S.fill S.shown S.pageLine P.words P.reasonAt P.plainAt books
+stopped = refl
+
+two-ticks : said (looked 12 1 0 0 0 2 1 1) ≡ ascii "b\t12\t-\t30\t12: the units column has 2 ticks\n"
+unfolding said looked ascii digits decimal S.fill S.shown S.pageLine P.words P.reasonAt P.plainAt books
+two-ticks = refl
+
+recovered : said (looked 13 9 0 0 188 2 0 0) ≡ ascii "b\t13\t-\t30\t13: the box of units 4 touches row 188, which was recovered\n"
+unfolding said looked ascii digits decimal S.fill S.shown S.pageLine P.words P.reasonAt P.plainAt books
+recovered = refl
+
+rows-slid : said (looked 18 0 0 0 0 369 400 400) ≡ ascii "b\t18\t-\t30\t18: the page has 369 rows, and the form's page has 400\n"
+unfolding said looked ascii digits decimal S.fill S.shown S.pageLine P.words P.reasonAt P.plainAt books
+rows-slid = refl
+
+rows-range : said (looked 18 0 0 0 0 369 377 500) ≡ ascii "b\t18\t-\t30\t18: the page has 369 rows, and the form's page has 377 to 500\n"
+unfolding said looked ascii digits decimal S.fill S.shown S.pageLine P.words P.reasonAt P.plainAt books
+rows-range = refl
+
+doubted : said (looked 22 0 0 0 0 54 6 60) ≡ ascii "b\t22\t-\t30\t22: the box of tens 0 has 54 black pixels: in doubt from 6 on, ticked from 60 on\n"
+unfolding said looked ascii digits decimal S.fill S.shown S.pageLine P.words P.reasonAt P.plainAt books
+doubted = refl
+
+bad-line : said (looked 32 0 7 0 0 0 0 0) ≡ ascii "b\t32\t-\t30\t32: the form's line 7 is none of a form\n"
+unfolding said looked ascii digits decimal S.fill S.shown S.pageLine P.words P.reasonAt P.plainAt books
+bad-line = refl
+
+doubt-above : said (looked 34 0 0 0 0 0 0 0) ≡ ascii "b\t34\t-\t30\t34: the form's doubt is above its tick\n"
+unfolding said looked ascii digits decimal S.fill S.shown S.pageLine P.words P.reasonAt P.plainAt books
+doubt-above = refl
+
+no-box : said (looked 36 7 0 0 0 0 0 0) ≡ ascii "b\t36\t-\t30\t36: the form has no box of units 3\n"
+unfolding said looked ascii digits decimal S.fill S.shown S.pageLine P.words P.reasonAt P.plainAt P.missingAt books
+no-box = refl
+
+too-long : said (looked 46 0 0 0 0 0 0 0) ≡ ascii "b\t46\t-\t30\t46: the file is longer than the tool holds\n"
+unfolding said looked ascii digits decimal S.fill S.shown S.pageLine P.words P.reasonAt P.plainAt books
+too-long = refl
+
+-- a number that no verdict on a page has
+no-verdict : said (looked 47 0 0 0 0 0 0 0) ≡ ascii "b\t47\t-\t30\t47: no answer that a page has\n"
+unfolding said looked ascii digits decimal S.fill S.shown S.pageLine P.words P.reasonAt P.plainAt books
+no-verdict = refl

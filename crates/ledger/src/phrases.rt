@@ -1,0 +1,186 @@
+// The words of the lines: a phrase for each thing that is said, all of them one text, a line for each.
+use crate::Verdict;
+ghost use mathlib.Core.Path.{_≡_};
+ghost use Prim.Native.Nat.{_≤_};
+ghost use Rattle.ledger.specs.Phrases as Phrases;
+ghost use Rattle.ledger.specs.Phrases.{words, lined, plainAt, missingAt, isOfOneNumber, isOfNoLine, reasonAt};
+
+// How many phrases stand before those of the numbers from 1 on; by how much more the numbers pass those from 32 on; and the one for a
+// number that no verdict on a page has.
+const BEFORE_REASONS: usize = 7;
+
+const FORM_REASONS: usize = 2;
+
+const NO_ANSWER: usize = 16;
+
+// Where the phrases of some numbers begin.
+const TICKS: usize = 45;
+
+const MENDED: usize = 49;
+
+const ROWS: usize = 53;
+
+const UNCLEAN: usize = 54;
+
+const DOUBT: usize = 56;
+
+const DOUBT_ABOVE: usize = 58;
+
+const MISSING: usize = 59;
+
+pub(crate) fn phrases() -> [u8; 2543]
+    ensures { λ r. ⌜ r ≡ lined words ⌝ }
+{
+    *b"\tA\tH\tN\tcounted\n\
+        \tA\tH\t-N\tover by N\n\
+        \tA\t-\tN\tA: \n\
+        \tA\t-\t-N\tA: \n\
+        total\tK\tI\tN\tP pages, G counted, K to be looked at\n\
+        total\tK\tI\t-N\tP pages, G counted, K to be looked at; over by N\n\
+        total\tK\tI\tN\t1 page, G counted, K to be looked at\n\
+        total\tK\tI\t-N\t1 page, G counted, K to be looked at; over by N\n\
+        a code that stands in no table, or a row that does not fit, at byte B, bit E, row O\n\
+        the data ends inside a code, at byte B, bit E, row O\n\
+        a run or a move that is out of range, at byte B, bit E, row O\n\
+        more changes of colour than the tool holds\n\
+        more rows than the tool holds\n\
+        no page has 4294967295 columns\n\
+        more than 4294967296 bytes\n\
+        the rows are out of order\n\
+        no answer that a page has\n\
+        no answer that a page has\n\
+        the form's boxes are out of order\n\
+        (said by its lines below)\n\
+        (said by its lines below)\n\
+        fewer rows than were asked for\n\
+        no answer that a page has\n\
+        the page is read C columns wide, and the form's page is L wide\n\
+        bytes behind the page: C; a second page?\n\
+        the page has C rows, and the form's page has L to M\n\
+        (said by its lines below)\n\
+        the place of the form's line F has C black pixels, and must have L or more\n\
+        the place of the form's line F has C black pixels, and may have M at most\n\
+        (said by its lines below)\n\
+        the form's line F is none of a form\n\
+        the form's line F says what a line above it says\n\
+        the form's line F has numbers out of order\n\
+        the form's line F is one place too many\n\
+        (said by its lines below)\n\
+        the form's line F lies outside its page\n\
+        the form's line F overlaps another box\n\
+        no room for the form's boxes\n\
+        a form has at most 65536 bytes\n\
+        the form has L to M rows and no black or white place: it serves exact reading alone\n\
+        there is no such file\n\
+        the file cannot be read\n\
+        a folder, and no file\n\
+        the file is empty\n\
+        the file is longer than the tool holds\n\
+        the tens column has no tick\n\
+        the tens column has C ticks\n\
+        the units column has no tick\n\
+        the units column has C ticks\n\
+        the box of tens D touches row O, which was cut to the width\n\
+        the box of tens D touches row O, which was recovered\n\
+        the box of units D touches row O, which was cut to the width\n\
+        the box of units D touches row O, which was recovered\n\
+        the page has C rows, and the form's page has L\n\
+        row O was cut to the width, and the form rests on it\n\
+        row O was recovered, and the form rests on it\n\
+        the box of tens D has C black pixels: in doubt from L on, ticked from M on\n\
+        the box of units D has C black pixels: in doubt from L on, ticked from M on\n\
+        the form's doubt is above its tick\n\
+        the form has no line that says its page\n\
+        the form has no line that says its tick\n\
+        the form has no box of tens D\n\
+        the form has no box of units D\n"
+}
+
+pub(crate) fn one(b: bool) -> usize
+    ensures { λ r. ⌜ r ≡ Phrases.one b ⌝ }
+    ensures { λ r. ⌜ r ≤ 1 ⌝ }
+{
+    if b { 1 } else { 0 }
+}
+
+// The phrase of a number by itself.
+fn plain_at(number: u32) -> usize
+    ensures { λ r. ⌜ r ≡ plainAt number ⌝ }
+{
+    if number <= crate::IN_DOUBT {
+        return BEFORE_REASONS + number as usize;
+    }
+    if number < crate::NO_FORM_LINE {
+        return NO_ANSWER;
+    }
+    if crate::LONG_FILE < number {
+        return NO_ANSWER;
+    }
+    number as usize - FORM_REASONS
+}
+
+// The page, the tick or the box that is missing.
+fn missing_at(v: Verdict) -> usize
+    ensures { λ r. ⌜ r ≡ missingAt v ⌝ }
+{
+    let which = v.which;
+    let units = one(which % 2 != 0);
+    if which < 20 {
+        return MISSING + 2 + units;
+    }
+    if which == 20 {
+        return MISSING;
+    }
+    MISSING + 1
+}
+
+// Other rows than a form says that has one number of them.
+fn is_of_one_number(v: Verdict) -> bool
+    ensures { λ r. ⌜ r ≡ isOfOneNumber v ⌝ }
+{
+    if v.number != crate::OTHER_ROWS {
+        return false;
+    }
+    v.least == v.most
+}
+
+// A doubt above the tick is the fault of no line.
+fn is_of_no_line(v: Verdict) -> bool
+    ensures { λ r. ⌜ r ≡ isOfNoLine v ⌝ }
+{
+    if v.number != crate::BAD_NUMBERS {
+        return false;
+    }
+    v.line == 0
+}
+
+// The phrase of a verdict's reason.
+pub(crate) fn reason_at(v: Verdict) -> usize
+    ensures { λ r. ⌜ r ≡ reasonAt v ⌝ }
+{
+    let number = v.number;
+    let count = v.count;
+    let units = one(v.which % 2 != 0);
+    if number == answer::NOT_ONE_TICK {
+        return TICKS + 2 * units + one(0 < count);
+    }
+    if number == answer::MENDED_ROW {
+        return MENDED + 2 * units + one(1 < count);
+    }
+    if number == crate::UNCLEAN_ROW {
+        return UNCLEAN + one(1 < count);
+    }
+    if number == crate::IN_DOUBT {
+        return DOUBT + units;
+    }
+    if number == crate::MISSING_LINE {
+        return missing_at(v);
+    }
+    if is_of_one_number(v) {
+        return ROWS;
+    }
+    if is_of_no_line(v) {
+        return DOUBT_ABOVE;
+    }
+    plain_at(number)
+}
