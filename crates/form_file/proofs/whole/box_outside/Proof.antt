@@ -1,0 +1,59 @@
+-- `form_file::whole::box_outside` meets its contract. The invariant: the first box that is sought lies ahead. Assumes nothing.
+use mathlib.Core.Bool.{not}
+use Prim.Native.Nat.{_-_}
+use native.Mathlib.Omega.{arith}
+use borrow.Author.Needs.{needs}
+use Rattle.form_file.specs.Going.{within}
+use Rattle.form_file.specs.FormFile.{boxAt}
+use Rattle.form_file.proofs.Firsts.{told-not, Sought, sought-start, sought-hit, sought-next, sought-none}
+use Rattle.form_file.proofs.whole.box_outside.Statement.{statement}
+use Rattle.form_file.proofs.whole.box_outside.Tie as tie
+
+abbrev Inv-loop : tie.InvT-loop
+Inv-loop columns least boxes k₀ k = Sought (λ i. not (within columns least (boxAt boxes i))) 20 0 k
+
+abbrev μ-loop : tie.MeasureT-loop
+μ-loop columns least boxes k₀ k = 20 - k
+
+loop-holds : tie.Need-loop-holds Inv-loop μ-loop
+loop-holds c = sought-start _ 20 0
+
+mul-box-at : tie.Need-mul-box-at Inv-loop μ-loop
+mul-box-at c = omega arith
+
+box-at-requires : tie.Need-box-at-requires Inv-loop μ-loop
+box-at-requires c κs = omega arith
+
+inside-requires : tie.Need-inside-requires Inv-loop μ-loop
+inside-requires c κs = search needs
+
+returns : tie.Need-returns Inv-loop μ-loop
+returns c = sought-hit _ (c .before .before .before .before .loop .inv) (omega arith) (told-not (within (c .before .before .before .before .before .before .args .columns) (c .before .before .before .before .before .before .args .least)) (c .before .inside .ensures) (c .before .before .box-at .ensures) (c .if1 .taken))
+
+add-k : tie.Need-add-k Inv-loop μ-loop
+add-k c = omega arith
+
+loop-less : tie.Need-loop-less Inv-loop μ-loop
+loop-less c = omega arith
+
+loop-again : tie.Need-loop-again Inv-loop μ-loop
+loop-again c = sought-next _ (c .before .before .before .before .loop .inv) (omega arith) (told-not (within (c .before .before .before .before .before .before .args .columns) (c .before .before .before .before .before .before .args .least)) (c .before .inside .ensures) (c .before .before .box-at .ensures) (c .if1 .left))
+
+returns-2 : tie.Need-returns-2 Inv-loop μ-loop
+returns-2 c = sought-none _ (c .before .loop .inv) (omega arith)
+
+pub box-outside-spec : {M : Type 1} → statement M
+box-outside-spec =
+    tie.close
+    (tie.spec
+    Inv-loop
+    μ-loop
+    loop-holds
+    mul-box-at
+    box-at-requires
+    inside-requires
+    returns
+    add-k
+    loop-less
+    loop-again
+    returns-2)
