@@ -1,0 +1,69 @@
+-- `booking::judging::on_rows` meets its contract: too few rows, too many, or what is found on the page in the store. Assumes nothing.
+use mathlib.Core.Path.{_∙_, sym}
+use denote.Ref.{now}
+use lib.Seq.{length-take-le}
+use lib.ListN.{take}
+use borrow.Author.Needs.{needs}
+use Rattle.heads.specs.Form.{pageIn}
+use Rattle.booking.proofs.Findings.{rows-kept, rows-few, rows-many, rows-fit}
+use Rattle.booking.proofs.judging.on_rows.Statement.{statement}
+use Rattle.booking.proofs.judging.on_rows.Tie as tie
+
+cast-if1 : tie.Need-cast-if1
+cast-if1 c = search needs
+
+other-rows-requires : tie.Need-other-rows-requires
+other-rows-requires c κs = search needs
+
+returns : tie.Need-returns
+returns c =
+    let s = c .before .before .before .before .before .before .before .before .args in
+    c .other-rows .ensures
+    ∙ rows-few (s .form) (now (s .boxes)) (now (s .places)) (s .settings .encoding) (pageIn (s .settings .columns) (now (s .changes)) (take (s .rows) (now (s .ends)))) (take (s .rows) (now (s .marks))) (s .rows)
+    (rows-kept (s .rows) (s .settings .columns) (now (s .changes)) (now (s .ends)) (now (s .marks)) (c .before .before .before .before .before .before .before .before .pre)) (c .before .if1 .taken)
+
+cast-if2 : tie.Need-cast-if2
+cast-if2 c = search needs
+
+other-rows-requires-2 : tie.Need-other-rows-requires-2
+other-rows-requires-2 c κs = search needs
+
+returns-2 : tie.Need-returns-2
+returns-2 c =
+    let s = c .before .before .before .before .before .before .before .before .before .before .args in
+    c .other-rows2 .ensures
+    ∙ rows-many (s .form) (now (s .boxes)) (now (s .places)) (s .settings .encoding) (pageIn (s .settings .columns) (now (s .changes)) (take (s .rows) (now (s .ends)))) (take (s .rows) (now (s .marks))) (s .rows)
+    (rows-kept (s .rows) (s .settings .columns) (now (s .changes)) (now (s .ends)) (now (s .marks)) (c .before .before .before .before .before .before .before .before .before .before .pre)) (c .before .if2 .taken)
+
+slice-aggregate-on-page : tie.Need-slice-aggregate-on-page
+slice-aggregate-on-page c = sym (length-take-le (c .before .before .before .before .before .before .before .before .before .before .args .rows) (now (c .before .before .before .before .before .before .before .before .before .before .args .ends)) (c .before .before .before .before .before .before .before .before .before .before .pre .placed))
+
+slice-aggregate-on-page-2 : tie.Need-slice-aggregate-on-page-2
+slice-aggregate-on-page-2 c = sym (length-take-le (c .before .before .before .before .before .before .before .before .before .before .before .args .rows) (now (c .before .before .before .before .before .before .before .before .before .before .before .args .marks)) (c .before .before .before .before .before .before .before .before .before .before .before .pre .marked))
+
+on-page-requires : tie.Need-on-page-requires
+on-page-requires c κs =
+    let s = c .before .before .before .before .before .before .before .before .before .before .before .args in
+    (c .before .before .before .before .before .before .before .before .before .before .before .pre .sound, length-take-le (s .rows) (now (s .marks)) (c .before .before .before .before .before .before .before .before .before .before .before .pre .marked) ∙ sym (length-take-le (s .rows) (now (s .ends)) (c .before .before .before .before .before .before .before .before .before .before .before .pre .placed)))
+
+returns-3 : tie.Need-returns-3
+returns-3 c =
+    let s = c .before .before .before .before .before .before .before .before .before .before .before .before .args in
+    c .on-page .ensures
+    ∙ rows-fit (s .form) (now (s .boxes)) (now (s .places)) (s .settings .encoding) (pageIn (s .settings .columns) (now (s .changes)) (take (s .rows) (now (s .ends)))) (take (s .rows) (now (s .marks))) (s .rows)
+    (rows-kept (s .rows) (s .settings .columns) (now (s .changes)) (now (s .ends)) (now (s .marks)) (c .before .before .before .before .before .before .before .before .before .before .before .before .pre)) (c .before .before .before .before .before .if1 .left) (c .before .before .before .if2 .left)
+
+pub on-rows-spec : {M : Type 1} → statement M
+on-rows-spec =
+    tie.close
+    (tie.spec
+    cast-if1
+    other-rows-requires
+    returns
+    cast-if2
+    other-rows-requires-2
+    returns-2
+    slice-aggregate-on-page
+    slice-aggregate-on-page-2
+    on-page-requires
+    returns-3)
