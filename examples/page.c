@@ -1,5 +1,5 @@
 /* Reads a Group 4 page from C, with every function of ccitt.h: a row at a time, showing one of its rows; whole; and a little at a time. Writes the line of
-   that row and the page in each of the encodings, reads them again, and counts the heads on it, where it is one of the booking forms of this folder.
+   that row and the page in each of the encodings, reads them again, counts the heads on it, and asks for the verdict on it, where it is one of the booking forms of this folder.
 
        cc -I include examples/page.c target/staticlib/libexports.a -o target/page
        target/page examples/forty.g4 1728 213 */
@@ -117,6 +117,24 @@ static void count_heads(void) {
         printf("heads: answer %u\n", (unsigned)h.number);
 }
 
+/* The verdict on the page as the desk reads it, by a form file's text with the same boxes. */
+static void judge(size_t length) {
+    char form[2048];
+    size_t n = (size_t)sprintf(form, "page 1728 400\ntick 20\ndoubt 6\n");
+    for (unsigned digit = 0; digit < 10; digit++)
+        for (unsigned column = 0; column < 2; column++) {
+            unsigned left = column ? 702 : 202, top = 78 + 31 * digit;
+            n += (size_t)sprintf(form + n, "%s %u %u %u %u %u\n", column ? "units" : "tens", digit, left, left + 22, top, top + 20);
+        }
+    uint32_t boxes[80], places[7];
+    ccitt_verdict_answer v = ccitt_verdict((const uint8_t *)form, n, data, length, CCITT_AS_THE_DESK, CCITT_GROUP4, 0, 0, true, false, false, false,
+                                           boxes, 80, places, 7, again.changes, ROOM, again.ends, ROOM, again.marks, ROOM);
+    if (v.number == CCITT_COUNTED)
+        printf("verdict: counted, %lu heads\n", (unsigned long)v.heads);
+    else
+        printf("verdict: %u, row %llu\n", (unsigned)v.number, (unsigned long long)v.row);
+}
+
 int main(int count, char **words) {
     FILE *file = count == 4 ? fopen(words[1], "rb") : NULL;
     if (!file) {
@@ -136,5 +154,6 @@ int main(int count, char **words) {
     one_line(shown);
     write_again();
     count_heads();
+    judge(length);
     return 0;
 }

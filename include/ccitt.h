@@ -1,4 +1,5 @@
-/* The fax decoder, the T.6 writers, the Group 3 writers and the heads on the form for C. Link target/staticlib/libexports.a (rt staticlib exports).
+/* The fax decoder, the T.6 writers, the Group 3 writers, the heads on the form and the verdict on a faxed form for C. Link
+   target/staticlib/libexports.a (rt staticlib exports).
    Every function tests for itself, takes any bytes, settings and arrays, and answers a number of the list below. A pointer points at as many entries as
    the length behind it says, and what is lent to be written overlaps nothing else that is lent. Nothing is kept from call to call, nothing is on the heap,
    and a call takes some 40 KiB of stack. */
@@ -166,6 +167,63 @@ typedef struct {
 ccitt_heads_answer ccitt_heads(uint32_t columns, const uint32_t *changes, size_t changes_len, const uint64_t *ends, size_t ends_len,
                                const uint8_t *marks, size_t marks_len, const uint32_t *boxes, size_t boxes_len, uint64_t least,
                                int32_t quota);
+
+/* The numbers of a verdict on a faxed form. Up to 15 they are those of the list above: the reading's own answer, 10 for an encoding that is none, and
+   11, 13 and 12 as for the heads. They are tested in the order 32 to 40, 41, the reading's, 16, 17, 18, 11, 13, 19, 20 and 21, 22, 12. */
+enum {
+    CCITT_COUNTED = 0,
+    CCITT_OTHER_COLUMNS = 16, /* the page is read with other columns than the form's */
+    CCITT_BYTES_BEHIND = 17,  /* bytes are left behind the page: a second page? */
+    CCITT_OTHER_ROWS = 18,    /* the page has other rows than the form says */
+    CCITT_UNCLEAN_ROW = 19,   /* a row that the form rests on was not read clean */
+    CCITT_NOT_BLACK = 20,     /* a place that must be black is not */
+    CCITT_NOT_WHITE = 21,     /* a place that must be white is not */
+    CCITT_IN_DOUBT = 22,      /* a box with too many black pixels for none and too few for a tick */
+    /* of the form file's text */
+    CCITT_NO_FORM_LINE = 32,      /* a line that is none of a form's */
+    CCITT_SAID_TWICE = 33,        /* a line that says what a line above it says */
+    CCITT_BAD_NUMBERS = 34,       /* numbers out of order; without a line, a doubt above the tick */
+    CCITT_TOO_MANY_PLACES = 35,   /* a place more than 256, or than there is room for */
+    CCITT_MISSING_LINE = 36,      /* which: a box, 20 for the page, 21 for the tick */
+    CCITT_OUTSIDE_PAGE = 37,      /* a box or place outside the page */
+    CCITT_OVERLAPPING = 38,       /* a box on another */
+    CCITT_NO_ROOM_FOR_BOXES = 39, /* boxes_len is not 80 */
+    CCITT_LONG_FORM = 40,         /* a text above 65536 bytes */
+    CCITT_UNFIT_FORM = 41         /* a range of rows and no places, and the reading is not exact */
+};
+
+/* How a page is read for its verdict. CCITT_AS_THE_DESK: Group 3 with end-of-line marks leniently, all else exactly. Any other number: exactly. */
+enum { CCITT_AS_THE_DESK = 0, CCITT_LENIENTLY = 1, CCITT_STRICTLY = 2, CCITT_EXACTLY = 3 };
+
+/* number: one of the list above.
+   heads:  after 0 the heads; else 0.
+   which:  the box that it is about, 2 x digit, and 1 more for units; for 12 the column, 0 tens and 1 units.
+   line:   the line of the form file that it is about, from 1; else 0.
+   rows, bytes, place: of the reading, as in an answer.
+   row:    the row that it is about, from 1; else 0.
+   count, least, most: what was counted, and what it should have been. */
+typedef struct {
+    uint32_t number;
+    uint32_t heads;
+    uint32_t which;
+    uint32_t line;
+    uint64_t rows;
+    uint64_t bytes;
+    uint64_t place;
+    uint64_t row;
+    uint64_t count;
+    uint64_t least;
+    uint64_t most;
+} ccitt_verdict_answer;
+
+/* The verdict on a faxed form: the text of a form file (examples/README.md) and the bytes of the page in. A page is counted where it was read to its end,
+   as wide and with as many rows as the form says, to its last byte, with every row that the form rests on clean, every place as it must be, no box in
+   doubt, and one tick in each column. columns 0 are the form's. boxes_len is 80; a place takes seven numbers of `places`, and no more than 256 are read;
+   `changes`, `ends` and `marks` are the store that the page is read into. No page is read where the form is not sound. */
+ccitt_verdict_answer ccitt_verdict(const uint8_t *form, size_t form_len, const uint8_t *src, size_t src_len, uint32_t how, uint32_t encoding,
+                                   uint32_t columns, uint32_t rows, bool end_of_block, bool end_of_line, bool rows_are_byte_aligned, bool plain,
+                                   uint32_t *boxes, size_t boxes_len, uint32_t *places, size_t places_len, uint32_t *changes, size_t changes_len,
+                                   uint64_t *ends, size_t ends_len, uint8_t *marks, size_t marks_len);
 
 #ifdef __cplusplus
 }

@@ -1,2 +1,3 @@
 pub mod RowState
 pub mod UnitState
+pub mod Verdict

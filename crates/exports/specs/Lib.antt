@@ -1,3 +1,4 @@
 pub mod Exports
 pub mod RowState
 pub mod UnitState
+pub mod Verdict
