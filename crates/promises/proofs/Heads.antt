@@ -217,22 +217,25 @@ heads-refused a r shape =
 abbrev testAt : Asked → ℕ → ℕ → ℕ → Bool
 testAt a digit column y = not (touches (a .columns) (boxAt (a .form) digit column) y) || eqb (getD (a .marks) y 0) 0
 
+-- a row that a box touches is clean where all of its rows are
+pub under-clean : (columns rows : ℕ) (marks : List ℕ) (b : Box) → cleanUnder columns rows marks b ≡ true
+    → (y : ℕ) → b .top ≤ y → y < b .bottom → b .left < b .right → b .left < columns → y < rows → getD marks y 0 ≡ 0
+unfolding cleanUnder
+under-clean columns rows marks b e y top bottom wide left row =
+    eqb-true (getD marks y 0) 0
+    (rw (le-leb (b .top) y top, lt-ltb y (b .bottom) bottom, lt-ltb (b .left) (b .right) wide, lt-ltb (b .left) columns left)
+    at (every-at (λ y. not (touches columns b y) || eqb (getD marks y 0) 0) rows 0 e y (omega arith) (omega arith)))
+
 -- where the test of 13 is passed, each row that is touched is clean
 touched-clean : (a : Asked) → Shaped (a .form) → isClean a ≡ true → (y x : ℕ) → Touched a y x → getD (a .marks) y 0 ≡ 0
-unfolding clean cleanUnder
+unfolding clean
 touched-clean a shape k y x t =
     let test = cleanUnder (a .columns) (length (a .ends)) (a .marks) in
-    let b = boxAt (a .form) (t .digit) (t .column) in
     let under =
     all-get test (getD (a .form) (t .digit) []) (t .column) noBox (all-get (all test) (a .form) (t .digit) [] k (omega (arith, shape .ten, t .of-ten)))
     (omega (arith, shape .two (t .digit) (t .of-ten), t .of-two)) in
-    eqb-true (getD (a .marks) y 0) 0
-    (rw (
-      le-leb (b .top) y (t .inside .top),
-      lt-ltb y (b .bottom) (t .inside .bottom),
-      lt-ltb (b .left) (b .right) (omega (arith, t .inside .left, t .inside .right)),
-      lt-ltb (b .left) (a .columns) (omega (arith, t .inside .left, t .place)),
-    ) at (every-at (testAt a (t .digit) (t .column)) (length (a .ends)) 0 under y (omega arith) (omega (arith, t .row))))
+    under-clean (a .columns) (length (a .ends)) (a .marks) (boxAt (a .form) (t .digit) (t .column)) under y (t .inside .top) (t .inside .bottom)
+    (omega (arith, t .inside .left, t .inside .right)) (omega (arith, t .inside .left, t .place)) (t .row)
 
 pub only-clean-rows : OnlyCleanRows
 only-clean-rows a r shape c e = touched-clean a shape (zero-of a r shape c e .passes .clean)
@@ -317,7 +320,7 @@ same-pixels-same-heads a b r s shape c d form least quota sa sb ka kb f =
 
 -- ---- A form in an array
 
-form-shaped : (boxes : List ℕ) → Shaped (formIn boxes)
+pub form-shaped : (boxes : List ℕ) → Shaped (formIn boxes)
 form-shaped boxes = record { ten = form-long boxes; two = λ digit h. ap length (form-at boxes digit h) }
 
 pub eighty-are-a-form : EightyAreAForm

@@ -89,14 +89,14 @@ module _ (S : Settings) (bs : List Bool) where
       ∙ sym (ap (λ n. getD ([] ∷ (rows ++ r ∷ [])) n []) (let q : length (rows ++ r ∷ []) ≡ suc (length rows) = omega (arith, length-append rows (r ∷ [])) in q) ∙ getD-append-seam rows r [] [])
 
   -- the row at y, with its mark
-  record At (rows : List (List ℕ)) (marks : List ℕ) (y : ℕ) : Type 0 where
-    state : State
-    behind : Came S bs (take y rows) (take y marks) state
-    under : state .reference ≡ getD ([] ∷ rows) y []
-    room : ℕ
-    told : Told (S .encoding) S bs room state (getD rows y []) (getD marks y 0)
+  pub record At (rows : List (List ℕ)) (marks : List ℕ) (y : ℕ) : Type 0 where
+    pub state : State
+    pub behind : Came S bs (take y rows) (take y marks) state
+    pub under : state .reference ≡ getD ([] ∷ rows) y []
+    pub room : ℕ
+    pub told : Told (S .encoding) S bs room state (getD rows y []) (getD marks y 0)
 
-  came-at : {rows : List (List ℕ)} {marks : List ℕ} {st : State} → Came S bs rows marks st → (y : ℕ) → y < length rows → At rows marks y
+  pub came-at : {rows : List (List ℕ)} {marks : List ℕ} {st : State} → Came S bs rows marks st → (y : ℕ) → y < length rows → At rows marks y
   came-at none-yet y h = absurd (omega arith)
   came-at (and-row {rows = rows} {marks = marks} {st = st} c room r mark next e t) y h =
       by (ltb y (length rows)) (ltb-true y (length rows)) (ltb-false y (length rows)) (λ k. came-at c y k)

@@ -10,6 +10,7 @@ pub mod OneAnswer
 pub mod Pinned
 pub mod PinnedInside
 pub mod PinnedAround
+pub mod PinnedDesk
 pub mod CursorNumbers
 pub mod Beyond
 pub mod Faults
@@ -38,3 +39,8 @@ pub mod Heads
 pub mod HeadRuns
 pub mod HeadsOfPage
 pub mod Called
+pub mod Ledgers
+pub mod CountedTicks
+pub mod CountedRows
+pub mod CountedLine
+pub mod Booking

@@ -11,6 +11,7 @@ pub mod OneAnswer
 pub mod Pinned
 pub mod PinnedInside
 pub mod PinnedAround
+pub mod PinnedDesk
 pub mod CursorNumbers
 pub mod Beyond
 pub mod Places
@@ -30,3 +31,5 @@ pub mod CutGroup3
 pub mod Heads
 pub mod HeadsOfPage
 pub mod Called
+pub mod Ledgers
+pub mod Booking

@@ -2,6 +2,7 @@
 use answer::Answer;
 use exports::UnitAnswer;
 use heads::HeadsAnswer;
+use ledger::Verdict;
 ghost use Rattle.settings.specs.declared.EncodingMode.the-variants.{Group4, «Group3_1D», «Group3_2D»};
 ghost use Rattle.ccitt.specs.Decode.{Decodes};
 ghost use Rattle.one_line.specs.OneLine.{ReadOne};
@@ -14,6 +15,8 @@ ghost use Rattle.exports.specs.Exports.{settingsFor};
 ghost use Rattle.exports.specs.RowState.{modeOf, ReadsRowForC};
 ghost use mathlib.Core.Path.{_≡_};
 ghost use Rattle.exports.specs.UnitState.{ReadsUnitsForC};
+ghost use Rattle.booking.specs.Booked.{given};
+ghost use Rattle.exports.specs.Verdict.{FindsForC};
 
 pub fn ccitt_decode_group4(
     src: &[u8],
@@ -245,4 +248,42 @@ pub fn ccitt_heads(
     ensures { λ r. ⌜ r ≡ headsFrom columns (now (changes .entry)) (now (ends .entry)) (now (marks .entry)) (now (boxes .entry)) least quota ⌝ }
 {
     exports::ccitt_heads(columns, changes, ends, marks, boxes, least, quota)
+}
+
+pub fn ccitt_verdict(
+    form: &[u8],
+    src: &[u8],
+    how: u32,
+    encoding: u32,
+    columns: u32,
+    rows: u32,
+    end_of_block: bool,
+    end_of_line: bool,
+    rows_are_byte_aligned: bool,
+    plain: bool,
+    boxes: &mut [u32],
+    places: &mut [u32],
+    changes: &mut [u32],
+    ends: &mut [u64],
+    marks: &mut [u8],
+) -> Verdict
+    ensures { λ r. ⌜ FindsForC encoding (given (now (form .entry)) (now (src .entry)) how (settingsFor columns rows «end_of_block» «end_of_line» «rows_are_byte_aligned» (modeOf encoding) false false plain) (now (boxes .entry)) (now (places .entry)) (now (changes .entry)) (now (ends .entry)) (now (marks .entry))) r (now (boxes .exit)) (now (places .exit)) (now (changes .exit)) (now (ends .exit)) (now (marks .exit)) ⌝ }
+{
+    exports::ccitt_verdict(
+        form,
+        src,
+        how,
+        encoding,
+        columns,
+        rows,
+        end_of_block,
+        end_of_line,
+        rows_are_byte_aligned,
+        plain,
+        boxes,
+        places,
+        changes,
+        ends,
+        marks,
+    )
 }

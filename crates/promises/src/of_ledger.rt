@@ -1,0 +1,25 @@
+// Calls of the public functions of ledger, each with the contract that its promises are about.
+use ledger::Entered;
+use ledger::Ledger;
+use ledger::Verdict;
+ghost use lib.ListN.{length};
+ghost use Rattle.ledger.specs.Entered.{Enters};
+ghost use Rattle.ledger.specs.Said.{pageLine, totalLine, Tells};
+
+pub fn enter(out: &mut [u8], name: &[u8], v: Verdict, b: Ledger) -> Entered
+    ensures { λ r. ⌜ Enters (now (name .entry)) b v (now (out .entry)) r (now (out .exit)) ⌝ }
+{
+    ledger::enter(out, name, v, b)
+}
+
+pub fn put_line(out: &mut [u8], name: &[u8], v: Verdict, b: Ledger) -> usize
+    ensures { λ r. ⌜ Tells (length (now (name .entry))) (pageLine (now (name .entry)) v b) (now (out .entry)) r (now (out .exit)) ⌝ }
+{
+    ledger::put_line(out, name, v, b)
+}
+
+pub fn put_total(out: &mut [u8], b: Ledger) -> usize
+    ensures { λ r. ⌜ Tells 0 (totalLine b) (now (out .entry)) r (now (out .exit)) ⌝ }
+{
+    ledger::put_total(out, b)
+}
