@@ -8,6 +8,8 @@ pub enum Mode {
     Bench,
     /// Reads the pages that 32 bits do not count.
     Huge,
+    /// Judges at least so many damaged copies of booking forms.
+    Forms(u64),
     /// Writes a sample of the crate's answers into a folder, for the program that replays them.
     Sample(String),
     /// Writes the listed pages into a folder, where another decoder can read them.
@@ -24,7 +26,7 @@ pub struct Arguments {
     pub mode: Mode,
 }
 
-pub const USAGE: &str = "usage: compare/run [--seed N] [--more N] [--only TEXT] [bench | huge | sample DIR | pages DIR | test]";
+pub const USAGE: &str = "usage: compare/run [--seed N] [--more N] [--only TEXT] [bench | huge | forms N | sample DIR | pages DIR | test]";
 
 /// Reads the words; without a seed, the clock gives one.
 pub fn parse(mut words: impl Iterator<Item = String>) -> Option<Arguments> {
@@ -36,6 +38,9 @@ pub fn parse(mut words: impl Iterator<Item = String>) -> Option<Arguments> {
             "--only" => arguments.only = words.next()?,
             "bench" if arguments.mode == Mode::Compare => arguments.mode = Mode::Bench,
             "huge" if arguments.mode == Mode::Compare => arguments.mode = Mode::Huge,
+            "forms" if arguments.mode == Mode::Compare => {
+                arguments.mode = Mode::Forms(words.next()?.parse().ok().filter(|&count| count > 0)?);
+            }
             "sample" if arguments.mode == Mode::Compare => arguments.mode = Mode::Sample(words.next()?),
             "pages" if arguments.mode == Mode::Compare => arguments.mode = Mode::Pages(words.next()?),
             _ => return None,

@@ -4,7 +4,6 @@
 
 use std::io;
 
-mod canvas;
 mod drawn;
 mod fill;
 mod page;

@@ -13,6 +13,7 @@ pub mod heads;
 #[cfg(feature = "libtiff")]
 pub mod libtiff;
 pub mod repeated;
+pub mod verdict;
 
 // The answer goes through a pointer before the other arguments, as x86-64 has it for a struct of that size. So declared, a library
 // that was compiled for another processor is called alike.

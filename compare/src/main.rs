@@ -11,6 +11,8 @@ mod by_row;
 #[cfg(any(feature = "linked", test))]
 mod by_unit;
 mod call;
+#[cfg(any(feature = "linked", test))]
+mod canvas;
 mod case;
 mod check;
 mod checks;
@@ -22,6 +24,8 @@ mod damage;
 mod encoder;
 #[cfg(test)]
 mod faults;
+#[cfg(any(feature = "linked", test))]
+mod forms;
 mod heads;
 #[cfg(feature = "linked")]
 mod huge;
@@ -74,8 +78,10 @@ fn main() -> ExitCode {
         Mode::Bench => bench::run(),
         #[cfg(feature = "linked")]
         Mode::Huge => huge::run(),
+        #[cfg(feature = "linked")]
+        Mode::Forms(count) => forms::run(&linked::verdict::LinkedDesk, arguments.seed, *count, &made()),
         #[cfg(not(feature = "linked"))]
-        Mode::Bench | Mode::Huge => {
+        Mode::Bench | Mode::Huge | Mode::Forms(_) => {
             println!("only for a library that is linked in: under an emulator a time says nothing, and what is huge takes hours");
             Ok(true)
         }
@@ -90,6 +96,12 @@ fn main() -> ExitCode {
             ExitCode::from(2)
         }
     }
+}
+
+/// Where a run leaves its files: `compare/run` names the folder.
+#[cfg(feature = "linked")]
+fn made() -> std::path::PathBuf {
+    std::env::var_os("COMPARE_MADE").map_or_else(|| ".".into(), Into::into)
 }
 
 /// Runs every check. True if all passed.
@@ -110,7 +122,8 @@ fn compare(arguments: &Arguments) -> io::Result<bool> {
     for source in sources {
         count(run_one(source.as_ref(), arguments.seed, &mut ours));
     }
-    run_heads(arguments).into_iter().for_each(count);
+    run_heads(arguments).into_iter().for_each(&mut count);
+    run_forms(arguments).into_iter().for_each(count);
     println!("{}; the line below counts checks", all.asked());
     println!("{passed} passed, {failed} failed");
     Ok(failed == 0)
@@ -146,6 +159,21 @@ fn run_heads(arguments: &Arguments) -> Vec<Tally> {
         println!("{}: skipped, the library is not linked in", heads::NAME);
     }
     Vec::new()
+}
+
+/// Damaged copies of booking forms, none of which may be counted wrong.
+#[cfg(feature = "linked")]
+fn run_forms(arguments: &Arguments) -> Option<Tally> {
+    let asked = forms::NAME.contains(&arguments.only);
+    asked.then(|| told(forms::NAME, Instant::now(), forms::check(&linked::verdict::LinkedDesk, arguments.seed, 20_000 * arguments.more)))
+}
+
+#[cfg(not(feature = "linked"))]
+fn run_forms(arguments: &Arguments) -> Option<Tally> {
+    if "damaged forms".contains(&arguments.only) {
+        println!("damaged forms: skipped, the library is not linked in");
+    }
+    None
 }
 
 fn told(name: &str, began: Instant, tally: Tally) -> Tally {

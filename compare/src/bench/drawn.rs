@@ -1,7 +1,9 @@
 //! The pages of the set that reading is timed on (02, A8), drawn by a seed, so that anyone makes them again.
 
-use super::canvas::{Canvas, HEIGHT, WIDTH};
+use crate::canvas::{Canvas, WIDTH};
 use crate::random::Random;
+
+pub const HEIGHT: usize = 2200;
 
 const SEED: u64 = 8;
 
@@ -25,10 +27,10 @@ pub fn odd_pages() -> Vec<Drawn> {
     let mut random = random("noise");
     let mut runs = random_runs();
     vec![
-        ("blank", Canvas::white().rows()),
-        ("ruled", Canvas::of(|x, _| x % 8 == 0).rows()),
-        ("dots in every other pixel", Canvas::of(|x, y| (x + y) % 2 == 0).rows()),
-        ("noise", Canvas::of(|_, _| random.bool()).rows()),
+        ("blank", Canvas::white(HEIGHT).rows()),
+        ("ruled", Canvas::of(HEIGHT, |x, _| x % 8 == 0).rows()),
+        ("dots in every other pixel", Canvas::of(HEIGHT, |x, y| (x + y) % 2 == 0).rows()),
+        ("noise", Canvas::of(HEIGHT, |_, _| random.bool()).rows()),
         ("runs of 64 to 163", (0..HEIGHT).map(|_| runs()).collect()),
     ]
 }
@@ -45,7 +47,7 @@ struct Type {
 
 /// Lines of words between margins.
 fn text(kind: Type, lines: usize) -> Canvas {
-    let mut page = Canvas::white();
+    let mut page = Canvas::white(HEIGHT);
     let mut random = random("text");
     let letters = alphabet();
     for line in 0..lines {
@@ -112,7 +114,7 @@ fn bow(middle: f64) -> Vec<[f64; 4]> {
 
 /// A booking form: a head, fields with labels, and ten rows of two boxes, two of them ticked.
 fn form() -> Canvas {
-    let mut page = Canvas::white();
+    let mut page = Canvas::white(HEIGHT);
     let mut random = random("form");
     let letters = alphabet();
     words(&mut page, &mut random, &letters, &Type { size: 36, pitch: 60 }, (140, 90), WIDTH - 140);
@@ -136,7 +138,7 @@ fn form() -> Canvas {
 
 /// Round dots on a grid, whose size falls off from the middle of the page.
 fn dots(grid: usize) -> Canvas {
-    Canvas::of(|x, y| {
+    Canvas::of(HEIGHT, |x, y| {
         let off = |at: usize| (at % grid) as f64 - (grid as f64 - 1.0) / 2.0;
         let from = |at: usize, all: usize| at as f64 / all as f64 - 0.5;
         let dark = 1.0 - 1.6 * from(x, WIDTH).hypot(from(y, HEIGHT));
@@ -146,7 +148,7 @@ fn dots(grid: usize) -> Canvas {
 
 /// Rings, and lines in every direction.
 fn drawing() -> Canvas {
-    let mut page = Canvas::white();
+    let mut page = Canvas::white(HEIGHT);
     let mut random = random("drawing");
     for _ in 0..40 {
         let mut point = || (random.range(100, WIDTH as u64 - 100) as f64, random.range(100, HEIGHT as u64 - 100) as f64);

@@ -66,7 +66,7 @@ fn rows_under(b: &Edges, rows: &[&[u32]]) -> std::ops::Range<usize> {
 const FEW: u64 = 20_000;
 
 /// The black pixels of a box. By its runs, and one by one where they are few: both must be the same.
-fn black_in(columns: u32, rows: &[&[u32]], b: &Edges) -> u64 {
+pub fn black_in(columns: u32, rows: &[&[u32]], b: &Edges) -> u64 {
     let right = b.right.min(columns);
     let under = || rows_under(b, rows).map(|y| rows[y]);
     let by_runs = under().map(|row| black_between(row, b.left, right)).sum();

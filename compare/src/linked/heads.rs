@@ -23,11 +23,16 @@ impl Reader for LinkedHeads {
     }
 }
 
-#[rustfmt::skip]
 fn one(ask: &Ask) -> HeadsAnswer {
+    heads_of(ask.columns, &ask.changes, &ask.ends, &ask.marks, &ask.boxes, ask.least, ask.quota)
+}
+
+/// The heads on the rows of a store.
+#[rustfmt::skip]
+pub fn heads_of(columns: u32, changes: &[u32], ends: &[u64], marks: &[u8], boxes: &[u32], least: u64, quota: i32) -> HeadsAnswer {
     // SAFETY: each pointer stands with the length of its slice, and nothing is written.
     unsafe {
-        ccitt_heads(ask.columns, ask.changes.as_ptr(), ask.changes.len(), ask.ends.as_ptr(), ask.ends.len(), ask.marks.as_ptr(), ask.marks.len(),
-            ask.boxes.as_ptr(), ask.boxes.len(), ask.least, ask.quota)
+        ccitt_heads(columns, changes.as_ptr(), changes.len(), ends.as_ptr(), ends.len(), marks.as_ptr(), marks.len(),
+            boxes.as_ptr(), boxes.len(), least, quota)
     }
 }

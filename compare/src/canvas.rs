@@ -1,23 +1,28 @@
 //! A page of pixels to draw on, and its rows as changes.
 
 pub const WIDTH: usize = 1728;
-pub const HEIGHT: usize = 2200;
 
+#[derive(Clone)]
 pub struct Canvas(Vec<bool>);
 
 impl Canvas {
-    pub fn white() -> Self {
-        Canvas(vec![false; WIDTH * HEIGHT])
+    pub fn white(height: usize) -> Self {
+        Canvas(vec![false; WIDTH * height])
     }
 
     /// Each pixel by its place.
-    pub fn of(mut black: impl FnMut(usize, usize) -> bool) -> Self {
-        Canvas((0..WIDTH * HEIGHT).map(|at| black(at % WIDTH, at / WIDTH)).collect())
+    #[cfg(feature = "linked")]
+    pub fn of(height: usize, mut black: impl FnMut(usize, usize) -> bool) -> Self {
+        Canvas((0..WIDTH * height).map(|at| black(at % WIDTH, at / WIDTH)).collect())
+    }
+
+    fn height(&self) -> usize {
+        self.0.len() / WIDTH
     }
 
     /// A box of black pixels; what lies off the page is left out.
     pub fn fill(&mut self, x: usize, y: usize, width: usize, height: usize) {
-        for row in y.min(HEIGHT)..(y + height).min(HEIGHT) {
+        for row in y.min(self.height())..(y + height).min(self.height()) {
             self.0[row * WIDTH..][x.min(WIDTH)..(x + width).min(WIDTH)].fill(true);
         }
     }
@@ -31,13 +36,14 @@ impl Canvas {
     }
 
     /// A line from one point to another, drawn with a round pen.
+    #[cfg(feature = "linked")]
     pub fn stroke(&mut self, from: (f64, f64), to: (f64, f64), pen: f64) {
         let along = (to.0 - from.0, to.1 - from.1);
         let square = (along.0 * along.0 + along.1 * along.1).max(1e-9);
         let radius = pen / 2.0;
         let low = |a: f64, b: f64| (a.min(b) - radius).max(0.0) as usize;
         let high = |a: f64, b: f64, most: usize| ((a.max(b) + radius).max(0.0) as usize + 1).min(most);
-        for y in low(from.1, to.1)..high(from.1, to.1, HEIGHT) {
+        for y in low(from.1, to.1)..high(from.1, to.1, self.height()) {
             for x in low(from.0, to.0)..high(from.0, to.0, WIDTH) {
                 let off = (x as f64 - from.0, y as f64 - from.1);
                 let part = ((off.0 * along.0 + off.1 * along.1) / square).clamp(0.0, 1.0);

@@ -1,0 +1,159 @@
+//! The measure of the desk: damaged copies of booking forms, judged by `ccitt_verdict` and by the tests that were there before it.
+//! No copy may be counted with heads that it was not ticked for.
+#![cfg_attr(not(feature = "linked"), allow(dead_code))]
+
+pub mod ask;
+mod copies;
+mod counts;
+mod damages;
+mod filled;
+mod sheet;
+#[cfg(test)]
+mod standin;
+mod table;
+#[cfg(test)]
+mod tests;
+
+use crate::bits::hex;
+#[cfg(feature = "linked")]
+use crate::tally::Tally;
+use ask::{Ask, Desk, Judged};
+#[cfg(feature = "linked")]
+use ask::READINGS;
+use copies::{FormCopy, LAYOUTS, copies_of, settings_of};
+use counts::Counts;
+use damages::DAMAGES;
+use std::path::Path;
+use std::sync::Mutex;
+use std::sync::atomic::{AtomicU64, Ordering};
+use std::time::Instant;
+use std::{fs, io};
+
+/// The files that a run leaves: what was counted wrong, and the whole tally.
+const WRONG: &str = "forms-wrong.txt";
+const WHOLE: &str = "forms-tally.tsv";
+/// So many of those counted wrong are written down, the first ones; all are told by their number.
+const KEPT: usize = 1000;
+/// A run of more forms is a long one.
+const LONG: u64 = 1000;
+
+/// What came of a run.
+#[derive(Default)]
+struct Found {
+    counts: Counts,
+    /// What the desk counted wrong: its form and its place among the copies, and how it can be repeated.
+    wrong: Vec<((u64, usize), String)>,
+}
+
+impl Found {
+    /// The first ones are kept: a worker takes forms in their order, so that they are the same whoever took which.
+    fn add(&mut self, other: Found) {
+        self.counts.add(&other.counts);
+        self.wrong.extend(other.wrong);
+        self.wrong.sort_unstable();
+        self.wrong.truncate(KEPT);
+    }
+
+    fn passed(&self) -> bool {
+        self.counts.wrong() == 0 && self.counts.counts_whole_forms()
+    }
+}
+
+/// Judges at least so many copies, all of each form, and prints the tables. True if none was counted wrong.
+pub fn run(desk: &dyn Desk, seed: u64, least: u64, folder: &Path) -> io::Result<bool> {
+    let forms = least.div_ceil(copies::count());
+    println!("seed {seed}: {forms} forms, {} copies of each, {} in all", copies::count(), forms * copies::count());
+    let began = Instant::now();
+    let found = judged(desk, seed, forms);
+    let took = began.elapsed().as_secs_f64();
+    fs::write(folder.join(WHOLE), table::whole(&found.counts))?;
+    fs::write(folder.join(WRONG), found.wrong.iter().map(|(_, text)| text.as_str()).collect::<String>())?;
+    println!("{}\n{}", table::tables(&found.counts), table::gains(&found.counts));
+    println!(
+        "{took:.1} s, {:.0} copies a second, each judged four times and by the old tests twice",
+        (forms * copies::count()) as f64 / took
+    );
+    println!("{WRONG} and {WHOLE} in {} have what was counted wrong, and the whole tally", folder.display());
+    if !found.counts.counts_whole_forms() {
+        println!("forms that are not damaged are not all counted right");
+    }
+    println!("the desk counted {} wrong, over all readings", found.counts.wrong());
+    Ok(found.passed())
+}
+
+/// A check of the comparison.
+pub const NAME: &str = "damaged forms";
+
+/// The same as such a check: a copy that is counted wrong differs, and so do whole forms that are not all counted.
+#[cfg(feature = "linked")]
+pub fn check(desk: &dyn Desk, seed: u64, least: u64) -> Tally {
+    let forms = least.div_ceil(copies::count());
+    let found = judged(desk, seed, forms);
+    let inputs = forms * copies::count();
+    let mut tally = Tally { inputs, calls: inputs * READINGS.len() as u64, ..Tally::default() };
+    for (_, text) in &found.wrong {
+        tally.differs(text.len(), || text.clone());
+    }
+    if !found.counts.counts_whole_forms() {
+        tally.differs(usize::MAX, || "forms that are not damaged are not all counted right".to_string());
+    }
+    tally
+}
+
+/// Each worker takes the next form until there are none left.
+fn judged(desk: &dyn Desk, seed: u64, forms: u64) -> Found {
+    let next = AtomicU64::new(0);
+    let all = Mutex::new(Found::default());
+    let work = || {
+        let mut found = Found::default();
+        loop {
+            let form = next.fetch_add(1, Ordering::Relaxed);
+            if form >= forms {
+                break;
+            }
+            // a long run says on standard error how far it is
+            if forms > LONG && form > 0 && form.is_multiple_of(forms.div_ceil(10)) {
+                eprintln!("{form} of {forms} forms");
+            }
+            found.add(of_form(desk, seed, form));
+        }
+        all.lock().expect("no worker panics while it adds").add(found);
+    };
+    std::thread::scope(|scope| {
+        for _ in 0..std::thread::available_parallelism().map_or(1, usize::from) {
+            scope.spawn(work);
+        }
+    });
+    all.into_inner().expect("no worker panics while it adds")
+}
+
+fn of_form(desk: &dyn Desk, seed: u64, form: u64) -> Found {
+    let (text, boxes) = (sheet::text(), sheet::boxes());
+    let copies = copies_of(seed, form);
+    let asks: Vec<Ask> = copies
+        .iter()
+        .map(|copy| Ask { text: &text, boxes: &boxes, tick: sheet::TICK, settings: settings_of(LAYOUTS[copy.layout].1), src: &copy.bytes })
+        .collect();
+    let answers = desk.judge(&asks);
+    assert_eq!(answers.len(), copies.len(), "every one is judged");
+    let mut found = Found::default();
+    for (place, (copy, judged)) in copies.iter().zip(&answers).enumerate() {
+        if found.counts.add_one(copy, judged) {
+            found.wrong.push(((form, place), described(seed, form, copy, judged)));
+        }
+    }
+    found
+}
+
+/// What can be repeated: the seed and the form make the copy again, and its bytes are it.
+fn described(seed: u64, form: u64, copy: &FormCopy, judged: &Judged) -> String {
+    let (layout, damage) = (LAYOUTS[copy.layout].0, DAMAGES[copy.damage].1);
+    let may = copy.may.map_or("no heads".to_string(), |heads| heads.to_string());
+    format!(
+        "seed {seed}, form {form}, {layout}, {damage}, copy {}: may be counted with {may}\n  the desk {:?}\n  the old tests {:?}\n  {}\n",
+        copy.nth,
+        judged.desk,
+        judged.old,
+        hex(&copy.bytes)
+    )
+}
