@@ -9,7 +9,7 @@ const FOLDER: &str = "CCITT_LIBRARY";
 const FILE: &str = "libexports.a";
 
 /// What is called of it. A library without one of these is older than this package.
-const FUNCTIONS: [&str; 11] = [
+const FUNCTIONS: [&str; 12] = [
     "ccitt_decode_group4",
     "ccitt_decode_group3_1d",
     "ccitt_decode_group3_2d",
@@ -21,6 +21,7 @@ const FUNCTIONS: [&str; 11] = [
     "ccitt_write_group3_1d",
     "ccitt_write_group3_2d",
     "ccitt_heads",
+    "ccitt_verdict",
 ];
 
 /// Processors by cargo's names, and by the numbers that ELF has for them.

@@ -1,21 +1,28 @@
-//! What the crate has not: marks, the place of a fault, exact reading, rows one at a time, a page a little at a time, one line alone, writers, and the heads on a form.
+//! What the crate has not: marks, the place of a fault, exact reading, rows one at a time, a page a little at a time, one line alone, writers, the heads on a form,
+//! and the verdict on a faxed one.
 //!
 //! A program that is written for the crate needs nothing of this.
 
 mod fault;
+mod form_fault;
 mod heads;
 mod line;
+mod reason;
 mod rows;
 mod units;
+mod verdict;
 mod writers;
 
 pub use crate::row::{Mark, Row};
 pub use crate::settings::Settings;
 pub use fault::Fault;
+pub use form_fault::{BoxColumn, BoxName, FormFault, Missing};
 pub use heads::{Heads, TickBox, heads};
 pub use line::{Line, read_line};
+pub use reason::Reason;
 pub use rows::{OwnedRow, Rows};
 pub use units::{Turn, Units};
+pub use verdict::{Reading, Verdict, verdict};
 pub use writers::{write_group3_1d, write_group3_2d, write_line, write_page};
 
 use crate::page::Memory;

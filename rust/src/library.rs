@@ -5,7 +5,9 @@
 //! by page, as Rust's are, so that a stack which is too short ends the program at its guard page.
 #![allow(unsafe_code)]
 
+use crate::room::Room;
 use crate::settings::{DecodeSettings, EncodingMode, Settings};
+use alloc::vec;
 use alloc::vec::Vec;
 
 // Its lengths and counts have 64 bits.
@@ -65,6 +67,44 @@ pub(crate) struct HeadsAnswer {
     pub(crate) left: i32,
 }
 
+/// A verdict on a faxed form, as C has it.
+#[repr(C)]
+#[derive(Clone, Copy, Debug, Default)]
+pub(crate) struct VerdictAnswer {
+    pub(crate) number: u32,
+    pub(crate) heads: u32,
+    pub(crate) which: u32,
+    pub(crate) line: u32,
+    pub(crate) rows: u64,
+    pub(crate) bytes: u64,
+    pub(crate) place: u64,
+    pub(crate) row: u64,
+    pub(crate) count: u64,
+    pub(crate) least: u64,
+    pub(crate) most: u64,
+}
+
+/// The numbers of a verdict, as include/ccitt.h names them; up to 15 they are those of an answer.
+impl VerdictAnswer {
+    pub(crate) const COUNTED: u32 = 0;
+    pub(crate) const OTHER_COLUMNS: u32 = 16;
+    pub(crate) const BYTES_BEHIND: u32 = 17;
+    pub(crate) const OTHER_ROWS: u32 = 18;
+    pub(crate) const UNCLEAN_ROW: u32 = 19;
+    pub(crate) const NOT_BLACK: u32 = 20;
+    pub(crate) const NOT_WHITE: u32 = 21;
+    pub(crate) const IN_DOUBT: u32 = 22;
+    pub(crate) const NO_FORM_LINE: u32 = 32;
+    pub(crate) const SAID_TWICE: u32 = 33;
+    pub(crate) const BAD_NUMBERS: u32 = 34;
+    pub(crate) const TOO_MANY_PLACES: u32 = 35;
+    pub(crate) const MISSING_LINE: u32 = 36;
+    pub(crate) const OUTSIDE_PAGE: u32 = 37;
+    pub(crate) const OVERLAPPING: u32 = 38;
+    pub(crate) const LONG_FORM: u32 = 40;
+    pub(crate) const UNFIT_FORM: u32 = 41;
+}
+
 // In the order of include/ccitt.h. An answer of that size goes through a pointer before the other arguments, as x86-64 has it (System V); so declared,
 // a library that was compiled for another processor is called alike.
 #[rustfmt::skip]
@@ -96,12 +136,20 @@ unsafe extern "C" {
         k: u32, out: *mut u8, out_len: usize);
     fn ccitt_heads(columns: u32, changes: *const u32, changes_len: usize, ends: *const u64, ends_len: usize, marks: *const u8, marks_len: usize,
         boxes: *const u32, boxes_len: usize, least: u64, quota: i32) -> HeadsAnswer;
+    fn ccitt_verdict(answer: *mut VerdictAnswer, form: *const u8, form_len: usize, src: *const u8, src_len: usize, how: u32, encoding: u32,
+        columns: u32, rows: u32, end_of_block: bool, end_of_line: bool, rows_are_byte_aligned: bool, plain: bool,
+        boxes: *mut u32, boxes_len: usize, places: *mut u32, places_len: usize,
+        changes: *mut u32, changes_len: usize, ends: *mut u64, ends_len: usize, marks: *mut u8, marks_len: usize);
 }
 
-// The encodings, for the row form.
-const GROUP4: u32 = 0;
-const GROUP3_1D: u32 = 1;
-const GROUP3_2D: u32 = 2;
+/// The library's number of an encoding, for the row form and the verdict.
+fn number_of(encoding: EncodingMode) -> u32 {
+    match encoding {
+        EncodingMode::Group4 => 0,
+        EncodingMode::Group3_1D => 1,
+        EncodingMode::Group3_2D => 2,
+    }
+}
 
 /// A page's rows: row n's changes lie from `ends[n - 1]`, or 0, to `ends[n]`, and `marks[n]` says how it was read.
 #[derive(Default)]
@@ -160,14 +208,9 @@ unsafe fn page_into(data: &[u8], settings: &Settings, rows: &mut Rows, changes: 
 #[rustfmt::skip]
 pub(crate) fn read_row(data: &[u8], settings: &Settings, state: &mut [u64; 10], first: &mut [u32], second: &mut [u32]) -> Answer {
     let DecodeSettings { columns, rows, end_of_block, end_of_line, rows_are_byte_aligned, encoding, strict } = settings.settings;
-    let encoding = match encoding {
-        EncodingMode::Group4 => GROUP4,
-        EncodingMode::Group3_1D => GROUP3_1D,
-        EncodingMode::Group3_2D => GROUP3_2D,
-    };
     // SAFETY: each pointer stands with the length of its slice, and the three lent arrays and the answer are apart.
     told(|answer| unsafe {
-        ccitt_read_row(answer, data.as_ptr(), data.len(), columns, rows, end_of_block, end_of_line, rows_are_byte_aligned, encoding, strict, settings.exact, settings.plain,
+        ccitt_read_row(answer, data.as_ptr(), data.len(), columns, rows, end_of_block, end_of_line, rows_are_byte_aligned, number_of(encoding), strict, settings.exact, settings.plain,
             state.as_mut_ptr(), state.len(), first.as_mut_ptr(), first.len(), second.as_mut_ptr(), second.len());
     })
 }
@@ -241,6 +284,28 @@ pub(crate) fn heads(page: Page<'_>, marks: &[u8], boxes: &[u32; 80], least: u64,
     unsafe {
         ccitt_heads(columns, from, changes.len(), of, ends.len(), marks.as_ptr(), marks.len(), boxes.as_ptr(), boxes.len(), least, quota)
     }
+}
+
+/// How many numbers a form's boxes take, and its places: 256 of them, of seven numbers each, are as many as the library reads.
+const BOXES: usize = 80;
+const PLACES: usize = 7 * 256;
+
+/// The verdict on a faxed form. The page is read into `rows`, which is empty afterwards; at most so much room is lent, and less where there is no memory
+/// for it.
+#[rustfmt::skip]
+pub(crate) fn verdict(form: &[u8], data: &[u8], how: u32, settings: &Settings, rows: &mut Rows, room: Room) -> VerdictAnswer {
+    let DecodeSettings { columns, rows: count, end_of_block, end_of_line, rows_are_byte_aligned: aligned, encoding, .. } = settings.settings;
+    let (mut boxes, mut places) = ([0; BOXES], vec![0; PLACES]);
+    let changes = emptied(&mut rows.changes, room.changes);
+    let held = emptied(&mut rows.ends, room.rows).min(emptied(&mut rows.marks, room.rows));
+    // SAFETY: each pointer stands with the length of its slice, or with so many entries that are its vector's own; what is lent to be written and the
+    // answer are apart. The library reads no entry of the vectors that it has not written.
+    told(|answer| unsafe {
+        ccitt_verdict(answer, form.as_ptr(), form.len(), data.as_ptr(), data.len(), how, number_of(encoding),
+            columns, count, end_of_block, end_of_line, aligned, settings.plain,
+            boxes.as_mut_ptr(), boxes.len(), places.as_mut_ptr(), places.len(),
+            rows.changes.as_mut_ptr(), changes, rows.ends.as_mut_ptr(), held, rows.marks.as_mut_ptr(), held);
+    })
 }
 
 /// Calls the library, which tells its answer through a pointer.

@@ -13,6 +13,14 @@ pub(crate) struct Room {
     pub(crate) rows: usize,
 }
 
+impl Room {
+    /// Room for any page of so many bytes, whatever its settings: one change and one row for each bit and one more are proved to be enough (`EntryForEachBit`,
+    /// `RoomEnough`).
+    pub(crate) fn for_any(data: &[u8]) -> Self {
+        Self { changes: bits_and_one(data), rows: bits_and_one(data) }
+    }
+}
+
 /// A page has at most one change for each bit and one more, which is proved, and at most `columns` in each of its rows.
 pub(crate) fn changes_of(data: &[u8], settings: &Settings) -> usize {
     let page = match settings.settings.rows {
