@@ -1,187 +1,154 @@
-// Damaged copies of the booking forms of examples/, whose bytes are the standard input, one behind the other: how often the heads
-// are right, how often the page is refused, and by what, and each damage after which other heads are read without a refusal. A line
-// has the page, strict or lenient, the damage, how many copies there were, how many gave the heads that were ticked, how many were
-// refused by the reading (1, 2 or 3), as 13 and as 12, and how many gave other heads.
+// Damaged copies of booking forms that are drawn here for every number of heads: what the desk says of them, and what the tests said
+// that came before it. A line has the encoding, the damage, how many copies there were, and by the desk how many were counted with the
+// heads that were ticked, how many are to be looked at by what the reading answers, by what the page is (16 to 19), by what its
+// pixels are (20 to 22) and by its ticks (11 to 13), and how many were counted with other heads; last, how many were by the old tests.
+// A copy that the desk counts with other heads has a line of its own, with its seed.
+mod asked;
 mod copies;
+mod damage;
 mod form;
+mod sheet;
+mod tally;
 
-use libc::STDIN_FILENO;
+use crate::damage::Damage;
+use crate::tally::Outcome;
+use crate::tally::Tally;
 use libc::STDOUT_FILENO;
-use settings::DecodeSettings;
 use settings::EncodingMode;
 
-fn settings(encoding: EncodingMode, end_of_line: bool, strict: bool) -> DecodeSettings {
-    DecodeSettings {
-        columns: 1728,
-        rows: 0,
-        end_of_block: true,
-        end_of_line,
-        rows_are_byte_aligned: false,
-        encoding,
-        strict,
-        exact: false,
-        plain: false,
-    }
-}
+// How many copies have their bytes damaged in one way, and how many their picture.
+const OF_BYTES: u64 = 800;
+
+const OF_PICTURES: u64 = 200;
+
+// The zeros before each EOL, and K.
+const FILL: u32 = 3;
+
+const K: u32 = 4;
 
 fn field(n: u64) {
     io::write_all(STDOUT_FILENO, b"\t");
     io::print_decimal(STDOUT_FILENO, n);
 }
 
-fn name(kind: u64) {
-    match kind {
-        0 => io::write_all(STDOUT_FILENO, b"\tone bit"),
-        1 => io::write_all(STDOUT_FILENO, b"\tone byte"),
-        2 => io::write_all(STDOUT_FILENO, b"\tup to 16 bytes"),
-        3 => io::write_all(STDOUT_FILENO, b"\tup to 32 zeros in a row"),
-        _ => io::write_all(STDOUT_FILENO, b"\tcut"),
+fn name(encoding: EncodingMode) {
+    match encoding {
+        EncodingMode::Group4 => io::write_all(STDOUT_FILENO, b"Group 4"),
+        EncodingMode::Group3_1D => io::write_all(STDOUT_FILENO, b"Group 3 1D"),
+        EncodingMode::Group3_2D => io::write_all(STDOUT_FILENO, b"Group 3 2D"),
     }
     ;
 }
 
-// The outcome of one copy: 0 the heads that were ticked, 1 refused by the reading, 2 as 13, 3 as 12, 4 other heads.
-fn outcome(src: &[u8], settings: DecodeSettings, heads: u32) -> usize {
-    let mut changes = [0u32; 32768];
-    let mut ends = [0u64; 4096];
-    let mut marks = [0u8; 4096];
-    let read = ccitt::decode(src, settings, &mut changes, &mut ends, &mut marks);
-    if read.number != 0 {
-        return 1;
-    }
-    let kept = copies::front_ends(&ends, read.rows as usize);
-    let said = heads::heads(1728, &changes, kept, &marks, form::form(), 20, 100);
-    if said.number == 13 {
-        return 2;
-    }
-    if said.number == 12 {
-        return 3;
-    }
-    if said.heads == heads { 0 } else { 4 }
+// Writes a page; how many bytes it has.
+fn written(encoding: EncodingMode, changes: &[u32], ends: &[u64], out: &mut [u8]) -> usize {
+    let columns = sheet::COLUMNS;
+    let said = match encoding {
+        EncodingMode::Group4 => writer::write_page(columns, changes, ends, out),
+        EncodingMode::Group3_1D => writer::write_group3_1d(columns, changes, ends, true, FILL, out),
+        EncodingMode::Group3_2D => writer::write_group3_2d(columns, changes, ends, K, out),
+    };
+    said.bytes as usize
 }
 
-// One copy, and its outcome.
-fn one(src: &[u8], settings: DecodeSettings, heads: u32, kind: u64, seed: u64) -> usize {
-    let mut copy = [0u8; 4096];
-    let n = copies::damaged(src, kind, seed, &mut copy);
-    outcome(copies::front(&copy, n), settings, heads)
+// So many numbers of heads there are, and so many numbers of which one is drawn for a picture.
+const HEADS: u64 = 100;
+
+const LOTS: u64 = 65536;
+
+// The heads that a form is drawn for: every number in turn.
+fn heads_of(seed: u64) -> u32 {
+    (seed % HEADS) as u32
 }
 
-fn one_more(n: u64, counts: bool) -> u64 {
-    if !counts {
-        return n;
+// The heads that a copy may be counted with.
+fn may(damage: Damage, heads: u32) -> u32 {
+    match damage {
+        Damage::SecondTick => tally::NO_HEADS,
+        Damage::NoTick => tally::NO_HEADS,
+        _ => heads,
     }
-    if n < 4294967296 { n + 1 } else { n }
 }
 
-fn other(kind: u64, seed: u64) {
-    io::write_all(STDOUT_FILENO, b"other heads");
-    name(kind);
+// A form is drawn and written, and a copy damaged; how many bytes the copy has.
+fn copy(encoding: EncodingMode, damage: Damage, seed: u64, out: &mut [u8]) -> usize {
+    let mut changes = [0u32; 2048];
+    let mut ends = [0u64; 512];
+    let mut page = [0u8; 8192];
+    let lot = (copies::start(damage, seed) / 64 % LOTS) as u32;
+    let form = sheet::drawn_for(damage, heads_of(seed), (seed % LOTS) as u32, lot);
+    sheet::draw(form, form.rows, &mut changes, &mut ends);
+    let kept = copies::front_ends(&ends, form.rows as usize);
+    let size = written(encoding, &changes, kept, &mut page);
+    copies::damaged(copies::front(&page, size), damage, seed, out)
+}
+
+fn tell_wrong(encoding: EncodingMode, damage: Damage, seed: u64) {
+    io::write_all(STDOUT_FILENO, b"wrong\t");
+    name(encoding);
+    damage::print(damage);
     field(seed);
     io::write_all(STDOUT_FILENO, b"\n");
 }
 
-// How many copies had each outcome.
-struct Tally {
-    right: u64,
-    reading: u64,
-    touched: u64,
-    ticks: u64,
-    wrong: u64,
-}
-
-fn counted(counts: Tally, said: usize) -> Tally {
-    Tally {
-        right: one_more(counts.right, said == 0),
-        reading: one_more(counts.reading, said == 1),
-        touched: one_more(counts.touched, said == 2),
-        ticks: one_more(counts.ticks, said == 3),
-        wrong: one_more(counts.wrong, said == 4),
+// What came of one copy, by the desk and by the old tests.
+fn tried(tally: Tally, encoding: EncodingMode, damage: Damage, seed: u64) -> Tally {
+    let mut out = [0u8; 8224];
+    let size = copy(encoding, damage, seed, &mut out);
+    let src = copies::front(&out, size);
+    let heads = may(damage, heads_of(seed));
+    let came = tally::came(asked::by_desk(src, encoding), heads);
+    match came {
+        Outcome::Wrong => tell_wrong(encoding, damage, seed),
+        _ => {}
     }
+    let old = asked::by_old_tests(src, encoding);
+    tally::counted_old(tally::counted(tally, came), old, heads)
 }
 
-// One copy; a damage after which other heads are read is told.
-fn tried(
-    counts: Tally,
-    src: &[u8],
-    settings: DecodeSettings,
-    heads: u32,
-    kind: u64,
-    seed: u64,
-) -> Tally {
-    let said = one(src, settings, heads, kind, seed);
-    if said == 4 {
-        other(kind, seed);
-    }
-    counted(counts, said)
-}
-
-fn all(src: &[u8], settings: DecodeSettings, heads: u32, kind: u64, copies: u64) -> Tally {
-    let mut counts = Tally {
-        right: 0,
-        reading: 0,
-        touched: 0,
-        ticks: 0,
-        wrong: 0,
-    };
+fn all(encoding: EncodingMode, damage: Damage, copies: u64) -> Tally {
+    let mut tally = tally::none();
     let mut seed: u64 = 0;
     while seed < copies {
-        counts = tried(counts, src, settings, heads, kind, seed);
+        tally = tried(tally, encoding, damage, seed);
         seed += 1;
     }
-    counts
+    tally
 }
 
-fn line(page: &[u8], src: &[u8], settings: DecodeSettings, heads: u32, kind: u64, copies: u64) {
-    let counts = all(src, settings, heads, kind, copies);
-    io::write_all(STDOUT_FILENO, page);
-    name(kind);
+fn line(encoding: EncodingMode, damage: Damage, copies: u64) {
+    let tally = all(encoding, damage, copies);
+    name(encoding);
+    damage::print(damage);
     field(copies);
-    field(counts.right);
-    field(counts.reading);
-    field(counts.touched);
-    field(counts.ticks);
-    field(counts.wrong);
+    field(tally.right);
+    field(tally.reading);
+    field(tally.page);
+    field(tally.pixels);
+    field(tally.ticks);
+    field(tally.wrong);
+    field(tally.old);
     io::write_all(STDOUT_FILENO, b"\n");
 }
 
-fn page(name: &[u8], src: &[u8], settings: DecodeSettings, heads: u32) {
-    line(name, src, settings, heads, 0, 400);
-    line(name, src, settings, heads, 1, 400);
-    line(name, src, settings, heads, 2, 400);
-    line(name, src, settings, heads, 3, 400);
-    line(name, src, settings, heads, 4, 200);
+fn lines(encoding: EncodingMode) {
+    line(encoding, Damage::Nothing, OF_PICTURES);
+    line(encoding, Damage::RowLost, OF_PICTURES);
+    line(encoding, Damage::RowDoubled, OF_PICTURES);
+    line(encoding, Damage::Slid, OF_PICTURES);
+    line(encoding, Damage::SecondTick, OF_PICTURES);
+    line(encoding, Damage::NoTick, OF_PICTURES);
+    line(encoding, Damage::Bit, OF_BYTES);
+    line(encoding, Damage::Byte, OF_BYTES);
+    line(encoding, Damage::Bytes, OF_BYTES);
+    line(encoding, Damage::Zeros, OF_BYTES);
+    line(encoding, Damage::Cut, OF_BYTES);
+    line(encoding, Damage::Lost, OF_BYTES);
+    line(encoding, Damage::PutIn, OF_BYTES);
 }
 
 fn main() {
-    let mut forty = [0u8; 972];
-    io::read_full(STDIN_FILENO, &mut forty);
-    let mut seventeen = [0u8; 3999];
-    io::read_full(STDIN_FILENO, &mut seventeen);
-    let group4 = EncodingMode::Group4;
-    let group3 = EncodingMode::Group3_1D;
-    page(
-        b"forty.g4\tlenient",
-        &forty,
-        settings(group4, false, false),
-        40,
-    );
-    page(
-        b"forty.g4\tstrict",
-        &forty,
-        settings(group4, false, true),
-        40,
-    );
-    page(
-        b"seventeen.g31d\tlenient",
-        &seventeen,
-        settings(group3, true, false),
-        17,
-    );
-    page(
-        b"seventeen.g31d\tstrict",
-        &seventeen,
-        settings(group3, true, true),
-        17,
-    );
+    lines(EncodingMode::Group4);
+    lines(EncodingMode::Group3_1D);
+    lines(EncodingMode::Group3_2D);
 }

@@ -6,10 +6,13 @@ use Rattle.test_damage.proofs.all.Statement.{statement}
 use Rattle.test_damage.proofs.all.Tie as tie
 
 abbrev Inv-loop : tie.InvT-loop
-Inv-loop src settings heads kind copies counts₀ seed₀ counts seed = seed₀ ≤ seed
+Inv-loop encoding damage copies tally₀ seed₀ tally seed = seed₀ ≤ seed
 
 abbrev μ-loop : tie.MeasureT-loop
-μ-loop src settings heads kind copies counts₀ seed₀ counts seed = copies - seed
+μ-loop encoding damage copies tally₀ seed₀ tally seed = copies - seed
+
+none-requires : tie.Need-none-requires Inv-loop μ-loop
+none-requires c κs = search needs
 
 loop-holds : tie.Need-loop-holds Inv-loop μ-loop
 loop-holds c = omega arith
@@ -35,6 +38,7 @@ all-spec =
     (tie.spec
     Inv-loop
     μ-loop
+    none-requires
     loop-holds
     tried-requires
     add-seed
