@@ -12,6 +12,9 @@
 /* Data is at most so long here, and a page has at most 8 x bytes + 1 changes, and as many rows. */
 enum { LONGEST = 1 << 16, ROOM = 8 * LONGEST + 1 };
 
+/* The rows of a booking form's page (README.md). */
+enum { FORM_ROWS = 400 };
+
 /* A page, as a decoder leaves it: columns, what it answered, and the rows. */
 struct page {
     uint32_t columns;
@@ -101,8 +104,13 @@ static void write_again(void) {
     compare("Group 3 2D", &a);
 }
 
-/* The insides of the boxes of a booking form (README.md), of which a tick blackens 20 pixels or more; from a quota of 39. */
+/* The insides of the boxes of a booking form (README.md), of which a tick blackens 20 pixels or more; from a quota of 39. A page that was not read to its
+   end, or has other rows than the form's, is not counted: ccitt_heads sees its kept rows alone, and takes what is not there for white. */
 static void count_heads(void) {
+    if (page.answer.number != CCITT_COMPLETE || page.answer.rows != FORM_ROWS) {
+        printf("heads: not counted: answer %u, %llu rows, and the form's page has %d\n", (unsigned)page.answer.number, (unsigned long long)page.answer.rows, FORM_ROWS);
+        return;
+    }
     uint32_t boxes[10][2][4];
     for (uint32_t digit = 0; digit < 10; digit++)
         for (uint32_t column = 0; column < 2; column++) {
@@ -120,7 +128,7 @@ static void count_heads(void) {
 /* The verdict on the page as the desk reads it, by a form file's text with the same boxes. */
 static void judge(size_t length) {
     char form[2048];
-    size_t n = (size_t)sprintf(form, "page 1728 400\ntick 20\ndoubt 6\n");
+    size_t n = (size_t)sprintf(form, "page 1728 %d\ntick 20\ndoubt 6\n", FORM_ROWS);
     for (unsigned digit = 0; digit < 10; digit++)
         for (unsigned column = 0; column < 2; column++) {
             unsigned left = column ? 702 : 202, top = 78 + 31 * digit;

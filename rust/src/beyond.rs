@@ -17,7 +17,7 @@ pub use crate::row::{Mark, Row};
 pub use crate::settings::Settings;
 pub use fault::Fault;
 pub use form_fault::{BoxColumn, BoxName, FormFault, Missing};
-pub use heads::{Heads, TickBox, heads};
+pub use heads::{Heads, TickBox, heads, read_heads};
 pub use line::{Line, read_line};
 pub use reason::Reason;
 pub use rows::{OwnedRow, Rows};

@@ -33,6 +33,18 @@ pub enum Fault {
     Ticks,
     /// A box of a form holds a pixel of a row that was not read clean.
     Mended,
+    /// Bytes are left behind the page of a form: a second page?
+    BytesBehind {
+        /// How many.
+        count: u64,
+    },
+    /// The page of a form has other rows than it is to have.
+    OtherRows {
+        /// How many it has.
+        count: u64,
+        /// How many it is to have.
+        rows: u32,
+    },
 }
 
 impl Fault {
@@ -76,6 +88,8 @@ impl Display for Fault {
             Self::Form => write!(f, "a form whose edges, least count or quota are out of order"),
             Self::Ticks => write!(f, "not exactly one tick in a column of the form"),
             Self::Mended => write!(f, "a box of the form over a row that was not read clean"),
+            Self::BytesBehind { count } => write!(f, "bytes behind the page: {count}; a second page?"),
+            Self::OtherRows { count, rows } => write!(f, "the page has {count} rows, and the form's page has {rows}"),
         }
     }
 }
