@@ -1,12 +1,12 @@
 -- Room in the books, and the books behind a page. Assumes nothing.
 use mathlib.Core.Path.{_≡_, refl, sym, ap, ap₂, _∙_}
-use mathlib.Core.Bool.{Bool, true, false, _&&_}
+use mathlib.Core.Bool.{Bool, true, false, not, _&&_}
 use Prim.Native.Nat.{ℕ, suc, _+_, _-_, _≤_, _<_}
 use native.Mathlib.Omega.{arith}
 use lib.Dec.{leb, ltb, eqb}
 use lib.IntN.{ℤ}
 use borrow.Author.Tests.{ltb-true, ltb-false, leb-true, leb-false, lt-ltb, le-ltb, lt-leb, le-leb, eq-eqb, ne-eqb}
-use Rattle.ledger.specs.Books.{booked, hasRoom, bookedIn}
+use Rattle.ledger.specs.Books.{left, isBelow, statusOf, booked, hasRoom, bookedIn}
 use Rattle.ledger.specs.declared.Ledger.{Ledger}
 use Rattle.ledger.specs.declared.Verdict.{Verdict}
 
@@ -62,3 +62,18 @@ module _ (b : Ledger) (v : Verdict) where
       ap₂ (λ (x : ℤ) (n : ℕ). made x (b .heads) n (b .looked + 1)) e s
       ∙ ap (λ (n : ℕ). made (b .quota) (b .heads) (suc (b .pages)) n) t
       ∙ sym (rw (bookedIn, r, booked, ne-eqb (v .number) 0 z))
+
+-- ---- What a run ends with
+
+module _ (b : Ledger) where
+  abbrev by-tests : Bool → Bool → ℕ
+  by-tests s t = elim (s && not t) [ true ↦ 0 | false ↦ 1 ]
+
+  pub looked-at : (b .looked ≡ 0 → ⊥) → 1 ≡ statusOf b
+  looked-at h = sym (ap (λ (s : Bool). by-tests s (isBelow (left b))) (ne-eqb (b .looked) 0 h))
+
+  pub passed-by : b .looked ≡ 0 → isBelow (left b) ≡ true → 1 ≡ statusOf b
+  passed-by h e = sym (ap₂ by-tests (eq-eqb (b .looked) 0 h) e)
+
+  pub all-well : b .looked ≡ 0 → isBelow (left b) ≡ false → 0 ≡ statusOf b
+  all-well h e = sym (ap₂ by-tests (eq-eqb (b .looked) 0 h) e)

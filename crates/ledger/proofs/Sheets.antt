@@ -81,7 +81,31 @@ too-long : said (looked 46 0 0 0 0 0 0 0) ≡ ascii "b\t46\t-\t30\t46: the file 
 unfolding said looked ascii digits decimal S.fill S.shown S.pageLine P.words P.reasonAt P.plainAt books
 too-long = refl
 
+no-encoding : said (S.unread 47) ≡ ascii "b\t47\t-\t30\t47: neither the name's ending nor --encoding says how the page is written\n"
+unfolding said ascii digits decimal S.fill S.shown S.pageLine P.words P.reasonAt P.plainAt books
+no-encoding = refl
+
+cut-file : said (S.unread 48) ≡ ascii "b\t48\t-\t30\t48: fewer bytes could be read than the file has\n"
+unfolding said ascii digits decimal S.fill S.shown S.pageLine P.words P.reasonAt P.plainAt books
+cut-file = refl
+
 -- a number that no verdict on a page has
-no-verdict : said (looked 47 0 0 0 0 0 0 0) ≡ ascii "b\t47\t-\t30\t47: no answer that a page has\n"
+no-verdict : said (looked 49 0 0 0 0 0 0 0) ≡ ascii "b\t49\t-\t30\t49: no answer that a page has\n"
 unfolding said looked ascii digits decimal S.fill S.shown S.pageLine P.words P.reasonAt P.plainAt books
 no-verdict = refl
+
+-- ---- Reasons alone
+
+bad-form : S.reasonLine (looked 32 0 7 0 0 0 0 0) ≡ ascii "32: the form's line 7 is none of a form\n"
+unfolding looked ascii digits decimal S.fill S.shown S.reasonLine P.words P.reasonAt P.plainAt
+bad-form = refl
+
+done : S.reasonLine party ≡ ascii "0: done\n"
+unfolding party ascii digits decimal S.fill S.shown S.reasonLine P.words P.reasonAt P.plainAt
+done = refl
+
+-- ---- What a run ends with
+
+ends-with : (B.statusOf books ≡ 0) × (B.statusOf (B.booked books party) ≡ 1) × (B.statusOf (B.booked books (S.unread 42)) ≡ 1)
+unfolding B.booked books party
+ends-with = (refl, refl, refl)

@@ -14,8 +14,9 @@ use Rattle.listing_text.specs.Listed.{Prints}
 use Rattle.listing_text.proofs.Lengths.{decimal-short}
 use Rattle.listing_text.proofs.Written.{Owes, owes-all, owes-room, owes-some, owes-last-room, owes-last}
 use Rattle.listing_text.specs.Lines.{pieces, linesOf}
+use Rattle.ledger.specs.Balance.{opened}
 use Rattle.ledger.specs.Books.{left}
-use Rattle.ledger.specs.Said.{isLetter, fill, numbers, reasonWith, headAt, totalAt, pageLine, totalLine, noVerdict, Tells, shown, shownByte}
+use Rattle.ledger.specs.Said.{isLetter, fill, numbers, reasonWith, headAt, aloneAt, totalAt, lineOf, pageLine, reasonLine, totalLine, noVerdict, Tells, shown, shownByte}
 use Rattle.ledger.specs.Phrases.{words, lined, phrase, one, reasonAt}
 use Rattle.ledger.specs.Books.{isBelow, size}
 use Rattle.ledger.specs.declared.Ledger.{Ledger}
@@ -85,21 +86,18 @@ pub length-shown : (name : List ℕ) → length (shown name) ≡ length name
 unfolding shown
 length-shown name = length-map name shownByte
 
-pub page-room : (out name ns : List ℕ) (v : Verdict) (b : Ledger) → ns ≡ numbers v b → Small ns → length name + 512 ≤ length out → Room out 0 (pageLine name v b)
-unfolding pageLine
-page-room out name ns v b e s h =
-    let ms = numbers v b in
-    let z = small-as e s in
+pub line-room : (out name ns : List ℕ) (v : Verdict) (k : ℕ) → Small ns → length name + 512 ≤ length out → Room out 0 (lineOf name v ns k)
+line-room out name ns v k s h =
     record {
       fits =
           omega (
             arith,
             length-shown name,
-            length-append (shown name) (fill ms (phrase (headAt v b)) ++ (reasonWith v ms ++ newline ∷ [])),
-            length-append (fill ms (phrase (headAt v b))) (reasonWith v ms ++ newline ∷ []),
-            length-append (reasonWith v ms) (newline ∷ []),
-            phrase-short ms z (headAt v b),
-            reason-short v ms z,
+            length-append (shown name) (fill ns (phrase k) ++ (reasonWith v ns ++ newline ∷ [])),
+            length-append (fill ns (phrase k)) (reasonWith v ns ++ newline ∷ []),
+            length-append (reasonWith v ns) (newline ∷ []),
+            phrase-short ns s k,
+            reason-short v ns s,
           );
     }
 
@@ -116,6 +114,15 @@ tells-no n text out e = rw (Tells, e) (refl, refl)
 
 pub tells-yes : (n : ℕ) (text out : List ℕ) {r : ℕ} {after : List ℕ} → leb (n + 512) (length out) ≡ true → Prints out text r after → Tells n text out r after
 tells-yes n text out e p = rw (Tells, e) p
+
+-- a line is its parts
+pub page-parts : (name : List ℕ) (v : Verdict) (b : Ledger) {ns : List ℕ} {k : ℕ} → ns ≡ numbers v b → k ≡ headAt v b → lineOf name v ns k ≡ pageLine name v b
+unfolding pageLine
+page-parts name v b e h = ap₂ (lineOf name v) e h
+
+pub reason-parts : (v : Verdict) {ns : List ℕ} {k : ℕ} → ns ≡ numbers v (opened (pos 0)) → k ≡ aloneAt v → lineOf [] v ns k ≡ reasonLine v
+unfolding reasonLine
+reason-parts v e h = ap₂ (lineOf [] v) e h
 
 -- a text that is put at the front is printed
 pub prints : {out text after : List ℕ} {r : ℕ} → Puts out 0 text r after → Prints out text r after
@@ -152,39 +159,38 @@ total-as b e f g = ap₂ (λ (m n : ℕ). 4 + 2 * m + n) e (f ∙ ap one g)
 
 -- ---- A line, part by part
 
-module _ (out name ns : List ℕ) (v : Verdict) (b : Ledger) (room : Room out 0 (pageLine name v b)) (e : ns ≡ numbers v b) where
+module _ (out name ns : List ℕ) (v : Verdict) (k : ℕ) (room : Room out 0 (lineOf name v ns k)) where
   abbrev rest : List ℕ
-  rest = fill ns (phrase (headAt v b)) ++ (reasonWith v ns ++ newline ∷ [])
+  rest = fill ns (phrase k) ++ (reasonWith v ns ++ newline ∷ [])
 
-  starts : Owes 0 (pageLine name v b) out 0 (shown name ++ rest) out
-  unfolding pageLine
-  starts = rw e (owes-all room)
+  starts : Owes 0 (lineOf name v ns k) out 0 (shown name ++ rest) out
+  starts = owes-all room
 
   pub name-room : Room out 0 (shown name)
   name-room = owes-room starts (shown name) rest refl
 
-  module _ {p : ℕ} {out₁ : List ℕ} (named : Puts out 0 (shown name) p out₁) (h : ℕ) (hd : h ≡ headAt v b) where
-    second : Owes 0 (pageLine name v b) out p (fill ns (phrase h) ++ (reasonWith v ns ++ newline ∷ [])) out₁
-    second = rw hd (owes-some starts (shown name) rest refl named)
+  module _ {p : ℕ} {out₁ : List ℕ} (named : Puts out 0 (shown name) p out₁) where
+    second : Owes 0 (lineOf name v ns k) out p rest out₁
+    second = owes-some starts (shown name) rest refl named
 
-    pub head-room : Room out₁ p (fill ns (phrase h))
-    head-room = owes-room second (fill ns (phrase h)) (reasonWith v ns ++ newline ∷ []) refl
+    pub head-room : Room out₁ p (fill ns (phrase k))
+    head-room = owes-room second (fill ns (phrase k)) (reasonWith v ns ++ newline ∷ []) refl
 
-    module _ {q : ℕ} {out₂ : List ℕ} (headed : Puts out₁ p (fill ns (phrase h)) q out₂) where
-      third : Owes 0 (pageLine name v b) out q (reasonWith v ns ++ newline ∷ []) out₂
-      third = owes-some second (fill ns (phrase h)) (reasonWith v ns ++ newline ∷ []) refl headed
+    module _ {q : ℕ} {out₂ : List ℕ} (headed : Puts out₁ p (fill ns (phrase k)) q out₂) where
+      third : Owes 0 (lineOf name v ns k) out q (reasonWith v ns ++ newline ∷ []) out₂
+      third = owes-some second (fill ns (phrase k)) (reasonWith v ns ++ newline ∷ []) refl headed
 
       pub reason-room : Room out₂ q (reasonWith v ns)
       reason-room = owes-room third (reasonWith v ns) (newline ∷ []) refl
 
       module _ {t : ℕ} {out₃ : List ℕ} (reasoned : Puts out₂ q (reasonWith v ns) t out₃) where
-        fourth : Owes 0 (pageLine name v b) out t (newline ∷ []) out₃
+        fourth : Owes 0 (lineOf name v ns k) out t (newline ∷ []) out₃
         fourth = owes-some third (reasonWith v ns) (newline ∷ []) refl reasoned
 
         pub end-room : Room out₃ t (newline ∷ [])
         end-room = owes-last-room fourth
 
-        pub ended : {u : ℕ} {out₄ : List ℕ} → Puts out₃ t (newline ∷ []) u out₄ → Prints out (pageLine name v b) u out₄
+        pub ended : {u : ℕ} {out₄ : List ℕ} → Puts out₃ t (newline ∷ []) u out₄ → Prints out (lineOf name v ns k) u out₄
         ended w = prints (owes-last fourth w)
 
 module _ (out ns : List ℕ) (b : Ledger) (room : Room out 0 (totalLine b)) (e : ns ≡ numbers noVerdict b) (h : ℕ) (hd : h ≡ totalAt b) where

@@ -1,5 +1,5 @@
 -- The books: what a verdict changes in them.
-use mathlib.Core.Bool.{Bool, true, false, _&&_}
+use mathlib.Core.Bool.{Bool, true, false, not, _&&_}
 use mathlib.Core.List.{List, [], _∷_}
 use Prim.Native.Nat.{ℕ, suc, _+_}
 use lib.Dec.{eqb, leb, ltb}
@@ -22,6 +22,10 @@ isBelow (negsuc n) = true
 abbrev pub size : ℤ → ℕ
 size (pos n) = n
 size (negsuc n) = suc n
+
+-- what a run ends with: 0 where every page was counted and the quota is not passed
+abbrev pub statusOf : Ledger → ℕ
+statusOf b = elim (eqb (b .looked) 0 && not (isBelow (left b))) [ true ↦ 0 | false ↦ 1 ]
 
 -- a page that is counted takes its heads off; one that is not takes nothing off, and is to be looked at
 unfoldable pub booked : Ledger → Verdict → Ledger

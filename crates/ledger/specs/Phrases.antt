@@ -98,6 +98,10 @@ words =
     "the file is empty" ∷
     -- 46
     "the file is longer than the tool holds" ∷
+    -- 47
+    "neither the name's ending nor --encoding says how the page is written" ∷
+    -- 48
+    "fewer bytes could be read than the file has" ∷
     -- 12: a column with no tick, with several
     "the tens column has no tick" ∷
     "the tens column has C ticks" ∷
@@ -123,6 +127,9 @@ words =
     "the form has no line that says its tick" ∷
     "the form has no box of tens D" ∷
     "the form has no box of units D" ∷
+    -- a reason alone, and that there is none
+    "A: " ∷
+    "A: done" ∷
     []
 
 -- the phrase of a number
@@ -146,25 +153,28 @@ isUnits v = not (eqb (v .which % 2) 0)
 
 -- where the phrases of some numbers begin
 abbrev pub ticksSaid : ℕ
-ticksSaid = 45
+ticksSaid = 47
 
 abbrev pub mendedSaid : ℕ
-mendedSaid = 49
+mendedSaid = 51
 
 abbrev pub rowsSaid : ℕ
-rowsSaid = 53
+rowsSaid = 55
 
 abbrev pub uncleanSaid : ℕ
-uncleanSaid = 54
+uncleanSaid = 56
 
 abbrev pub doubtSaid : ℕ
-doubtSaid = 56
+doubtSaid = 58
 
 abbrev pub doubtAboveSaid : ℕ
-doubtAboveSaid = 58
+doubtAboveSaid = 60
 
 abbrev pub missingSaid : ℕ
-missingSaid = 59
+missingSaid = 61
+
+abbrev pub aloneSaid : ℕ
+aloneSaid = 65
 
 -- for a number that no verdict on a page has
 abbrev pub noAnswerSaid : ℕ

@@ -4,11 +4,13 @@ use mathlib.Core.Bool.{Bool, true, false, not, _&&_, _||_}
 use mathlib.Core.List.{List, [], _∷_, _++_, map}
 use Prim.Native.Nat.{ℕ, _+_, _-_, _*_, _/_, _%_}
 use lib.Dec.{eqb, leb, ltb}
+use lib.IntN.{pos}
 use lib.ListN.{length, getD}
 use Rattle.listing_text.specs.Text.{newline, decimal}
 use Rattle.listing_text.specs.Listed.{Prints}
 use Rattle.ledger.specs.Books.{isCounted, left, isBelow, size}
-use Rattle.ledger.specs.Phrases.{phrase, one, reasonAt}
+use Rattle.ledger.specs.Balance.{opened}
+use Rattle.ledger.specs.Phrases.{phrase, one, reasonAt, aloneSaid}
 use Rattle.ledger.specs.declared.Ledger.{Ledger}
 use Rattle.ledger.specs.declared.Verdict.{Verdict}
 
@@ -65,12 +67,27 @@ headAt v b = 2 * one (not (isCounted v)) + one (isBelow (left b))
 abbrev pub reasonWith : Verdict → List ℕ → List ℕ
 reasonWith v ns = elim (isCounted v) [ true ↦ [] | false ↦ fill ns (phrase (reasonAt v)) ]
 
+-- a line: a name, a phrase, the reason
+abbrev pub lineOf : List ℕ → Verdict → List ℕ → ℕ → List ℕ
+lineOf name v ns k = shown name ++ (fill ns (phrase k) ++ (reasonWith v ns ++ newline ∷ []))
+
 -- the line of a page, with the books behind it
 unfoldable pub pageLine : List ℕ → Verdict → Ledger → List ℕ
-pageLine name v b = shown name ++ (filledWith v b (headAt v b) ++ (reasonWith v (numbers v b) ++ newline ∷ []))
+pageLine name v b = lineOf name v (numbers v b) (headAt v b)
+
+-- the verdict on a page whose file cannot be used: a number, and nothing else
+abbrev pub unread : ℕ → Verdict
+unread number = record { number = number; heads = 0; which = 0; line = 0; rows = 0; bytes = 0; place = 0; row = 0; count = 0; least = 0; most = 0 }
 
 abbrev pub noVerdict : Verdict
-noVerdict = record { number = 0; heads = 0; which = 0; line = 0; rows = 0; bytes = 0; place = 0; row = 0; count = 0; least = 0; most = 0 }
+noVerdict = unread 0
+
+-- the reason alone, as `A: reason`; `0: done` where there is none
+abbrev pub aloneAt : Verdict → ℕ
+aloneAt v = aloneSaid + one (isCounted v)
+
+unfoldable pub reasonLine : Verdict → List ℕ
+reasonLine v = lineOf [] v (numbers v (opened (pos 0))) (aloneAt v)
 
 abbrev pub totalAt : Ledger → ℕ
 totalAt b = 4 + 2 * one (eqb (b .pages) 1) + one (isBelow (left b))

@@ -91,6 +91,14 @@ emptyFile = 45
 abbrev pub longFile : ℕ
 longFile = 46
 
+-- neither its name's ending nor the command says the encoding
+abbrev pub noEncoding : ℕ
+noEncoding = 47
+
+-- it ended before its length
+abbrev pub cutFile : ℕ
+cutFile = 48
+
 -- ---- The ranges
 
 -- the last of the page's, the first of the form's, and the last of all
@@ -101,4 +109,4 @@ abbrev pub firstOfForm : ℕ
 firstOfForm = 32
 
 abbrev pub lastVerdict : ℕ
-lastVerdict = 46
+lastVerdict = 48

@@ -6,8 +6,11 @@ mod quota;
 mod said;
 
 pub use entry::enter;
+pub use quota::status;
 pub use said::put_line;
+pub use said::put_reason;
 pub use said::put_total;
+pub use said::unread;
 
 // The verdict on a page: its number (0: counted, and the heads); the box, as 2 x digit + 1 for units, or the column, that it is about,
 // and the line of the form; the rows, the bytes and the place of the reading; the row, from 1; the count that was found, and what it
@@ -84,7 +87,8 @@ pub const LONG_FORM: u32 = 40;
 
 pub const UNFIT_FORM: u32 = 41;
 
-// Of the page's file: there is none, it cannot be read, it is a folder, it is empty, it is longer than the program holds.
+// Of the page's file: there is none, it cannot be read, it is a folder, it is empty, it is longer than the program holds, nothing says
+// its encoding, it ended before its length.
 pub const NO_FILE: u32 = 42;
 
 pub const UNREADABLE_FILE: u32 = 43;
@@ -94,3 +98,7 @@ pub const A_FOLDER: u32 = 44;
 pub const EMPTY_FILE: u32 = 45;
 
 pub const LONG_FILE: u32 = 46;
+
+pub const NO_ENCODING: u32 = 47;
+
+pub const CUT_FILE: u32 = 48;

@@ -14,21 +14,23 @@ const FORM_REASONS: usize = 2;
 const NO_ANSWER: usize = 16;
 
 // Where the phrases of some numbers begin.
-const TICKS: usize = 45;
+const TICKS: usize = 47;
 
-const MENDED: usize = 49;
+const MENDED: usize = 51;
 
-const ROWS: usize = 53;
+const ROWS: usize = 55;
 
-const UNCLEAN: usize = 54;
+const UNCLEAN: usize = 56;
 
-const DOUBT: usize = 56;
+const DOUBT: usize = 58;
 
-const DOUBT_ABOVE: usize = 58;
+const DOUBT_ABOVE: usize = 60;
 
-const MISSING: usize = 59;
+const MISSING: usize = 61;
 
-pub(crate) fn phrases() -> [u8; 2543]
+pub(crate) const ALONE: usize = 65;
+
+pub(crate) fn phrases() -> [u8; 2669]
     ensures { λ r. ⌜ r ≡ lined words ⌝ }
 {
     *b"\tA\tH\tN\tcounted\n\
@@ -76,6 +78,8 @@ pub(crate) fn phrases() -> [u8; 2543]
         a folder, and no file\n\
         the file is empty\n\
         the file is longer than the tool holds\n\
+        neither the name's ending nor --encoding says how the page is written\n\
+        fewer bytes could be read than the file has\n\
         the tens column has no tick\n\
         the tens column has C ticks\n\
         the units column has no tick\n\
@@ -93,7 +97,9 @@ pub(crate) fn phrases() -> [u8; 2543]
         the form has no line that says its page\n\
         the form has no line that says its tick\n\
         the form has no box of tens D\n\
-        the form has no box of units D\n"
+        the form has no box of units D\n\
+        A: \n\
+        A: done\n"
 }
 
 pub(crate) fn one(b: bool) -> usize
@@ -113,7 +119,7 @@ fn plain_at(number: u32) -> usize
     if number < crate::NO_FORM_LINE {
         return NO_ANSWER;
     }
-    if crate::LONG_FILE < number {
+    if crate::CUT_FILE < number {
         return NO_ANSWER;
     }
     number as usize - FORM_REASONS

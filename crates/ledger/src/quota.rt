@@ -2,7 +2,7 @@
 use crate::Ledger;
 ghost use mathlib.Core.Path.{_≡_};
 ghost use lib.IntN.{pos, _-ℤ_};
-ghost use Rattle.ledger.specs.Books.{left, isBelow, size};
+ghost use Rattle.ledger.specs.Books.{left, isBelow, size, statusOf};
 
 fn is_negative(n: i32) -> bool
     ensures { λ r. ⌜ r ≡ isBelow n ⌝ }
@@ -55,4 +55,17 @@ pub(crate) fn size_left(b: Ledger) -> u64
     ensures { λ r. ⌜ r ≡ size (left b) ⌝ }
 {
     left_size(b.quota, b.heads)
+}
+
+// What a run ends with: 0 where every page was counted and the quota is not passed, else 1.
+pub fn status(b: Ledger) -> u32
+    ensures { λ r. ⌜ r ≡ statusOf b ⌝ }
+{
+    if b.looked != 0 {
+        return 1;
+    }
+    if is_passed(b) {
+        return 1;
+    }
+    0
 }

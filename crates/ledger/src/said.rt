@@ -1,6 +1,7 @@
 // The line of a page and the total's: phrases with their numbers.
 use crate::Ledger;
 use crate::Verdict;
+use crate::phrases::ALONE;
 use crate::phrases::one;
 use crate::phrases::phrases;
 use crate::phrases::reason_at;
@@ -13,14 +14,16 @@ use listing_text::text_lines::line_start;
 ghost use mathlib.Core.Path.{_≡_};
 ghost use mathlib.Core.List.{[], _∷_};
 ghost use Prim.Native.Nat.{_-_};
+ghost use lib.IntN.{pos};
 ghost use lib.ListN.{length, getD};
 ghost use Rattle.listing_text.specs.Writing.{Room, Puts};
 ghost use Rattle.listing_text.specs.Listed.{Prints};
 ghost use Rattle.listing_text.specs.Lines.{linesOf};
+ghost use Rattle.ledger.specs.Balance.{opened};
 ghost use Rattle.ledger.specs.Phrases.{phrase};
 ghost use Rattle.ledger.specs.Said as Said;
-ghost use Rattle.ledger.specs.Said.{isLetter, fill, shownByte, shown, headAt, totalAt, reasonWith};
-ghost use Rattle.ledger.specs.Said.{pageLine, totalLine, noVerdict, lineRoom, Tells};
+ghost use Rattle.ledger.specs.Said.{isLetter, fill, shownByte, shown, totalAt, reasonWith};
+ghost use Rattle.ledger.specs.Said.{lineOf, pageLine, reasonLine, totalLine, noVerdict, lineRoom, Tells};
 
 // A line has at most so many bytes beside its name.
 const LINE_ROOM: usize = 512;
@@ -114,19 +117,14 @@ fn put_phrase(out: &mut [u8], at: usize, k: usize, numbers: &[u64]) -> usize
     put_line_of(out, at, &text, k, numbers)
 }
 
-fn head_at(v: Verdict, b: Ledger) -> usize
-    ensures { λ r. ⌜ r ≡ headAt v b ⌝ }
-{
-    2 * one(v.number != 0) + one(is_passed(b))
-}
-
 fn total_at(b: Ledger) -> usize
     ensures { λ r. ⌜ r ≡ totalAt b ⌝ }
 {
     4 + 2 * one(b.pages == 1) + one(is_passed(b))
 }
 
-fn put_reason(out: &mut [u8], at: usize, v: Verdict, numbers: &[u64]) -> usize
+// The reason of a page that is to be looked at.
+fn put_words(out: &mut [u8], at: usize, v: Verdict, numbers: &[u64]) -> usize
     requires { ⌜ Room (now out) at (reasonWith v (now numbers)) ⌝ }
     ensures { λ r. ⌜ Puts (now (out .entry)) at (reasonWith v (now (numbers .entry))) r (now (out .exit)) ⌝ }
 {
@@ -162,13 +160,13 @@ fn put_name(out: &mut [u8], at: usize, name: &[u8]) -> usize
     p
 }
 
-fn put_page_line(out: &mut [u8], name: &[u8], v: Verdict, b: Ledger, ns: &[u64]) -> usize
-    requires { ⌜ Room (now out) 0 (pageLine (now name) v b) × (now ns ≡ Said.numbers v b) ⌝ }
-    ensures { λ r. ⌜ Prints (now (out .entry)) (pageLine (now (name .entry)) v b) r (now (out .exit)) ⌝ }
+fn put_parts(out: &mut [u8], name: &[u8], v: Verdict, k: usize, ns: &[u64]) -> usize
+    requires { ⌜ Room (now out) 0 (lineOf (now name) v (now ns) k) ⌝ }
+    ensures { λ r. ⌜ Prints (now (out .entry)) (lineOf (now (name .entry)) v (now (ns .entry)) k) r (now (out .exit)) ⌝ }
 {
     let p = put_name(out, 0, name);
-    let p = put_phrase(out, p, head_at(v, b), ns);
-    let p = put_reason(out, p, v, ns);
+    let p = put_phrase(out, p, k, ns);
+    let p = put_words(out, p, v, ns);
     put_byte(out, p, b'\n')
 }
 
@@ -182,14 +180,13 @@ pub(crate) fn has_room(out: usize, name: usize) -> bool
 }
 
 // With its numbers.
-fn put_known(out: &mut [u8], name: &[u8], v: Verdict, b: Ledger, ns: &[u64]) -> usize
-    requires { ⌜ now ns ≡ Said.numbers v b ⌝ }
-    ensures { λ r. ⌜ Tells (length (now (name .entry))) (pageLine (now (name .entry)) v b) (now (out .entry)) r (now (out .exit)) ⌝ }
+fn put_known(out: &mut [u8], name: &[u8], v: Verdict, k: usize, ns: &[u64]) -> usize
+    ensures { λ r. ⌜ Tells (length (now (name .entry))) (lineOf (now (name .entry)) v (now (ns .entry)) k) (now (out .entry)) r (now (out .exit)) ⌝ }
 {
     if !has_room(out.len(), name.len()) {
         return 0;
     }
-    put_page_line(out, name, v, b, ns)
+    put_parts(out, name, v, k, ns)
 }
 
 // The line of a page, with the books behind it; 0 where `out` has no room for 512 bytes beside the name.
@@ -197,14 +194,43 @@ pub fn put_line(out: &mut [u8], name: &[u8], v: Verdict, b: Ledger) -> usize
     ensures { λ r. ⌜ Tells (length (now (name .entry))) (pageLine (now (name .entry)) v b) (now (out .entry)) r (now (out .exit)) ⌝ }
 {
     let ns = numbers(v, b);
-    put_known(out, name, v, b, &ns)
+    let k = 2 * one(v.number != 0) + one(is_passed(b));
+    put_known(out, name, v, k, &ns)
 }
 
-fn nothing() -> Verdict
-    ensures { λ r. ⌜ r ≡ noVerdict ⌝ }
+fn no_books() -> Ledger
+    ensures { λ r. ⌜ r ≡ opened (pos 0) ⌝ }
+{
+    Ledger {
+        quota: 0,
+        heads: 0,
+        pages: 0,
+        looked: 0,
+    }
+}
+
+// What the letters stand for in a reason alone: the verdict's numbers, and no books'.
+fn reason_numbers(v: Verdict) -> [u64; 16]
+    ensures { λ r. ⌜ r ≡ Said.numbers v (opened (pos 0)) ⌝ }
+{
+    numbers(v, no_books())
+}
+
+// The reason of a verdict alone, for what is said of no page; 0 where `out` has no room for 512 bytes.
+pub fn put_reason(out: &mut [u8], v: Verdict) -> usize
+    ensures { λ r. ⌜ Tells 0 (reasonLine v) (now (out .entry)) r (now (out .exit)) ⌝ }
+{
+    let ns = reason_numbers(v);
+    let k = ALONE + one(v.number == 0);
+    put_known(out, b"", v, k, &ns)
+}
+
+// The verdict on a page whose file cannot be used, since there is nothing else to say of it.
+pub fn unread(number: u32) -> Verdict
+    ensures { λ r. ⌜ r ≡ Said.unread number ⌝ }
 {
     Verdict {
-        number: 0,
+        number: number,
         heads: 0,
         which: 0,
         line: 0,
@@ -240,7 +266,7 @@ fn put_known_total(out: &mut [u8], b: Ledger, ns: &[u64]) -> usize
 fn total_numbers(b: Ledger) -> [u64; 16]
     ensures { λ r. ⌜ r ≡ Said.numbers noVerdict b ⌝ }
 {
-    numbers(nothing(), b)
+    numbers(unread(0), b)
 }
 
 // The total's line; 0 where `out` has no room for 512 bytes.

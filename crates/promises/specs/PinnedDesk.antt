@@ -26,7 +26,7 @@ PutsPinned = (before : List ℕ) (at : ℕ) (text : List ℕ) → OneWith (Puts 
 abbrev pub LineEndPinned : Type 0
 LineEndPinned = (text : List ℕ) (at : ℕ) → OneAnswer (LineTo text at)
 
--- put_line and put_total
+-- put_line, put_reason and put_total
 abbrev pub TellsPinned : Type 0
 TellsPinned = (name : ℕ) (text before : List ℕ) → OneWith (Tells name text before)
 

@@ -2,9 +2,12 @@
 use ledger::Entered;
 use ledger::Ledger;
 use ledger::Verdict;
+ghost use mathlib.Core.Path.{_≡_};
 ghost use lib.ListN.{length};
+ghost use Rattle.ledger.specs.Books.{statusOf};
 ghost use Rattle.ledger.specs.Entered.{Enters};
-ghost use Rattle.ledger.specs.Said.{pageLine, totalLine, Tells};
+ghost use Rattle.ledger.specs.Said as Said;
+ghost use Rattle.ledger.specs.Said.{pageLine, reasonLine, totalLine, Tells};
 
 pub fn enter(out: &mut [u8], name: &[u8], v: Verdict, b: Ledger) -> Entered
     ensures { λ r. ⌜ Enters (now (name .entry)) b v (now (out .entry)) r (now (out .exit)) ⌝ }
@@ -22,4 +25,22 @@ pub fn put_total(out: &mut [u8], b: Ledger) -> usize
     ensures { λ r. ⌜ Tells 0 (totalLine b) (now (out .entry)) r (now (out .exit)) ⌝ }
 {
     ledger::put_total(out, b)
+}
+
+pub fn put_reason(out: &mut [u8], v: Verdict) -> usize
+    ensures { λ r. ⌜ Tells 0 (reasonLine v) (now (out .entry)) r (now (out .exit)) ⌝ }
+{
+    ledger::put_reason(out, v)
+}
+
+pub fn unread(number: u32) -> Verdict
+    ensures { λ r. ⌜ r ≡ Said.unread number ⌝ }
+{
+    ledger::unread(number)
+}
+
+pub fn status(b: Ledger) -> u32
+    ensures { λ r. ⌜ r ≡ statusOf b ⌝ }
+{
+    ledger::status(b)
 }

@@ -5,7 +5,7 @@ use lib.ListN.{length}
 use borrow.Author.Tests.{leb-true, not-true, not-false}
 use Rattle.ledger.specs.Said.{pageLine, totalLine, numbers}
 use Rattle.ledger.specs.declared.Verdict.{Verdict}
-use Rattle.ledger.proofs.Whole.{name-room, head-room, reason-room, end-room, ended, page-room, total-room, tells-no, tells-yes, total-words, total-end-room, total-ended}
+use Rattle.ledger.proofs.Whole.{name-room, head-room, reason-room, end-room, ended, total-room, tells-no, tells-yes, total-words, total-end-room, total-ended}
 use borrow.Author.Needs.{needs}
 use Rattle.ledger.proofs.said.put_known_total.Statement.{statement}
 use Rattle.ledger.proofs.said.put_known_total.Tie as tie

@@ -1,33 +1,45 @@
-use mathlib.Core.Path.{_≡_, refl, sym, ap, _∙_}
-use Prim.Native.Nat.{ℕ}
+-- `ledger::said::put_reason` meets its contract. Assumes nothing.
+use Rattle.ledger.proofs.Whole.{reason-parts}
+use Prim.Native.Nat.{ℕ, _+_}
 use denote.Ref.{now}
-use Rattle.listing_text.proofs.Written.{room-as, puts-as, owes-all, owes-none}
-use Rattle.ledger.specs.Said.{fill}
-use Rattle.ledger.specs.Phrases.{phrase}
-use Rattle.ledger.proofs.Whole.{reason-none, reason-some}
+use mathlib.Core.Path.{sym, ap}
 use borrow.Author.Needs.{needs}
 use Rattle.ledger.proofs.said.put_reason.Statement.{statement}
 use Rattle.ledger.proofs.said.put_reason.Tie as tie
-use Rattle.ledger.proofs.said.put_reason.Reads as reads
-use Rattle.ledger.proofs.said.put_reason.Lts as lts
-use Rattle.ledger.proofs.said.put_phrase.Reads as put-phrase-reads
-use Rattle.ledger.proofs.phrases.reason_at.Reads as reason-at-reads
 
-returns : tie.Need-returns
-returns c = owes-none (owes-all (c .before .before .before .before .pre)) (reason-none (c .before .before .before .before .args .v) (now (c .before .before .before .before .args .numbers)) (c .if1 .taken))
+reason-numbers-requires : tie.Need-reason-numbers-requires
+reason-numbers-requires c κs = search needs
 
-reason-at-requires : tie.Need-reason-at-requires
-reason-at-requires c κs = search needs
+one-requires : tie.Need-one-requires
+one-requires c κs = search needs
 
-put-phrase-requires : tie.Need-put-phrase-requires
-put-phrase-requires c κs = room-as (reason-some (c .before .before .before .before .before .before .args .v) (now (c .before .before .before .before .before .before .args .numbers)) (c .before .before .if1 .left) ∙ ap (λ (k : ℕ). fill (now (c .before .before .before .before .before .before .args .numbers)) (phrase k)) (sym (c .reason-at .ensures))) (c .before .before .before .before .before .before .pre)
+add-k : tie.Need-add-k
+add-k c = search needs
+
+slice-aggregate-put-known : tie.Need-slice-aggregate-put-known
+slice-aggregate-put-known c = search needs
+
+slice-aggregate-put-known-2 : tie.Need-slice-aggregate-put-known-2
+slice-aggregate-put-known-2 c = search needs
+
+put-known-requires : tie.Need-put-known-requires
+put-known-requires c κs = search needs
 
 same-length : tie.Need-same-length
 same-length c = search needs
 
-returns-2 : tie.Need-returns-2
-returns-2 c = puts-as (ap (λ (k : ℕ). fill (now (c .before .before .before .before .before .before .before .before .before .args .numbers)) (phrase k)) (c .before .before .before .reason-at .ensures) ∙ sym (reason-some (c .before .before .before .before .before .before .before .before .before .args .v) (now (c .before .before .before .before .before .before .before .before .before .args .numbers)) (c .before .before .before .before .before .if1 .left))) (c .before .before .put-phrase .ensures)
+returns : tie.Need-returns
+returns c = let a = c .before .before .before .before .before .before .before .before .before .before .args in rw (sym (reason-parts (a .v) (c .before .before .before .before .before .before .before .before .reason-numbers .ensures) (ap (λ (n : ℕ). 65 + n) (c .before .before .before .before .before .before .one .ensures .0)))) (c .before .before .put-known .ensures)
 
 pub put-reason-spec : {M : Type 1} → statement M
 put-reason-spec =
-    tie.close (tie.spec returns reason-at-requires put-phrase-requires same-length returns-2)
+    tie.close
+    (tie.spec
+    reason-numbers-requires
+    one-requires
+    add-k
+    slice-aggregate-put-known
+    slice-aggregate-put-known-2
+    put-known-requires
+    same-length
+    returns)

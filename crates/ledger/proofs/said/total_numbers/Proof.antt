@@ -1,4 +1,4 @@
--- `ledger::said::total_numbers` meets its contract. Assumes nothing.
+-- `ledger::said::total_numbers` meets its contract. Assumes unread.
 use mathlib.Core.Path.{_≡_, ap, _∙_}
 use borrow.Author.Needs.{needs}
 use Rattle.ledger.specs.Said.{numbers}
@@ -6,14 +6,14 @@ use Rattle.ledger.specs.declared.Verdict.{Verdict}
 use Rattle.ledger.proofs.said.total_numbers.Statement.{statement}
 use Rattle.ledger.proofs.said.total_numbers.Tie as tie
 
-nothing-requires : tie.Need-nothing-requires
-nothing-requires c κs = search needs
+unread-requires : tie.Need-unread-requires
+unread-requires c κs = search needs
 
 numbers-requires : tie.Need-numbers-requires
 numbers-requires c κs = search needs
 
 returns : tie.Need-returns
-returns c = c .numbers .ensures ∙ ap (λ (v : Verdict). numbers v (c .before .before .args .b)) (c .before .nothing .ensures)
+returns c = c .numbers .ensures ∙ ap (λ (v : Verdict). numbers v (c .before .before .args .b)) (c .before .unread .ensures)
 
 pub total-numbers-spec : {M : Type 1} → statement M
-total-numbers-spec = tie.close (tie.spec nothing-requires numbers-requires returns)
+total-numbers-spec = tie.close (tie.spec unread-requires numbers-requires returns)
