@@ -2,7 +2,7 @@
 mod heard;
 mod said;
 mod whole;
-mod words;
+pub mod words;
 
 use heard::Went;
 use heard::heard;

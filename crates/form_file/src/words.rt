@@ -7,7 +7,7 @@ ghost use Rattle.form_file.specs.Words.{isBlank, same as sameBytes, valu
 ghost use Rattle.form_file.specs.Steps.{ahead, isPlain, isLetter};
 
 // What `value` tells where a word is no number that 32 bits hold.
-pub(crate) const NONE: u64 = 4294967296;
+pub const NONE: u64 = 4294967296;
 
 // A space, or a byte from tab to carriage return.
 pub(crate) fn is_blank(b: u8) -> bool
@@ -65,7 +65,7 @@ pub(crate) fn word_end(line: &[u8], at: usize) -> usize
 }
 
 // Whether two words have the same bytes.
-pub(crate) fn same(word: &[u8], with: &[u8]) -> bool
+pub fn same(word: &[u8], with: &[u8]) -> bool
     ensures { λ r. ⌜ r ≡ sameBytes (now (word .entry)) (now (with .entry)) ⌝ }
 {
     if word.len() != with.len() {
@@ -95,7 +95,7 @@ fn digit(b: u8) -> u64
 }
 
 // The number that a word says; NONE where it says none that 32 bits hold.
-pub(crate) fn value(word: &[u8]) -> u64
+pub fn value(word: &[u8]) -> u64
     ensures { λ r. ⌜ r ≡ valueOf (now (word .entry)) ⌝ }
 {
     let mut n: u64 = 0;

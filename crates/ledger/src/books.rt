@@ -5,7 +5,7 @@ ghost use mathlib.Core.Path.{_≡_};
 ghost use Rattle.ledger.specs.Books.{hasRoom, bookedIn};
 
 // Whether the books have room for a page more.
-pub(crate) fn has_room(b: Ledger, v: Verdict) -> bool
+pub fn has_room(b: Ledger, v: Verdict) -> bool
     ensures { λ r. ⌜ r ≡ hasRoom b v ⌝ }
 {
     if 4294967294 < b.pages {
@@ -18,7 +18,7 @@ pub(crate) fn has_room(b: Ledger, v: Verdict) -> bool
 }
 
 // The books behind a page; books that have no room for it stay as they are.
-pub(crate) fn book(b: Ledger, v: Verdict) -> Ledger
+pub fn book(b: Ledger, v: Verdict) -> Ledger
     ensures { λ r. ⌜ r ≡ bookedIn b v ⌝ }
 {
     if !has_room(b, v) {

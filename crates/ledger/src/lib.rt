@@ -5,11 +5,16 @@ mod phrases;
 mod quota;
 mod said;
 
+pub use books::book;
+pub use books::has_room;
 pub use entry::enter;
+pub use quota::is_passed;
+pub use quota::size_left;
 pub use quota::status;
 pub use said::put_line;
 pub use said::put_reason;
 pub use said::put_total;
+pub use said::shown_byte;
 pub use said::unread;
 
 // The verdict on a page: its number (0: counted, and the heads); the box, as 2 x digit + 1 for units, or the column, that it is about,

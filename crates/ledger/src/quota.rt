@@ -45,13 +45,14 @@ fn left_size(quota: i32, heads: u32) -> u64
     before - off
 }
 
-pub(crate) fn is_passed(b: Ledger) -> bool
+// Whether the quota is passed, and what is left of it, or by how much it is passed.
+pub fn is_passed(b: Ledger) -> bool
     ensures { λ r. ⌜ r ≡ isBelow (left b) ⌝ }
 {
     is_below(b.quota, b.heads)
 }
 
-pub(crate) fn size_left(b: Ledger) -> u64
+pub fn size_left(b: Ledger) -> u64
     ensures { λ r. ⌜ r ≡ size (left b) ⌝ }
 {
     left_size(b.quota, b.heads)

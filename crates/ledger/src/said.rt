@@ -135,7 +135,7 @@ fn put_words(out: &mut [u8], at: usize, v: Verdict, numbers: &[u64]) -> usize
 }
 
 // A byte of a name as it is shown.
-fn shown_byte(b: u8) -> u8
+pub fn shown_byte(b: u8) -> u8
     ensures { λ r. ⌜ r ≡ shownByte b ⌝ }
 {
     if b < 32 {

@@ -40,6 +40,7 @@ pub mod HeadRuns
 pub mod HeadsOfPage
 pub mod Called
 pub mod Ledgers
+pub mod LedgerFiles
 pub mod CountedTicks
 pub mod CountedRows
 pub mod CountedLine

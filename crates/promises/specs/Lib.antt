@@ -32,4 +32,5 @@ pub mod Heads
 pub mod HeadsOfPage
 pub mod Called
 pub mod Ledgers
+pub mod LedgerFiles
 pub mod Booking

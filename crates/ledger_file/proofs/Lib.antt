@@ -1,0 +1,8 @@
+-- Laws over plain variables, which the proofs of the functions cite, and sheets.
+pub mod Fielding
+pub mod Paging
+pub mod Naming
+pub mod Numerals
+pub mod Tabless
+pub mod Rereading
+pub mod Resuming

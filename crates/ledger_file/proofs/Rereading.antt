@@ -1,0 +1,188 @@
+-- The line that a run wrote of a page is read as what it says. Assumes nothing.
+use mathlib.Core.Path.{_≡_, refl, sym, ap, ap₂, _∙_}
+use mathlib.Core.Bool.{Bool, true, false, not, _&&_}
+use mathlib.Core.List.{List, [], _∷_, _++_, append-assoc}
+use Prim.Native.Nat.{ℕ, _+_, _-_, _*_, _≤_, _<_}
+use native.Mathlib.Omega.{arith}
+use lib.Dec.{eqb, leb, ltb}
+use lib.ListN.{length, getD}
+use borrow.Author.Tests.{eqb-true, eqb-false, eq-eqb, leb-true, leb-false}
+use Rattle.listing_text.specs.Text.{ascii, tab, decimal}
+use Rattle.form_file.specs.Words.{same, none}
+use Rattle.form_file.proofs.Wording.{same-self}
+use Rattle.ledger.specs.Books.{isCounted, left, isBelow, size}
+use Rattle.ledger.specs.Phrases.{words, phrase, one, plainAt, missingAt, isUnits, isOfOneNumber, isOfNoLine, reasonAt}
+use Rattle.ledger.specs.Said.{fill, numbers, shown, filledWith, headAt, reasonWith}
+use Rattle.ledger.specs.Lines.{bareLine}
+use Rattle.ledger.proofs.Whole.{length-shown, reason-none, reason-some}
+use Rattle.ledger.specs.declared.Ledger.{Ledger}
+use Rattle.ledger.specs.declared.Verdict.{Verdict}
+use Rattle.ledger_file.specs.Fields.{fieldsOf, field, numberIn}
+use Rattle.ledger_file.specs.Page.{page, pageLineOf}
+use Rattle.ledger_file.specs.Resume.{leftText}
+use Rattle.ledger_file.specs.declared.PageLine.{PageLine}
+use Rattle.ledger_file.proofs.Numerals.{number-decimal}
+use Rattle.ledger_file.proofs.Paging.{refused-so, counted-so}
+use Rattle.ledger_file.proofs.Tabless.{tabless, tabless-append, field-then, field-last-is, decimal-tabless, shown-tabless, phrase-tabless}
+
+-- ---- The reason has no tab
+
+plain-high : (n : ℕ) → (n ≡ 0 → ⊥) → 8 ≤ plainAt n
+unfolding plainAt
+plain-high n h = by (leb n 22) (leb 32 n) (leb n 48) (leb-true 32 n)
+  where
+    by : (r s t : Bool) → (s ≡ true → 32 ≤ n) → 8 ≤ elim r [ true ↦ 7 + n | false ↦ elim (s && t) [ true ↦ n - 2 | false ↦ 16 ] ]
+    by true s t f = above n h
+      where
+        above : (k : ℕ) → (k ≡ 0 → ⊥) → 8 ≤ 7 + k
+        above k g = omega arith
+    by false true true f = omega (arith, f refl)
+    by false true false f = omega arith
+    by false false t f = omega arith
+
+missing-high : (v : Verdict) → 8 ≤ missingAt v
+unfolding missingAt
+missing-high v = by (leb 20 (v .which)) (eqb (v .which) 20)
+  where
+    by : (s t : Bool) → 8 ≤ elim s [ true ↦ elim t [ true ↦ 61 | false ↦ 62 ] | false ↦ 63 + one (isUnits v) ]
+    by true true = omega arith
+    by true false = omega arith
+    by false t = omega arith
+
+either : (t : Bool) (a b : ℕ) → 8 ≤ a → 8 ≤ b → 8 ≤ elim t [ true ↦ a | false ↦ b ]
+either true a b p q = p
+either false a b p q = q
+
+reason-high : (v : Verdict) → (v .number ≡ 0 → ⊥) → 8 ≤ reasonAt v
+unfolding reasonAt
+reason-high v h =
+    either (eqb (v .number) 12) _ _ (omega arith)
+    (either (eqb (v .number) 13) _ _ (omega arith)
+    (either (eqb (v .number) 19) _ _ (omega arith)
+    (either (eqb (v .number) 22) _ _ (omega arith)
+    (either (eqb (v .number) 36) _ _ (missing-high v)
+    (either (isOfOneNumber v) _ _ (omega arith) (either (isOfNoLine v) _ _ (omega arith) (plain-high (v .number) h)))))))
+
+reason-tabless : (v : Verdict) (ns : List ℕ) → tabless (reasonWith v ns) ≡ true
+unfolding tabless
+reason-tabless v ns = by (isCounted v) refl
+  where
+    by : (t : Bool) → isCounted v ≡ t → tabless (elim t [ true ↦ [] | false ↦ fill ns (phrase (reasonAt v)) ]) ≡ true
+    by true e = refl
+    by false e = phrase-tabless ns (reasonAt v) (reason-high v (eqb-false (v .number) 0 e))
+
+-- ---- The fields of a page's line
+
+abbrev pub headsText : Verdict → List ℕ
+headsText v = elim (isCounted v) [ true ↦ decimal (v .heads) | false ↦ 45 ∷ [] ]
+
+-- four fields, and words
+abbrev front : List ℕ → List ℕ → List ℕ → List ℕ → List ℕ
+front number heads quota words = tab ∷ (number ++ tab ∷ (heads ++ tab ∷ (quota ++ tab ∷ words)))
+
+module _ (v : Verdict) (b : Ledger) where
+  record Fronted (s t : Bool) : Type 0 where
+    words-are : List ℕ
+    words-tabless : tabless words-are ≡ true
+    is :
+        fill (numbers v b) (phrase (2 * one (not s) + one t))
+        ≡ front (decimal (v .number)) (elim s [ true ↦ decimal (v .heads) | false ↦ 45 ∷ [] ])
+        (elim t [ true ↦ 45 ∷ decimal (size (left b)) | false ↦ decimal (size (left b)) ])
+        words-are
+
+  fronted : (s t : Bool) → Fronted s t
+  unfolding fill words ascii tabless
+  fronted true false = record { words-are = ascii "counted"; words-tabless = refl; is = refl }
+  fronted true true = record {
+    words-are = ascii "over by " ++ (decimal (size (left b)) ++ []);
+    words-tabless = tabless-append (decimal (size (left b))) [] (decimal-tabless (size (left b))) refl;
+    is = refl;
+  }
+  fronted false false = record {
+    words-are = decimal (v .number) ++ ascii ": ";
+    words-tabless = tabless-append (decimal (v .number)) (ascii ": ") (decimal-tabless (v .number)) refl;
+    is = refl;
+  }
+  fronted false true = record {
+    words-are = decimal (v .number) ++ ascii ": ";
+    words-tabless = tabless-append (decimal (v .number)) (ascii ": ") (decimal-tabless (v .number)) refl;
+    is = refl;
+  }
+
+  heads-tabless : tabless (headsText v) ≡ true
+  unfolding tabless
+  heads-tabless = by (isCounted v)
+    where
+      by : (t : Bool) → tabless (elim t [ true ↦ decimal (v .heads) | false ↦ 45 ∷ [] ]) ≡ true
+      by true = decimal-tabless (v .heads)
+      by false = refl
+
+  left-tabless : tabless (leftText b) ≡ true
+  unfolding tabless
+  left-tabless = by (isBelow (left b))
+    where
+      by : (t : Bool) → tabless (elim t [ true ↦ 45 ∷ decimal (size (left b)) | false ↦ decimal (size (left b)) ]) ≡ true
+      by true = decimal-tabless (size (left b))
+      by false = decimal-tabless (size (left b))
+
+  pub record Fielded (name : List ℕ) : Type 0 where
+    pub words-are : List ℕ
+    pub fields : fieldsOf (bareLine name v b) ≡ shown name ∷ decimal (v .number) ∷ headsText v ∷ leftText b ∷ words-are ∷ []
+
+  pub fielded : (name : List ℕ) → Fielded name
+  unfolding bareLine
+  fielded name =
+      let f = fronted (isCounted v) (isBelow (left b)) in
+      let r = reasonWith v (numbers v b) in
+      let n = decimal (v .number) in
+      let h = headsText v in
+      let q = leftText b in
+      let w = f .words-are in record {
+        words-are = w ++ r;
+        fields =
+            ap (λ (l : List ℕ). fieldsOf (shown name ++ (l ++ r))) (f .is)
+            ∙ ap (λ (l : List ℕ). fieldsOf (shown name ++ tab ∷ l)) (let z : (n ++ tab ∷ (h ++ tab ∷ (q ++ tab ∷ w))) ++ r ≡ n ++ tab ∷ (h ++ tab ∷ (q ++ tab ∷ (w ++ r))) = simp append-assoc in z)
+            ∙ field-then (shown name) (n ++ tab ∷ (h ++ tab ∷ (q ++ tab ∷ (w ++ r)))) (shown-tabless name)
+            ∙ ap (λ (fs : List (List ℕ)). shown name ∷ fs)
+            (field-then n (h ++ tab ∷ (q ++ tab ∷ (w ++ r))) (decimal-tabless (v .number))
+            ∙ ap (λ (fs : List (List ℕ)). n ∷ fs)
+            (field-then h (q ++ tab ∷ (w ++ r)) heads-tabless
+            ∙ ap (λ (fs : List (List ℕ)). h ∷ fs)
+            (field-then q (w ++ r) left-tabless
+            ∙ ap (λ (fs : List (List ℕ)). q ∷ fs) (field-last-is (w ++ r) (tabless-append w r (f .words-tabless) (reason-tabless v (numbers v b)))))));
+      }
+
+-- ---- What is read of it
+
+abbrev pub headsRead : Verdict → ℕ
+headsRead v = elim (isCounted v) [ true ↦ v .heads | false ↦ 0 ]
+
+pub reread : (name : List ℕ) (v : Verdict) (b : Ledger) → v .number < none → v .heads < none → pageLineOf (bareLine name v b) ≡ page (length name) (v .number) (headsRead v)
+reread name v b hn hh = by (isCounted v) refl
+  where
+    line : List ℕ
+    line = bareLine name v b
+
+    at : (k : ℕ) → field k (bareLine name v b) ≡ getD (shown name ∷ decimal (v .number) ∷ headsText v ∷ leftText b ∷ (fielded v b name .words-are) ∷ []) k []
+    at k = ap (λ (fs : List (List ℕ)). getD fs k []) (fielded v b name .fields)
+
+    five : length (fieldsOf (bareLine name v b)) ≡ 5
+    five = ap length (fielded v b name .fields)
+
+    number : numberIn (field 1 (bareLine name v b)) ≡ v .number
+    number = ap numberIn (at 1) ∙ number-decimal (v .number) hn
+
+    long : length (field 0 (bareLine name v b)) ≡ length name
+    long = ap length (at 0) ∙ length-shown name
+
+    by : (t : Bool) → isCounted v ≡ t → pageLineOf (bareLine name v b) ≡ page (length name) (v .number) (elim t [ true ↦ v .heads | false ↦ 0 ])
+    by true e =
+        let z : v .number ≡ 0 = eqb-true (v .number) 0 e in
+        let h : numberIn (field 2 (bareLine name v b)) ≡ v .heads = ap numberIn (at 2 ∙ ap (λ (t : Bool). elim t [ true ↦ decimal (v .heads) | false ↦ 45 ∷ [] ]) e) ∙ number-decimal (v .heads) hh in
+        sym (counted-so (bareLine name v b) five (omega (arith, number)) (number ∙ z) (omega (arith, h)))
+        ∙ ap₂ (λ (x y : ℕ). page x 0 y) long h
+        ∙ ap (λ (x : ℕ). page (length name) x (v .heads)) (sym z)
+    by false e =
+        let z : v .number ≡ 0 → ⊥ = eqb-false (v .number) 0 e in
+        let h : same (field 2 (bareLine name v b)) (45 ∷ []) ≡ true = ap (λ (l : List ℕ). same l (45 ∷ [])) (at 2 ∙ ap (λ (t : Bool). elim t [ true ↦ decimal (v .heads) | false ↦ 45 ∷ [] ]) e) ∙ same-self (45 ∷ []) in
+        sym (refused-so (bareLine name v b) five (omega (arith, number)) (λ y. z (sym number ∙ y)) h) ∙ ap₂ (λ (x y : ℕ). page x y 0) long number

@@ -1,0 +1,4 @@
+-- What the contracts cite.
+pub mod Fields
+pub mod Page
+pub mod Resume

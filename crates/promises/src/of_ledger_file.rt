@@ -1,0 +1,19 @@
+// Calls of the public functions of ledger_file, each with the contract that its promises are about.
+use ledger::Ledger;
+use ledger_file::PageLine;
+use ledger_file::Resumed;
+ghost use mathlib.Core.Path.{_≡_};
+ghost use Rattle.ledger_file.specs.Page.{pageLineOf};
+ghost use Rattle.ledger_file.specs.Resume.{resumed};
+
+pub fn page_line(line: &[u8]) -> PageLine
+    ensures { λ r. ⌜ r ≡ pageLineOf (now (line .entry)) ⌝ }
+{
+    ledger_file::page_line(line)
+}
+
+pub fn resume(line: &[u8], name: &[u8], b: Ledger) -> Resumed
+    ensures { λ r. ⌜ r ≡ resumed (now (line .entry)) (now (name .entry)) b ⌝ }
+{
+    ledger_file::resume(line, name, b)
+}
