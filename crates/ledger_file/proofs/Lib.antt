@@ -6,3 +6,8 @@ pub mod Numerals
 pub mod Tabless
 pub mod Rereading
 pub mod Resuming
+pub mod Totalling
+pub mod Names
+pub mod Tallies
+pub mod Adding
+mod Sheets

@@ -2,3 +2,6 @@
 pub mod Fields
 pub mod Page
 pub mod Resume
+pub mod Total
+pub mod Sums
+pub mod Tallying

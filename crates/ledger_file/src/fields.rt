@@ -37,7 +37,7 @@ pub(crate) fn field_end(line: &[u8], at: usize) -> usize
 }
 
 // Where the field of a number begins; the end of the line where it has no such field.
-fn field_start(line: &[u8], k: usize) -> usize
+pub(crate) fn field_start(line: &[u8], k: usize) -> usize
     ensures { λ r. ⌜ FieldFrom (now (line .entry)) k r ⌝ }
 {
     let mut at = 0;

@@ -14,7 +14,7 @@ use Rattle.ledger.specs.declared.Ledger.{Ledger}
 use Rattle.ledger.specs.declared.Verdict.{Verdict}
 use Rattle.booking.specs.Booked.{Given, Finds}
 use Rattle.exports.specs.Verdict.{Unread, FindsForC}
-use Rattle.promises.specs.PinnedDesk.{PutsPinned, LineEndPinned, TellsPinned, EnterPinned, ReadFormPinned, JudgePinned, One, VerdictPinned, ForCVerdictPinned, BookPagePinned}
+use Rattle.promises.specs.PinnedDesk.{PutsPinned, LineEndPinned, TellsPinned, EnterPinned, AddUpPinned, ReadFormPinned, JudgePinned, One, VerdictPinned, ForCVerdictPinned, BookPagePinned}
 use Rattle.promises.proofs.OneAnswer.{settled-with}
 
 pub puts-pinned : PutsPinned
@@ -42,6 +42,17 @@ tells-pinned name text before r s xs ys = by (lineRoom name (length before))
 pub enter-pinned : EnterPinned
 enter-pinned name b v out r s xs ys g h =
     (λ i. record { ledger = (g .books ∙ sym (h .books)) i; text = (g .length-is ∙ sym (h .length-is)) i }, g .array ∙ sym (h .array))
+
+pub add-up-pinned : AddUpPinned
+add-up-pinned text quota starts r s xs ys g h = (
+  λ i. record {
+    number = (g .number ∙ sym (h .number)) i;
+    ledger = (g .books ∙ sym (h .books)) i;
+    at = (g .at ∙ sym (h .at)) i;
+    other = (g .other ∙ sym (h .other)) i;
+  },
+  g .array ∙ sym (h .array),
+)
 
 pub read-form-pinned : ReadFormPinned
 read-form-pinned text boxes places r s xs ys ps qs g h = (g .formed ∙ sym (h .formed), g .boxes-are ∙ sym (h .boxes-are), g .places-are ∙ sym (h .places-are))

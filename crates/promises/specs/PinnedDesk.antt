@@ -2,6 +2,7 @@
 use mathlib.Core.Path.{_≡_}
 use mathlib.Core.List.{List}
 use Prim.Native.Nat.{ℕ}
+use lib.IntN.{ℤ}
 use Rattle.settings.specs.declared.DecodeSettings.{DecodeSettings}
 use Rattle.listing_text.specs.Lines.{LineTo}
 use Rattle.listing_text.specs.Writing.{Puts}
@@ -9,6 +10,7 @@ use Rattle.ledger.specs.Entered.{Enters}
 use Rattle.ledger.specs.Said.{Tells}
 use Rattle.ledger.specs.declared.Ledger.{Ledger}
 use Rattle.ledger.specs.declared.Verdict.{Verdict}
+use Rattle.ledger_file.specs.Sums.{AddsUp}
 use Rattle.form_file.specs.FormFile.{Forms}
 use Rattle.form_file.specs.declared.Form.{Form}
 use Rattle.form_file.specs.declared.Formed.{Formed}
@@ -33,6 +35,10 @@ TellsPinned = (name : ℕ) (text before : List ℕ) → OneWith (Tells name text
 -- enter
 abbrev pub EnterPinned : Type 0
 EnterPinned = (name : List ℕ) (b : Ledger) (v : Verdict) (out : List ℕ) → OneWith (Enters name b v out)
+
+-- add_up, with where the pages' lines begin
+abbrev pub AddUpPinned : Type 0
+AddUpPinned = (text : List ℕ) (quota : ℤ) (starts : List ℕ) → OneWith (AddsUp text quota starts)
 
 -- read_form, with the boxes and the places
 abbrev pub ReadFormPinned : Type 0

@@ -1,0 +1,72 @@
+// A total's line.
+use crate::fields::count;
+use crate::fields::field_end;
+use crate::fields::field_start;
+use crate::fields::is_field;
+use form_file::words;
+ghost use mathlib.Core.Path.{_≡_};
+ghost use Rattle.form_file.specs.Steps.{ahead};
+ghost use Rattle.ledger_file.specs.Fields.{field};
+ghost use Rattle.ledger_file.specs.Total as Total;
+ghost use Rattle.ledger_file.specs.Total.{isDigit, isTotalWords};
+
+fn is_digit(b: u8) -> bool
+    ensures { λ r. ⌜ r ≡ isDigit b ⌝ }
+{
+    if b < 48 {
+        return false;
+    }
+    b <= 57
+}
+
+// Where the digits end that a word begins with.
+fn digits_end(word: &[u8]) -> usize
+    ensures { λ r. ⌜ r ≡ ahead isDigit (now (word .entry)) ⌝ }
+{
+    let mut i = 0;
+    while i < word.len() {
+        if !is_digit(word[i]) {
+            return i;
+        }
+        i += 1;
+    }
+    i
+}
+
+// Whether a field has the words of a total.
+fn is_total_words(word: &[u8]) -> bool
+    ensures { λ r. ⌜ r ≡ isTotalWords (now (word .entry)) ⌝ }
+{
+    let k = digits_end(word);
+    if k == 0 {
+        return false;
+    }
+    if word.len() < 5 {
+        return false;
+    }
+    if word.len() - 5 < k {
+        return false;
+    }
+    words::same(&word[k..k + 5], b" page")
+}
+
+fn has_total_words(line: &[u8]) -> bool
+    ensures { λ r. ⌜ r ≡ isTotalWords (field 4 (now (line .entry))) ⌝ }
+{
+    let from = field_start(line, 4);
+    let end = field_end(line, from);
+    is_total_words(&line[from..end])
+}
+
+// Whether a line is a total's.
+pub(crate) fn is_total(line: &[u8]) -> bool
+    ensures { λ r. ⌜ r ≡ Total.isTotal (now (line .entry)) ⌝ }
+{
+    if count(line) != 5 {
+        return false;
+    }
+    if !is_field(line, 0, b"total") {
+        return false;
+    }
+    has_total_words(line)
+}
