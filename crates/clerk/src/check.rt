@@ -3,8 +3,10 @@ use crate::lines;
 use crate::room;
 use crate::say;
 use crate::walk;
+use crate::walk::Counts;
 use answer::Answer;
 use by_row::RowState;
+use ledger::Verdict;
 use settings::DecodeSettings;
 
 // Two readings after one call each: whether they said the same and go on, or said the same and ended, or parted.
@@ -78,25 +80,43 @@ fn agree(
     false
 }
 
-fn counted(name: &[u8], n: u64) {
-    say::text(b"\t");
-    say::text(name);
-    say::field(n);
+fn counted(good: bool, name: &[u8], n: u64) -> bool {
+    let good = say::text(good, b"\t");
+    let good = say::text(good, name);
+    say::field(good, n)
 }
 
-fn ended(answer: Answer) {
-    say::reason(answer);
-    say::text(b"\n");
+// The row behind so many; a page of 16 MiB has fewer than 134,217,730.
+fn row_behind(rows: u64) -> u64 {
+    if rows < 4294967296 { rows + 1 } else { rows }
+}
+
+// How a reading ended, in the words that a page's line has for it.
+fn ended(good: bool, answer: Answer) -> bool {
+    let mut v: Verdict = ledger::unread(answer.number);
+    v.place = answer.place;
+    v.row = row_behind(answer.rows);
+    let mut words = room::text();
+    let n = ledger::put_reason(&mut words, v);
+    say::bytes(good, &words, n)
+}
+
+// A part of the answer: whether it could be written, whether all is well so far, and how the reading ended.
+struct Part {
+    good: bool,
+    well: bool,
+    end: Answer,
 }
 
 // How another reading ends, and whether it agrees with the first.
 fn reading(
+    before: Part,
     name: &[u8],
     src: &[u8],
     settings: DecodeSettings,
     others: DecodeSettings,
     out: &mut [u8],
-) -> Answer {
+) -> Part {
     let mut first = room::line();
     let mut second = room::line();
     let mut third = room::line();
@@ -110,8 +130,7 @@ fn reading(
         out,
     );
     let end = read.end;
-    say::text(name);
-    if agree(
+    let agrees = agree(
         src,
         settings,
         others,
@@ -119,23 +138,41 @@ fn reading(
         &mut second,
         &mut third,
         &mut fourth,
-    ) {
-        say::text(b"\tagrees\t");
-    } else {
-        say::text(b"\tdiffers\t");
+    );
+    let good = told(before.good, name, agrees, end);
+    Part {
+        good,
+        well: if agrees { before.well } else { false },
+        end,
     }
-    ended(end);
-    end
+}
+
+fn told(good: bool, name: &[u8], agrees: bool, end: Answer) -> bool {
+    let good = say::text(good, name);
+    let good = if agrees {
+        say::text(good, b"\tagrees\t")
+    } else {
+        say::text(good, b"\tdiffers\t")
+    };
+    ended(good, end)
 }
 
 // The strict reading says where the first fault is.
-fn fault(strict: Answer) {
-    say::text(b"fault\t");
-    if strict.number == 0 {
-        say::text(b"none\n");
-        return;
+fn fault(before: Part, strict: Answer) -> Part {
+    let good = say::text(before.good, b"fault\t");
+    let end = before.end;
+    if strict.number == answer::COMPLETE {
+        return Part {
+            good: say::text(good, b"none\n"),
+            well: before.well,
+            end,
+        };
     }
-    ended(strict);
+    Part {
+        good: ended(good, strict),
+        well: false,
+        end,
+    }
 }
 
 // The settings of a page, read in another way.
@@ -147,8 +184,43 @@ fn read_as(settings: DecodeSettings, strict: bool, exact: bool, plain: bool) -> 
     other
 }
 
-// How many rows are clean, cut and recovered where the page is read leniently, and how that ends.
-fn lenient(src: &[u8], settings: DecodeSettings, out: &mut [u8]) {
+fn rows_told(read: Counts) -> bool {
+    let end = read.end;
+    let good = say::text(true, b"rows");
+    let good = say::field(good, end.rows);
+    let good = counted(good, b"clean", read.clean);
+    let good = counted(good, b"cut", read.cut);
+    let good = counted(good, b"recovered", read.recovered);
+    say::text(good, b"\n")
+}
+
+// How many bytes the page has, and how many are left behind it.
+fn bytes_told(good: bool, bytes: u64, behind: u64) -> bool {
+    let good = say::text(good, b"bytes");
+    let good = say::field(good, bytes);
+    let good = counted(good, b"behind", behind);
+    say::text(good, b"\n")
+}
+
+fn left_behind(size: usize, bytes: u64) -> u64 {
+    let all = size as u64;
+    if all < bytes { 0 } else { all - bytes }
+}
+
+// Whether a page is all that it should be: read to its end, each row clean, and no byte left behind.
+fn is_well(read: Counts, behind: u64) -> bool {
+    let end = read.end;
+    if end.number != answer::COMPLETE {
+        return false;
+    }
+    if read.clean != end.rows {
+        return false;
+    }
+    behind == 0
+}
+
+// How many rows are clean, cut and recovered where the page is read leniently, how many bytes it has, and how that ends.
+fn lenient(src: &[u8], settings: DecodeSettings, out: &mut [u8]) -> Part {
     let mut first = room::line();
     let mut second = room::line();
     let read = walk::page(
@@ -160,31 +232,38 @@ fn lenient(src: &[u8], settings: DecodeSettings, out: &mut [u8]) {
         out,
     );
     let end = read.end;
-    say::text(b"rows");
-    say::field(end.rows);
-    counted(b"clean", read.clean);
-    counted(b"cut", read.cut);
-    counted(b"recovered", read.recovered);
-    say::text(b"\nlenient\tread\t");
-    ended(end);
+    let behind = left_behind(src.len(), end.bytes);
+    let good = rows_told(read);
+    let good = bytes_told(good, end.bytes, behind);
+    let good = say::text(good, b"lenient\tread\t");
+    Part {
+        good: ended(good, end),
+        well: is_well(read, behind),
+        end,
+    }
 }
 
-fn exact_and_plain(src: &[u8], settings: DecodeSettings, out: &mut [u8]) {
+fn exact_and_plain(before: Part, src: &[u8], settings: DecodeSettings, out: &mut [u8]) -> Part {
     let exact = read_as(settings, true, true, false);
     let plain = read_as(settings, false, false, true);
-    reading(b"exact", src, settings, exact, out);
-    reading(b"plain", src, settings, plain, out);
+    let part = reading(before, b"exact", src, settings, exact, out);
+    reading(part, b"plain", src, settings, plain, out)
 }
 
-fn others(src: &[u8], settings: DecodeSettings, out: &mut [u8]) {
+fn others(before: Part, src: &[u8], settings: DecodeSettings, out: &mut [u8]) -> Part {
     let strict = read_as(settings, true, false, false);
-    let end = reading(b"strict", src, settings, strict, out);
-    exact_and_plain(src, settings, out);
-    fault(end);
+    let part = reading(before, b"strict", src, settings, strict, out);
+    let end = part.end;
+    let rest = exact_and_plain(part, src, settings, out);
+    fault(rest, end)
 }
 
-pub(crate) fn page(src: &[u8], settings: DecodeSettings, out: &mut [u8]) {
+pub(crate) fn page(src: &[u8], settings: DecodeSettings, out: &mut [u8]) -> u32 {
     let base = read_as(settings, false, false, false);
-    lenient(src, base, out);
-    others(src, base, out);
+    let read = lenient(src, base, out);
+    let all = others(read, src, base, out);
+    if all.well {
+        return say::status_of(all.good, say::WELL);
+    }
+    say::status_of(all.good, say::LOOK)
 }

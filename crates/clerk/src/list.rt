@@ -9,29 +9,43 @@ fn wide(n: u32) -> u64 {
     n as u64
 }
 
-fn changes(row: &[u32], count: usize) {
+fn changes(begun: bool, row: &[u32], count: usize) -> bool {
+    let mut good = begun;
     let mut k = 0;
     while k < count {
-        say::field(wide(lines::change(row, 0, k, 0)));
+        good = say::field(good, wide(lines::change(row, 0, k, 0)));
         k += 1;
     }
+    good
 }
 
-pub(crate) fn row(answer: Answer, row: &[u32], count: usize) {
-    say::text(b"row");
-    say::field(answer.rows);
-    say::field(answer.mark as u64);
-    say::field(count as u64);
-    changes(row, count);
-    say::text(b"\n");
+pub(crate) fn row(answer: Answer, row: &[u32], count: usize) -> bool {
+    let good = say::text(true, b"row");
+    let good = say::field(good, answer.rows);
+    let good = say::field(good, answer.mark as u64);
+    let good = say::field(good, count as u64);
+    let good = changes(good, row, count);
+    say::text(good, b"\n")
 }
 
-fn stop(answer: Answer) {
-    say::text(b"stop");
-    say::field(answer.number as u64);
-    say::field(answer.rows);
-    say::field(answer.bytes);
-    say::text(b"\n");
+fn stop(good: bool, answer: Answer) -> bool {
+    let good = say::text(good, b"stop");
+    let good = say::field(good, answer.number as u64);
+    let good = say::field(good, answer.rows);
+    let good = say::field(good, answer.bytes);
+    say::text(good, b"\n")
+}
+
+fn head(columns: u32) -> bool {
+    let good = say::text(true, b"columns");
+    let good = say::field(good, columns as u64);
+    say::text(good, b"\n")
+}
+
+// The page's status, and how its reading ended.
+pub(crate) struct Listed {
+    pub(crate) status: u32,
+    pub(crate) end: Answer,
 }
 
 pub(crate) fn page(
@@ -40,11 +54,14 @@ pub(crate) fn page(
     first: &mut [u32],
     second: &mut [u32],
     out: &mut [u8],
-) {
-    say::text(b"columns");
-    say::field(settings.columns as u64);
-    say::text(b"\n");
+) -> Listed {
+    let headed = head(settings.columns);
     let read = walk::page(src, settings, walk::Show::Line, first, second, out);
     let end = read.end;
-    stop(end);
+    let good = if headed { read.good } else { false };
+    let good = stop(good, end);
+    Listed {
+        status: say::status_of(good, say::WELL),
+        end,
+    }
 }

@@ -1,203 +1,130 @@
-// The desk's tool behind ./fax: requests on the standard input, one behind the other, each answered on the standard output; where there is no answer, one line on
-// standard error says why. The first byte is L where a page or a bitmap is large, and S else. A request is a line of six numbers (the command: 0 list, 1 heads, 2 picture,
-// 3 write, 4 check; how many bytes of data there are; and four that the command reads), the line of settings of the listing program, and the data.
+// The desk's program behind ./fax: it takes its words and its files, hands their bytes to the proved functions, and writes what these
+// say. The words are the room that there is (`large`: a stack of 64 MiB, `small`: that of any process), the command, its options and
+// its files. A program has no exit status: once all was written, the status is written to descriptor 3, so that a run that ended in any
+// other way has none.
 mod check;
-mod form;
+mod desk;
+mod done;
+mod feed;
+mod files;
 mod lines;
 mod list;
-mod party;
+mod names;
+mod one;
+mod options;
 mod pbm;
 mod picture;
+mod reading;
 mod room;
 mod say;
 mod text;
+mod total;
 mod walk;
 mod write;
 
-use listing_text::settings_line::Parsed;
-use settings::DecodeSettings;
-use settings::EncodingMode;
+use options::Options;
 
-fn narrow(n: u64) -> u32 {
-    if n < 4294967296 { n as u32 } else { 4294967295 }
-}
+// Behind the program's own name: the room, the command, and its words.
+const ROOM: usize = 1;
 
-// The quota, by its digits and its sign; what 32 bits cannot hold is out of A11's range all the same.
-fn quota(digits: u64, negative: u64) -> i32 {
-    if 2000000 < digits {
-        return 2000000;
-    }
-    if negative == 0 {
-        return digits as i32;
-    }
-    0 - digits as i32
-}
+const COMMAND: usize = 2;
 
-// The form stands before the page.
-fn count_heads(
-    data: &[u8],
-    settings: DecodeSettings,
-    form: u64,
-    least: u64,
-    quota: i32,
-    changes: &mut [u32],
-) {
-    let mut boxes = [0u32; 80];
-    let mut seen = [0u8; 20];
-    if !form::taken(lines::front(data, form as usize), &mut boxes, &mut seen) {
-        return;
-    }
-    let mut ends = room::ends();
-    let mut marks = room::marks();
-    party::page(
-        lines::rest(data, form as usize),
-        settings,
-        &boxes,
-        least,
-        quota,
-        changes,
-        &mut ends,
-        &mut marks,
-    );
-}
+const FIRST: usize = 3;
 
-fn show(data: &[u8], settings: DecodeSettings, marks: u64, out: &mut [u8]) {
-    if 65536 < settings.columns {
-        say::complain(b"a picture has at most 65536 columns");
-        return;
-    }
-    if settings.columns == 0 {
-        say::complain(b"a picture has at least one column");
-        return;
-    }
-    let mut first = room::line();
-    let mut second = room::line();
-    picture::page(data, settings, marks == 1, &mut first, &mut second, out);
-}
+const STATUS_FILENO: i32 = 3;
 
-fn list_rows(data: &[u8], settings: DecodeSettings, out: &mut [u8]) {
-    let mut first = room::line();
-    let mut second = room::line();
-    list::page(data, settings, &mut first, &mut second, out);
-}
+const NO_ERROR: i32 = -1;
 
-fn write_page(
-    data: &[u8],
-    encoding: EncodingMode,
-    fill: u32,
-    eols: bool,
-    k: u32,
-    changes: &mut [u32],
-    out: &mut [u8],
-) {
-    let mut ends = room::ends();
-    let mut first = room::line();
-    let mut second = room::line();
-    write::page(
-        data,
-        encoding,
-        fill,
-        eols,
-        k,
-        changes,
-        &mut ends,
-        &mut first,
-        &mut second,
-        out,
-    );
-}
-
-fn answer(
-    command: u64,
-    data: &[u8],
-    settings: DecodeSettings,
-    a: u64,
-    b: u64,
-    c: u64,
-    d: u64,
-    changes: &mut [u32],
-    out: &mut [u8],
-) {
-    let encoding = settings.encoding;
-    match command {
-        0 => list_rows(data, settings, out),
-        1 => count_heads(data, settings, a, b, quota(c, d), changes),
-        2 => show(data, settings, a, out),
-        3 => write_page(data, encoding, narrow(a), b == 1, narrow(c), changes, out),
-        _ => check::page(data, settings, out),
-    }
-}
-
-// Answers the request at a place, if there is one, and says where the next one begins.
-fn request(input: &[u8], at: usize, changes: &mut [u32], out: &mut [u8]) -> usize {
-    if input.len() <= at {
-        return at;
-    }
-    let command = text::field(input, at);
-    let size = text::field(input, command.next);
-    let a = text::field(input, size.next);
-    let b = text::field(input, a.next);
-    let c = text::field(input, b.next);
-    let d = text::field(input, c.next);
-    let line = text::after(input, d.next, 1);
-    let Parsed::Settings(settings, n) = listing_text::settings_line::parse(lines::rest(input, line))
-    else {
-        say::complain(b"the settings are no line of settings");
-        return input.len();
-    };
-    let from = text::after(input, line, n);
-    let bytes = size.value as usize;
-    answer(
-        command.value,
-        lines::front(lines::rest(input, from), bytes),
-        settings,
-        a.value,
-        b.value,
-        c.value,
-        d.value,
-        changes,
-        out,
-    );
-    text::after(input, from, bytes)
-}
-
-// A run answers up to 64 requests.
-fn requests(input: &[u8], changes: &mut [u32], out: &mut [u8]) {
-    let mut at = 0;
-    let mut left: usize = 64;
-    while 0 < left {
-        at = request(input, at, changes, out);
-        left -= 1;
-    }
-}
-
-// Arrays lie on the stack, of which a system gives 8 MiB where nobody asks for more: a page of ordinary size needs no more than that. Says how many bytes were read.
-fn large() -> usize {
+// The commands, with room for a page's bytes, its changes, a page that is written, and the lines of ledgers. Arrays lie on the stack, of
+// which a system gives 8 MiB where nobody asks for more: a page of ordinary size needs no more than that. Both rooms name the commands,
+// so that neither is small enough to be compiled into its caller.
+fn large(chosen: u32, o: Options, word: &[u8], count: usize) -> u32 {
+    let mut input = room::large_input();
     let mut changes = room::large_changes();
     let mut out = room::large_out();
-    let mut input = room::large_input();
-    let got = io::read_full(libc::STDIN_FILENO, &mut input);
-    requests(lines::front(&input, got), &mut changes, &mut out);
-    got
+    let mut starts = room::large_starts();
+    if chosen == options::HEADS {
+        return desk::command(o, count, FIRST, &mut input, &mut changes);
+    }
+    if chosen == options::TOTAL {
+        return total::command(o, count, FIRST, &mut input, &mut starts);
+    }
+    if chosen == options::WRITE {
+        return one::bitmap(o, word, &mut input, &mut changes, &mut out);
+    }
+    one::page(chosen, o, word, &mut input, &mut out)
 }
 
-fn small() {
-    let mut changes = room::changes();
-    let mut out = room::input();
+fn small(chosen: u32, o: Options, word: &[u8], count: usize) -> u32 {
     let mut input = room::input();
-    let got = io::read_full(libc::STDIN_FILENO, &mut input);
-    requests(lines::front(&input, got), &mut changes, &mut out);
+    let mut changes = room::changes();
+    let mut out = room::out();
+    let mut starts = room::ends();
+    if chosen == options::HEADS {
+        return desk::command(o, count, FIRST, &mut input, &mut changes);
+    }
+    if chosen == options::TOTAL {
+        return total::command(o, count, FIRST, &mut input, &mut starts);
+    }
+    if chosen == options::WRITE {
+        return one::bitmap(o, word, &mut input, &mut changes, &mut out);
+    }
+    one::page(chosen, o, word, &mut input, &mut out)
 }
 
-// `large` stands here twice, so that it is not compiled into `main`, whose frame must be small: where nothing was read, it reads once more.
-fn main() {
-    let mut size = [0u8; 1];
-    io::read_full(libc::STDIN_FILENO, &mut size);
-    if size[0] != b'L' {
-        small();
+fn is_large() -> bool {
+    let mut word = io::buffer();
+    let n = os::arg(ROOM, &mut word);
+    text::is(&word[..n], b"large")
+}
+
+// `large` stands here twice, so that it is not compiled into `main`, whose frame must be small. No error has the number of `NO_ERROR`,
+// which the compiler cannot know.
+fn in_room(chosen: u32, o: Options, word: &[u8], count: usize) -> u32 {
+    if !is_large() {
+        return small(chosen, o, word, count);
+    }
+    let status = large(chosen, o, word, count);
+    if os::errno() == NO_ERROR {
+        return large(chosen, o, word, count);
+    }
+    status
+}
+
+fn asked(word: &[u8], count: usize) -> u32 {
+    let chosen = options::command(word);
+    if chosen == options::NO_COMMAND {
+        say::complain_of(b"no command '", word, b"': ./fax help");
+        return say::FAILED;
+    }
+    let o = options::read(chosen, word, FIRST, count);
+    if !o.good {
+        return say::FAILED;
+    }
+    in_room(chosen, o, word, count)
+}
+
+// The status goes to its descriptor once the standard output is closed: what a file system tells only then is tested too.
+fn finish(status: u32) {
+    let closed = libc::close(libc::STDOUT_FILENO) == 0;
+    let status = if status == say::FAILED {
+        status
+    } else {
+        say::status_of(closed, status)
+    };
+    if status == say::WELL {
+        io::write_all(STATUS_FILENO, b"0");
         return;
     }
-    if large() == 0 {
-        large();
+    if status == say::LOOK {
+        io::write_all(STATUS_FILENO, b"1");
+        return;
     }
+    io::write_all(STATUS_FILENO, b"2");
+}
+
+fn main() {
+    let mut word = io::buffer();
+    let n = os::arg(COMMAND, &mut word);
+    finish(asked(&word[..n], os::arg_count()));
 }

@@ -107,18 +107,18 @@ pub(crate) fn row(
     columns: u32,
     out: &mut [u8],
     from: usize,
-) {
+) -> bool {
     margin(out, bar(from), answer.mark == 0);
     paint(row, count, columns, out, from);
-    say::bytes(out, pbm::row_bytes(width(columns, from)));
+    say::bytes(true, out, pbm::row_bytes(width(columns, from)))
 }
 
-fn head(width: u32, rows: u64) {
-    say::text(b"P4\n");
-    say::number(width as u64);
-    say::text(b" ");
-    say::number(rows);
-    say::text(b"\n");
+fn head(width: u32, rows: u64) -> bool {
+    let good = say::text(true, b"P4\n");
+    let good = say::number(good, width as u64);
+    let good = say::text(good, b" ");
+    let good = say::number(good, rows);
+    say::text(good, b"\n")
 }
 
 fn painted(
@@ -129,20 +129,25 @@ fn painted(
     first: &mut [u32],
     second: &mut [u32],
     out: &mut [u8],
-) {
-    head(width(settings.columns, from), rows);
-    walk::page(src, settings, walk::Show::Pixels(from), first, second, out);
+) -> bool {
+    if !head(width(settings.columns, from), rows) {
+        return false;
+    }
+    let read = walk::page(src, settings, walk::Show::Pixels(from), first, second, out);
+    read.good
 }
 
-fn short_of(number: u32) {
-    if number == 0 {
-        return;
+// A page that is not read to its end is shown as far as it was read, and that is told.
+fn status_for(number: u32) -> u32 {
+    if number == answer::COMPLETE {
+        return say::WELL;
     }
-    say::complain_of(
+    say::complain_with(
         b"the page is not read to its end, answer ",
         number as u64,
         b": the picture has the rows before that",
     );
+    say::LOOK
 }
 
 // A picture has 1 to 65,536 rows, as many as `pbm` reads.
@@ -158,7 +163,19 @@ fn fits(rows: u64) -> bool {
     true
 }
 
-// How the page ends is read before it is painted, as a bitmap begins with its number of rows. A page that is not read to its end is shown as far as it was read.
+fn is_wide(columns: u32) -> bool {
+    if 65536 < columns {
+        say::complain(b"a picture has at most 65536 columns");
+        return false;
+    }
+    if columns == 0 {
+        say::complain(b"a picture has at least one column");
+        return false;
+    }
+    true
+}
+
+// How the page ends is read before it is painted, as a bitmap begins with its number of rows.
 pub(crate) fn page(
     src: &[u8],
     settings: DecodeSettings,
@@ -166,13 +183,17 @@ pub(crate) fn page(
     first: &mut [u32],
     second: &mut [u32],
     out: &mut [u8],
-) {
+) -> u32 {
+    if !is_wide(settings.columns) {
+        return say::FAILED;
+    }
     let read = walk::page(src, settings, walk::Show::Nothing, first, second, out);
     let end = read.end;
     if !fits(end.rows) {
-        return;
+        return say::FAILED;
     }
-    short_of(end.number);
+    let status = status_for(end.number);
     let from = if marks { 2 } else { 0 };
-    painted(src, settings, end.rows, from, first, second, out);
+    let good = painted(src, settings, end.rows, from, first, second, out);
+    say::status_of(good, status)
 }

@@ -121,11 +121,6 @@ pub(crate) fn number(data: &[u8], from: usize) -> Read {
     Read { value, next: at }
 }
 
-// The next number of a line.
-pub(crate) fn field(data: &[u8], at: usize) -> Read {
-    number(data, skip(data, at, false))
-}
-
 // Whether a word stands at a place.
 pub(crate) fn starts(data: &[u8], at: usize, word: &[u8]) -> bool {
     let mut k = 0;
@@ -136,4 +131,57 @@ pub(crate) fn starts(data: &[u8], at: usize, word: &[u8]) -> bool {
         k += 1;
     }
     true
+}
+
+// Whether a word is another.
+pub(crate) fn is(word: &[u8], other: &[u8]) -> bool {
+    if word.len() != other.len() {
+        return false;
+    }
+    starts(word, 0, other)
+}
+
+// A letter as a small one.
+fn small(byte: u8) -> u8 {
+    if byte < 65 {
+        return byte;
+    }
+    if 90 < byte {
+        return byte;
+    }
+    byte + 32
+}
+
+// Whether a name ends in these letters, in small or in capital ones.
+pub(crate) fn ends(name: &[u8], ending: &[u8]) -> bool {
+    if name.len() < ending.len() {
+        return false;
+    }
+    let from = name.len() - ending.len();
+    let mut k = 0;
+    while k < ending.len() {
+        if small(nth(name, from, k)) != ending[k] {
+            return false;
+        }
+        k += 1;
+    }
+    true
+}
+
+// A word that is a number of 32 bits: digits alone, with no zero in front. Anything else is 4294967296.
+pub(crate) fn whole(word: &[u8]) -> u64 {
+    let read = number(word, 0);
+    if word.len() == 0 {
+        return 4294967296;
+    }
+    if read.next != word.len() {
+        return 4294967296;
+    }
+    if word.len() == 1 {
+        return read.value;
+    }
+    if word[0] == b'0' {
+        return 4294967296;
+    }
+    read.value
 }

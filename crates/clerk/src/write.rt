@@ -174,12 +174,12 @@ fn hand_over(
     ends: &[u64],
     first: &mut [u32],
     second: &mut [u32],
-) {
+) -> u32 {
     if !reads_back(page, settings, changes, ends, first, second) {
         say::complain(b"the page does not read back, and is not handed over");
-        return;
+        return say::FAILED;
     }
-    io::write_all(libc::STDOUT_FILENO, page);
+    say::status_of(say::text(true, page), say::WELL)
 }
 
 // The rows of a store as a page.
@@ -195,15 +195,15 @@ fn rows_as_page(
     first: &mut [u32],
     second: &mut [u32],
     out: &mut [u8],
-) {
+) -> u32 {
     let said = written(encoding, columns, changes, ends, fill, eols, k, out);
-    if said.number != 0 {
-        say::complain_of(
+    if said.number != answer::COMPLETE {
+        say::complain_with(
             b"the page was not written: answer ",
             said.number as u64,
             b"",
         );
-        return;
+        return say::FAILED;
     }
     let settings = settings_for(encoding, columns, rows, eols);
     hand_over(
@@ -213,7 +213,7 @@ fn rows_as_page(
         ends,
         first,
         second,
-    );
+    )
 }
 
 pub(crate) fn page(
@@ -227,13 +227,13 @@ pub(crate) fn page(
     first: &mut [u32],
     second: &mut [u32],
     out: &mut [u8],
-) {
+) -> u32 {
     let head = pbm::head(data);
     if !head.good {
         say::complain(
             b"no bitmap: a PBM begins with P1 or P4, its width and its height, each from 1 to 65536",
         );
-        return;
+        return say::FAILED;
     }
     match pbm::rows(
         data,
@@ -249,11 +249,11 @@ pub(crate) fn page(
             say::complain(
                 b"the bitmap has fewer pixels than its width and height say, or something else among them",
             );
-            return;
+            return say::FAILED;
         }
         pbm::Taken::NoRoom => {
             say::complain(b"the bitmap has more changes of colour, or rows, than the tool holds");
-            return;
+            return say::FAILED;
         }
     }
     rows_as_page(
@@ -268,5 +268,5 @@ pub(crate) fn page(
         first,
         second,
         out,
-    );
+    )
 }

@@ -6,10 +6,10 @@ use Rattle.clerk.proofs.list.changes.Statement.{statement}
 use Rattle.clerk.proofs.list.changes.Tie as tie
 
 abbrev Inv-loop : tie.InvT-loop
-Inv-loop row count k₀ k = k₀ ≤ k
+Inv-loop begun row count good₀ k₀ good k = k₀ ≤ k
 
 abbrev μ-loop : tie.MeasureT-loop
-μ-loop row count k₀ k = count - k
+μ-loop begun row count good₀ k₀ good k = count - k
 
 loop-holds : tie.Need-loop-holds Inv-loop μ-loop
 loop-holds c = omega arith
@@ -36,4 +36,16 @@ returns : tie.Need-returns Inv-loop μ-loop
 returns c = search needs
 
 pub changes-spec : {M : Type 1} → statement M
-changes-spec = tie.close (tie.spec Inv-loop μ-loop loop-holds change-requires wide-requires field-requires add-k loop-less loop-again returns)
+changes-spec =
+    tie.close
+    (tie.spec
+    Inv-loop
+    μ-loop
+    loop-holds
+    change-requires
+    wide-requires
+    field-requires
+    add-k
+    loop-less
+    loop-again
+    returns)

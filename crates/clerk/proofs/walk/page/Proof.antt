@@ -8,16 +8,13 @@ use Rattle.clerk.proofs.walk.page.Statement.{statement}
 use Rattle.clerk.proofs.walk.page.Tie as tie
 
 abbrev Inv-loop : tie.InvT-loop
-Inv-loop src settings how first₀ second₀ out₀ counts₀ state₀ left₀ first second out counts state left = (length first ≡ length first₀) × (length second ≡ length second₀) × (length out ≡ length out₀) × (left ≤ left₀)
+Inv-loop src settings how first₀ second₀ out₀ walk₀ left₀ first second out walk left = (length first ≡ length first₀) × (length second ≡ length second₀) × (length out ≡ length out₀) × (left ≤ left₀)
 
 abbrev μ-loop : tie.MeasureT-loop
-μ-loop src settings how first₀ second₀ out₀ counts₀ state₀ left₀ first second out counts state left = left
+μ-loop src settings how first₀ second₀ out₀ walk₀ left₀ first second out walk left = left
 
-none-requires : tie.Need-none-requires Inv-loop μ-loop
-none-requires c κs = search needs
-
-row-start-requires : tie.Need-row-start-requires Inv-loop μ-loop
-row-start-requires c κs = search needs
+begun-requires : tie.Need-begun-requires Inv-loop μ-loop
+begun-requires c κs = search needs
 
 calls-requires : tie.Need-calls-requires Inv-loop μ-loop
 calls-requires c κs = search needs
@@ -25,17 +22,11 @@ calls-requires c κs = search needs
 loop-holds : tie.Need-loop-holds Inv-loop μ-loop
 loop-holds c = omega arith
 
-step-requires : tie.Need-step-requires Inv-loop μ-loop
-step-requires c κs = search needs
-
-counted-requires : tie.Need-counted-requires Inv-loop μ-loop
-counted-requires c κs = search needs
-
-gave-requires : tie.Need-gave-requires Inv-loop μ-loop
-gave-requires c κs = search needs
-
 sub-left : tie.Need-sub-left Inv-loop μ-loop
 sub-left c = omega arith
+
+turn-requires : tie.Need-turn-requires Inv-loop μ-loop
+turn-requires c κs = search needs
 
 loop-less : tie.Need-loop-less Inv-loop μ-loop
 loop-less c = omega arith
@@ -55,39 +46,20 @@ same-length-3 c = omega arith
 returns : tie.Need-returns Inv-loop μ-loop
 returns c = search needs
 
-same-length-4 : tie.Need-same-length-4 Inv-loop μ-loop
-same-length-4 c = omega arith
-
-same-length-5 : tie.Need-same-length-5 Inv-loop μ-loop
-same-length-5 c = omega arith
-
-same-length-6 : tie.Need-same-length-6 Inv-loop μ-loop
-same-length-6 c = omega arith
-
-returns-2 : tie.Need-returns-2 Inv-loop μ-loop
-returns-2 c = search needs
-
 pub page-spec : {M : Type 1} → statement M
 page-spec =
     tie.close
     (tie.spec
     Inv-loop
     μ-loop
-    none-requires
-    row-start-requires
+    begun-requires
     calls-requires
     loop-holds
-    step-requires
-    counted-requires
-    gave-requires
     sub-left
+    turn-requires
     loop-less
     loop-again
     same-length
     same-length-2
     same-length-3
-    returns
-    same-length-4
-    same-length-5
-    same-length-6
-    returns-2)
+    returns)
