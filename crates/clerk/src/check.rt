@@ -1,5 +1,6 @@
 // Whether the readings of a page agree, and how its rows were read.
 use crate::lines;
+use crate::reading;
 use crate::room;
 use crate::say;
 use crate::walk;
@@ -109,7 +110,7 @@ struct Part {
 }
 
 // How another reading ends, and whether it agrees with the first.
-fn reading(
+fn other_reading(
     before: Part,
     name: &[u8],
     src: &[u8],
@@ -246,21 +247,23 @@ fn lenient(src: &[u8], settings: DecodeSettings, out: &mut [u8]) -> Part {
 fn exact_and_plain(before: Part, src: &[u8], settings: DecodeSettings, out: &mut [u8]) -> Part {
     let exact = read_as(settings, true, true, false);
     let plain = read_as(settings, false, false, true);
-    let part = reading(before, b"exact", src, settings, exact, out);
-    reading(part, b"plain", src, settings, plain, out)
+    let part = other_reading(before, b"exact", src, settings, exact, out);
+    other_reading(part, b"plain", src, settings, plain, out)
 }
 
 fn others(before: Part, src: &[u8], settings: DecodeSettings, out: &mut [u8]) -> Part {
     let strict = read_as(settings, true, false, false);
-    let part = reading(before, b"strict", src, settings, strict, out);
+    let part = other_reading(before, b"strict", src, settings, strict, out);
     let end = part.end;
     let rest = exact_and_plain(part, src, settings, out);
     fault(rest, end)
 }
 
-pub(crate) fn page(src: &[u8], settings: DecodeSettings, out: &mut [u8]) -> u32 {
+pub(crate) fn page(src: &[u8], settings: DecodeSettings, name: &[u8], out: &mut [u8]) -> u32 {
     let base = read_as(settings, false, false, false);
     let read = lenient(src, base, out);
+    let end = read.end;
+    reading::hint(src, settings, end.number, end.place, name);
     let all = others(read, src, base, out);
     if all.well {
         return say::status_of(all.good, say::WELL);

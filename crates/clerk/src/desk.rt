@@ -450,13 +450,22 @@ fn with_lists(
     pages(o, form, list, ledger, count, first, input, changes)
 }
 
+// A file that is too long for a page is too long for a form.
+fn as_form(fault: u32) -> u32 {
+    if fault == ledger::LONG_FILE {
+        ledger::LONG_FORM
+    } else {
+        fault
+    }
+}
+
 fn with_form(o: Options, count: usize, first: usize, input: &mut [u8], changes: &mut [u32]) -> u32 {
     let mut name = io::buffer();
     let n = os::arg(o.form, &mut name);
     let mut form = room::form();
     let got = files::read(&name[..n], &mut form, 0);
     if got.fault != 0 {
-        say::complain_of_file(&name[..n], got.fault);
+        say::complain_of_file(&name[..n], as_form(got.fault));
         return say::FAILED;
     }
     if !is_form(o, &name[..n], lines::front(&form, got.bytes)) {

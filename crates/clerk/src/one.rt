@@ -24,10 +24,10 @@ fn listed(src: &[u8], settings: DecodeSettings, name: &[u8], out: &mut [u8]) -> 
     listed.status
 }
 
-fn shown(src: &[u8], settings: DecodeSettings, marks: bool, out: &mut [u8]) -> u32 {
+fn shown(src: &[u8], settings: DecodeSettings, marks: bool, name: &[u8], out: &mut [u8]) -> u32 {
     let mut first = room::line();
     let mut second = room::line();
-    picture::page(src, settings, marks, &mut first, &mut second, out)
+    picture::page(src, settings, marks, name, &mut first, &mut second, out)
 }
 
 // What a command answers of a page.
@@ -43,9 +43,9 @@ fn of_page(
         return listed(src, settings, name, out);
     }
     if command == options::PICTURE {
-        return shown(src, settings, marks, out);
+        return shown(src, settings, marks, name, out);
     }
-    check::page(src, settings, out)
+    check::page(src, settings, name, out)
 }
 
 // The bytes of the file, or a message.

@@ -1,5 +1,6 @@
 // A page as a portable bitmap (PBM, P4): 1 is black, each row begins at a byte.
 use crate::pbm;
+use crate::reading;
 use crate::say;
 use crate::walk;
 use answer::Answer;
@@ -180,6 +181,7 @@ pub(crate) fn page(
     src: &[u8],
     settings: DecodeSettings,
     marks: bool,
+    name: &[u8],
     first: &mut [u32],
     second: &mut [u32],
     out: &mut [u8],
@@ -189,6 +191,7 @@ pub(crate) fn page(
     }
     let read = walk::page(src, settings, walk::Show::Nothing, first, second, out);
     let end = read.end;
+    reading::hint(src, settings, end.number, end.place, name);
     if !fits(end.rows) {
         return say::FAILED;
     }

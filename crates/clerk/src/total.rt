@@ -174,10 +174,18 @@ fn words(number: u32) {
     say::message(b": no line of a ledger");
 }
 
+// A fault behind the last line is told of that line.
+fn inside(l: Ledgers, at: usize) -> usize {
+    if at < l.bytes {
+        return at;
+    }
+    if l.bytes == 0 { 0 } else { l.bytes - 1 }
+}
+
 // What is wrong with the ledgers.
 fn told(data: &[u8], ends: &[u64], l: Ledgers, first: usize, count: usize, added: AddedUp) -> u32 {
     say::message(b"fax: ");
-    say_place(data, ends, l, first, count, added.at);
+    say_place(data, ends, l, first, count, inside(l, added.at));
     if added.number == ledger_file::STANDS_TWICE {
         say::message(b": this page stands in ");
         say_place(data, ends, l, first, count, added.other);
