@@ -195,10 +195,13 @@ fn rows_told(read: Counts) -> bool {
     say::text(good, b"\n")
 }
 
-// How many bytes the page has, and how many are left behind it.
-fn bytes_told(good: bool, bytes: u64, behind: u64) -> bool {
+// How many bytes the page has, and how many are left behind it; of a page that is not read to its end neither is known.
+fn bytes_told(good: bool, end: Answer, behind: u64) -> bool {
+    if end.number != answer::COMPLETE {
+        return say::text(good, b"bytes\t-\tbehind\t-\n");
+    }
     let good = say::text(good, b"bytes");
-    let good = say::field(good, bytes);
+    let good = say::field(good, end.bytes);
     let good = counted(good, b"behind", behind);
     say::text(good, b"\n")
 }
@@ -235,7 +238,7 @@ fn lenient(src: &[u8], settings: DecodeSettings, out: &mut [u8]) -> Part {
     let end = read.end;
     let behind = left_behind(src.len(), end.bytes);
     let good = rows_told(read);
-    let good = bytes_told(good, end.bytes, behind);
+    let good = bytes_told(good, end, behind);
     let good = say::text(good, b"lenient\tread\t");
     Part {
         good: ended(good, end),

@@ -82,6 +82,7 @@ pub(crate) const G32D: u32 = 3;
 // What the options say. Words are told by their place among the arguments, 0 where there is none.
 pub(crate) struct Options {
     pub(crate) good: bool,
+    pub(crate) given: u32,
     pub(crate) files: u64,
     pub(crate) file: usize,
     pub(crate) form: usize,
@@ -112,6 +113,7 @@ pub(crate) struct Options {
 fn none() -> Options {
     Options {
         good: true,
+        given: 0,
         files: 0,
         file: 0,
         form: 0,
@@ -448,6 +450,33 @@ fn with_quota(o: Options, value: &[u8]) -> Options {
     other
 }
 
+// The bit of an option that takes a value, among those that were given.
+fn given_bit(id: usize) -> u32 {
+    match id {
+        FORM => 1,
+        QUOTA => 2,
+        FROM => 4,
+        SKIP_DONE => 8,
+        COLUMNS => 16,
+        ROWS => 32,
+        ENCODING => 64,
+        FILL => 128,
+        _ => 256,
+    }
+}
+
+// A second value would take the place of the first in silence.
+fn with_new_value(o: Options, id: usize, at: usize, word: &[u8], value: &[u8]) -> Options {
+    let bit = given_bit(id);
+    if o.given & bit != 0 {
+        say::complain_of(b"", word, b" is given twice");
+        return refused(o);
+    }
+    let mut other = o;
+    other.given = o.given | bit;
+    with_value(other, id, at, word, value)
+}
+
 // An option whose value is the word at a place.
 fn with_value(o: Options, id: usize, at: usize, word: &[u8], value: &[u8]) -> Options {
     if id == QUOTA {
@@ -533,7 +562,7 @@ fn valued(o: Options, id: usize, at: usize, count: usize, word: &[u8]) -> Option
     }
     let mut value = io::buffer();
     let n = os::arg(next, &mut value);
-    with_value(o, id, next, word, &value[..n])
+    with_new_value(o, id, next, word, &value[..n])
 }
 
 fn option(

@@ -141,8 +141,11 @@ fn is_mark(src: &[u8], place: u64, before: u64, twice: bool) -> bool {
 }
 
 fn missing(encoding: EncodingMode, settings: DecodeSettings) -> bool {
+    if !settings.end_of_block {
+        return true;
+    }
     if is_group4(encoding) {
-        !settings.end_of_block
+        false
     } else {
         !settings.end_of_line
     }
@@ -172,6 +175,6 @@ pub(crate) fn hint(src: &[u8], settings: DecodeSettings, number: u32, place: u64
     say::complain_of(
         b"",
         name,
-        b": an end-of-line mark stands there: --end-of-line is missing",
+        b": an end-of-line mark stands there: --end-of-line or --end-of-block is missing",
     );
 }

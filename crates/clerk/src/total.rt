@@ -38,8 +38,51 @@ fn failed(l: Ledgers) -> Ledgers {
     other
 }
 
+// What is wrong with a ledger by itself.
+fn told_alone(name: &[u8], data: &[u8], added: AddedUp) {
+    say::message(b"fax: ");
+    say::name(name);
+    say::message(b", line ");
+    say::message_number(line_at(data, 0, inside(data.len(), added.at)));
+    if added.number == ledger_file::STANDS_TWICE {
+        say::message(b": this page stands in line ");
+        say::message_number(line_at(data, 0, added.other));
+        say::message(b" too");
+    } else {
+        words(added.number);
+    }
+    say::message(b"\n");
+}
+
+// Each ledger must be one by itself, so that what is wrong is told where it is.
+fn is_sound(name: &[u8], data: &[u8], quota: i32, starts: &mut [u64]) -> bool {
+    let added = ledger_file::add_up(data, quota, starts);
+    if added.number == answer::COMPLETE {
+        return true;
+    }
+    told_alone(name, data, added);
+    false
+}
+
+// A ledger that was read behind so many bytes.
+fn is_ledger(name: &[u8], data: &[u8], from: usize, quota: i32, starts: &mut [u64]) -> bool {
+    if !ends_line(data, data.len()) {
+        say::complain_of(b"", name, b": its last line is cut");
+        return false;
+    }
+    is_sound(name, lines::rest(data, from), quota, starts)
+}
+
 // One ledger more, behind those that were read.
-fn one_more(l: Ledgers, at: usize, after: bool, input: &mut [u8], ends: &mut [u64]) -> Ledgers {
+fn one_more(
+    l: Ledgers,
+    quota: i32,
+    at: usize,
+    after: bool,
+    input: &mut [u8],
+    ends: &mut [u64],
+    starts: &mut [u64],
+) -> Ledgers {
     let mut name = io::buffer();
     let n = os::arg(at, &mut name);
     let got = files::read(&name[..n], input, l.bytes);
@@ -47,8 +90,13 @@ fn one_more(l: Ledgers, at: usize, after: bool, input: &mut [u8], ends: &mut [u6
         say::complain_of_file(&name[..n], got.fault);
         return failed(l);
     }
-    if !ends_line(input, got.bytes) {
-        say::complain_of(b"", &name[..n], b": its last line is cut");
+    if !is_ledger(
+        &name[..n],
+        lines::front(input, got.bytes),
+        l.bytes,
+        quota,
+        starts,
+    ) {
         return failed(l);
     }
     if !put_end(ends, l.count, got.bytes) {
@@ -68,7 +116,14 @@ fn next(n: usize) -> usize {
     if n < 4294967296 { n + 1 } else { n }
 }
 
-fn all(first: usize, count: usize, input: &mut [u8], ends: &mut [u64]) -> Ledgers {
+fn all(
+    quota: i32,
+    first: usize,
+    count: usize,
+    input: &mut [u8],
+    ends: &mut [u64],
+    starts: &mut [u64],
+) -> Ledgers {
     let mut l = Ledgers {
         good: true,
         bytes: 0,
@@ -83,7 +138,7 @@ fn all(first: usize, count: usize, input: &mut [u8], ends: &mut [u64]) -> Ledger
         if !place.found {
             break;
         }
-        let more = one_more(l, place.at, place.after, input, ends);
+        let more = one_more(l, quota, place.at, place.after, input, ends, starts);
         l = more;
         if !l.good {
             break;
@@ -175,17 +230,17 @@ fn words(number: u32) {
 }
 
 // A fault behind the last line is told of that line.
-fn inside(l: Ledgers, at: usize) -> usize {
-    if at < l.bytes {
+fn inside(bytes: usize, at: usize) -> usize {
+    if at < bytes {
         return at;
     }
-    if l.bytes == 0 { 0 } else { l.bytes - 1 }
+    if bytes == 0 { 0 } else { bytes - 1 }
 }
 
 // What is wrong with the ledgers.
 fn told(data: &[u8], ends: &[u64], l: Ledgers, first: usize, count: usize, added: AddedUp) -> u32 {
     say::message(b"fax: ");
-    say_place(data, ends, l, first, count, inside(l, added.at));
+    say_place(data, ends, l, first, count, inside(l.bytes, added.at));
     if added.number == ledger_file::STANDS_TWICE {
         say::message(b": this page stands in ");
         say_place(data, ends, l, first, count, added.other);
@@ -217,6 +272,23 @@ fn added_up(added: AddedUp) -> u32 {
     say::status_of(good, ledger::status(b))
 }
 
+// All ledgers together: no page stands in two of them.
+fn of_all(
+    data: &[u8],
+    ends: &[u64],
+    l: Ledgers,
+    first: usize,
+    count: usize,
+    quota: i32,
+    starts: &mut [u64],
+) -> u32 {
+    let added = ledger_file::add_up(lines::front(data, l.bytes), quota, starts);
+    if added.number != answer::COMPLETE {
+        return told(data, ends, l, first, count, added);
+    }
+    added_up(added)
+}
+
 pub(crate) fn command(
     o: Options,
     count: usize,
@@ -228,13 +300,9 @@ pub(crate) fn command(
         return say::FAILED;
     }
     let mut ends = room::ends();
-    let l = all(first, count, input, &mut ends);
+    let l = all(o.quota, first, count, input, &mut ends, starts);
     if !l.good {
         return say::FAILED;
     }
-    let added = ledger_file::add_up(lines::front(input, l.bytes), o.quota, starts);
-    if added.number != answer::COMPLETE {
-        return told(input, &ends, l, first, count, added);
-    }
-    added_up(added)
+    of_all(input, &ends, l, first, count, o.quota, starts)
 }
