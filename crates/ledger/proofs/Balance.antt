@@ -11,13 +11,14 @@ use Rattle.ledger.specs.Balance.{headsOf, lookedOf, opened, Balanced, St
 use Rattle.ledger.specs.declared.Ledger.{Ledger}
 use Rattle.ledger.specs.declared.Verdict.{Verdict}
 
-record Sums (b : Ledger) (vs : List Verdict) (after : Ledger) : Type 0 where
-  quota : after .quota ≡ b .quota
-  heads : after .heads ≡ b .heads + headsOf vs
-  pages : after .pages ≡ b .pages + length vs
-  looked : after .looked ≡ b .looked + lookedOf vs
+-- the books behind a list of pages, from any books on
+pub record Sums (b : Ledger) (vs : List Verdict) (after : Ledger) : Type 0 where
+  pub quota : after .quota ≡ b .quota
+  pub heads : after .heads ≡ b .heads + headsOf vs
+  pub pages : after .pages ≡ b .pages + length vs
+  pub looked : after .looked ≡ b .looked + lookedOf vs
 
-sums : (b : Ledger) (vs : List Verdict) → Sums b vs (bookedAll b vs)
+pub sums : (b : Ledger) (vs : List Verdict) → Sums b vs (bookedAll b vs)
 unfolding bookedAll booked headsOf lookedOf
 sums b [] = record { quota = refl; heads = omega arith; pages = omega arith; looked = omega arith }
 sums b (v ∷ vs) = by (isCounted v) refl (sums (booked b v) vs)

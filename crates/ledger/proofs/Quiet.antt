@@ -97,7 +97,7 @@ words-quiet : all-quiet (map ascii words) ≡ true
 unfolding all-quiet quiet words ascii
 words-quiet = refl
 
-phrase-quiet : (ns : List ℕ) (k : ℕ) → quiet (fill ns (phrase k)) ≡ true
+pub phrase-quiet : (ns : List ℕ) (k : ℕ) → quiet (fill ns (phrase k)) ≡ true
 phrase-quiet ns k = fill-quiet ns (phrase k) (quiet-at (map ascii words) words-quiet k)
 
 reason-quiet : (v : Verdict) (ns : List ℕ) → quiet (reasonWith v ns) ≡ true
@@ -110,7 +110,7 @@ reason-quiet v ns = by (isCounted v)
 
 -- ---- A page's line, and all of them
 
-bare-quiet : (name : List ℕ) (v : Verdict) (b : Ledger) → quiet (bareLine name v b) ≡ true
+pub bare-quiet : (name : List ℕ) (v : Verdict) (b : Ledger) → quiet (bareLine name v b) ≡ true
 unfolding bareLine
 bare-quiet name v b =
     quiet-append (shown name) (filledWith v b (headAt v b) ++ reasonWith v (numbers v b)) (shown-quiet name)

@@ -65,7 +65,7 @@ unfolding overlaid
 over n starts lent h e = sym (rw (length-take-le n starts h) (ap (λ (l : List ℕ). take n starts ++ l) (sym e) ∙ take-append-drop n starts))
 
 -- a text has a line at least
-lines-some : (xs : List ℕ) → 0 < length (linesOf xs)
+pub lines-some : (xs : List ℕ) → 0 < length (linesOf xs)
 unfolding pieces
 lines-some [] = omega arith
 lines-some (b ∷ bs) = by (eqb b 10) (linesOf bs)
@@ -76,14 +76,14 @@ lines-some (b ∷ bs) = by (eqb b 10) (linesOf bs)
     by false (p ∷ ps) = omega arith
 
 -- what a line leads to, with the lines behind it
-abbrev after : List ℕ → ℕ → ℕ → Sum → List ℕ → List (List ℕ) → Went → Added
+abbrev pub after : List ℕ → ℕ → ℕ → Sum → List ℕ → List (List ℕ) → Went → Added
 after text room at s l ls went =
     elim went [
       | on s′ ↦ adding text room (at + length l + 1) s′ ls
       | wrong number other ↦ record { number = number; at = at; other = other; sum = s }
     ]
 
-adding-more : (text : List ℕ) (room at : ℕ) (s : Sum) (l : List ℕ) (ls : List (List ℕ)) → 0 < length ls → adding text room at s (l ∷ ls) ≡ after text room at s l ls (taken text room at l s)
+pub adding-more : (text : List ℕ) (room at : ℕ) (s : Sum) (l : List ℕ) (ls : List (List ℕ)) → 0 < length ls → adding text room at s (l ∷ ls) ≡ after text room at s l ls (taken text room at l s)
 unfolding adding
 adding-more text room at s l [] h = absurd (omega arith)
 adding-more text room at s l (m ∷ ls) h = refl

@@ -4,10 +4,14 @@ pub mod Paging
 pub mod Naming
 pub mod Numerals
 pub mod Tabless
+pub mod TotalWords
 pub mod Rereading
 pub mod Resuming
 pub mod Totalling
 pub mod Names
 pub mod Tallies
 pub mod Adding
+pub mod TotalLines
+pub mod Fitting
+pub mod Parted
 mod Sheets

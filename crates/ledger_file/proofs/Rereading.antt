@@ -20,8 +20,11 @@ use Rattle.ledger.specs.declared.Verdict.{Verdict}
 use Rattle.ledger_file.specs.Fields.{fieldsOf, field, numberIn}
 use Rattle.ledger_file.specs.Page.{page, pageLineOf}
 use Rattle.ledger_file.specs.Resume.{leftText}
+use Rattle.ledger_file.specs.Total.{isTotalWords}
 use Rattle.ledger_file.specs.declared.PageLine.{PageLine}
+use Rattle.form_file.specs.Steps.{ahead}
 use Rattle.ledger_file.proofs.Numerals.{number-decimal}
+use Rattle.ledger_file.proofs.TotalWords.{reason-words}
 use Rattle.ledger_file.proofs.Paging.{refused-so, counted-so}
 use Rattle.ledger_file.proofs.Tabless.{tabless, tabless-append, field-then, field-last-is, decimal-tabless, shown-tabless, phrase-tabless}
 
@@ -84,6 +87,7 @@ module _ (v : Verdict) (b : Ledger) where
   record Fronted (s t : Bool) : Type 0 where
     words-are : List ℕ
     words-tabless : tabless words-are ≡ true
+    not-total : (r : List ℕ) → isTotalWords (words-are ++ r) ≡ false
     is :
         fill (numbers v b) (phrase (2 * one (not s) + one t))
         ≡ front (decimal (v .number)) (elim s [ true ↦ decimal (v .heads) | false ↦ 45 ∷ [] ])
@@ -91,21 +95,24 @@ module _ (v : Verdict) (b : Ledger) where
         words-are
 
   fronted : (s t : Bool) → Fronted s t
-  unfolding fill words ascii tabless
-  fronted true false = record { words-are = ascii "counted"; words-tabless = refl; is = refl }
+  unfolding fill words ascii tabless isTotalWords ahead
+  fronted true false = record { words-are = ascii "counted"; words-tabless = refl; not-total = λ r. refl; is = refl }
   fronted true true = record {
     words-are = ascii "over by " ++ (decimal (size (left b)) ++ []);
     words-tabless = tabless-append (decimal (size (left b))) [] (decimal-tabless (size (left b))) refl;
+    not-total = λ r. refl;
     is = refl;
   }
   fronted false false = record {
     words-are = decimal (v .number) ++ ascii ": ";
     words-tabless = tabless-append (decimal (v .number)) (ascii ": ") (decimal-tabless (v .number)) refl;
+    not-total = λ r. ap isTotalWords (append-assoc (decimal (v .number)) (ascii ": ") r) ∙ reason-words (v .number) (32 ∷ r);
     is = refl;
   }
   fronted false true = record {
     words-are = decimal (v .number) ++ ascii ": ";
     words-tabless = tabless-append (decimal (v .number)) (ascii ": ") (decimal-tabless (v .number)) refl;
+    not-total = λ r. ap isTotalWords (append-assoc (decimal (v .number)) (ascii ": ") r) ∙ reason-words (v .number) (32 ∷ r);
     is = refl;
   }
 
@@ -117,7 +124,7 @@ module _ (v : Verdict) (b : Ledger) where
       by true = decimal-tabless (v .heads)
       by false = refl
 
-  left-tabless : tabless (leftText b) ≡ true
+  pub left-tabless : tabless (leftText b) ≡ true
   unfolding tabless
   left-tabless = by (isBelow (left b))
     where
@@ -127,6 +134,9 @@ module _ (v : Verdict) (b : Ledger) where
 
   pub record Fielded (name : List ℕ) : Type 0 where
     pub words-are : List ℕ
+    pub not-total : isTotalWords words-are ≡ false
+    pub others : List ℕ
+    pub is : bareLine name v b ≡ shown name ++ tab ∷ others
     pub fields : fieldsOf (bareLine name v b) ≡ shown name ∷ decimal (v .number) ∷ headsText v ∷ leftText b ∷ words-are ∷ []
 
   pub fielded : (name : List ℕ) → Fielded name
@@ -137,12 +147,18 @@ module _ (v : Verdict) (b : Ledger) where
       let n = decimal (v .number) in
       let h = headsText v in
       let q = leftText b in
-      let w = f .words-are in record {
+      let w = f .words-are in
+      let o = n ++ tab ∷ (h ++ tab ∷ (q ++ tab ∷ (w ++ r))) in
+      let z : (n ++ tab ∷ (h ++ tab ∷ (q ++ tab ∷ w))) ++ r ≡ n ++ tab ∷ (h ++ tab ∷ (q ++ tab ∷ (w ++ r))) = simp append-assoc in
+      let i : bareLine name v b ≡ shown name ++ tab ∷ (n ++ tab ∷ (h ++ tab ∷ (q ++ tab ∷ (w ++ r)))) =
+      ap (λ (l : List ℕ). shown name ++ (l ++ r)) (f .is) ∙ ap (λ (l : List ℕ). shown name ++ tab ∷ l) z in record {
         words-are = w ++ r;
+        not-total = f .not-total r;
+        others = o;
+        is = i;
         fields =
-            ap (λ (l : List ℕ). fieldsOf (shown name ++ (l ++ r))) (f .is)
-            ∙ ap (λ (l : List ℕ). fieldsOf (shown name ++ tab ∷ l)) (let z : (n ++ tab ∷ (h ++ tab ∷ (q ++ tab ∷ w))) ++ r ≡ n ++ tab ∷ (h ++ tab ∷ (q ++ tab ∷ (w ++ r))) = simp append-assoc in z)
-            ∙ field-then (shown name) (n ++ tab ∷ (h ++ tab ∷ (q ++ tab ∷ (w ++ r)))) (shown-tabless name)
+            ap fieldsOf i
+            ∙ field-then (shown name) o (shown-tabless name)
             ∙ ap (λ (fs : List (List ℕ)). shown name ∷ fs)
             (field-then n (h ++ tab ∷ (q ++ tab ∷ (w ++ r))) (decimal-tabless (v .number))
             ∙ ap (λ (fs : List (List ℕ)). n ∷ fs)
@@ -157,7 +173,7 @@ module _ (v : Verdict) (b : Ledger) where
 abbrev pub headsRead : Verdict → ℕ
 headsRead v = elim (isCounted v) [ true ↦ v .heads | false ↦ 0 ]
 
-pub reread : (name : List ℕ) (v : Verdict) (b : Ledger) → v .number < none → v .heads < none → pageLineOf (bareLine name v b) ≡ page (length name) (v .number) (headsRead v)
+pub reread : (name : List ℕ) (v : Verdict) (b : Ledger) → v .number < none → (isCounted v ≡ true → v .heads < none) → pageLineOf (bareLine name v b) ≡ page (length name) (v .number) (headsRead v)
 reread name v b hn hh = by (isCounted v) refl
   where
     line : List ℕ
@@ -178,8 +194,8 @@ reread name v b hn hh = by (isCounted v) refl
     by : (t : Bool) → isCounted v ≡ t → pageLineOf (bareLine name v b) ≡ page (length name) (v .number) (elim t [ true ↦ v .heads | false ↦ 0 ])
     by true e =
         let z : v .number ≡ 0 = eqb-true (v .number) 0 e in
-        let h : numberIn (field 2 (bareLine name v b)) ≡ v .heads = ap numberIn (at 2 ∙ ap (λ (t : Bool). elim t [ true ↦ decimal (v .heads) | false ↦ 45 ∷ [] ]) e) ∙ number-decimal (v .heads) hh in
-        sym (counted-so (bareLine name v b) five (omega (arith, number)) (number ∙ z) (omega (arith, h)))
+        let h : numberIn (field 2 (bareLine name v b)) ≡ v .heads = ap numberIn (at 2 ∙ ap (λ (t : Bool). elim t [ true ↦ decimal (v .heads) | false ↦ 45 ∷ [] ]) e) ∙ number-decimal (v .heads) (hh e) in
+        sym (counted-so (bareLine name v b) five (omega (arith, number)) (number ∙ z) (omega (arith, h, hh e)))
         ∙ ap₂ (λ (x y : ℕ). page x 0 y) long h
         ∙ ap (λ (x : ℕ). page (length name) x (v .heads)) (sym z)
     by false e =

@@ -107,7 +107,7 @@ module _ (v : Verdict) (b : Ledger) where
   pub resumes : (name : List ℕ) → v .number < none → hasRoom b v ≡ true → resumed (bareLine name v (booked b v)) name b ≡ record { good = true; ledger = booked b v }
   resumes name hn r =
       let line = bareLine name v (booked b v) in
-      let p = reread name v (booked b v) hn (omega (arith, fits b v r .heads)) in
+      let p = reread name v (booked b v) hn (λ e. omega (arith, fits b v r .heads)) in
       let w : verdictIn (pageLineOf line) ≡ verdictOf (v .number) (headsRead v) = ap verdictIn p in
       let fs = fielded v (booked b v) name .fields in
       tested line name b (ap (λ (q : PageLine). q .good) p)

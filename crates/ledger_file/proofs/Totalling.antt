@@ -67,6 +67,18 @@ module _ (line : List ℕ) where
   unfolding isTotal
   total-tested {x} {y} {z} p q r = ap₂ (λ (a b : Bool). lined a b (isTotalWords (field 4 line))) p q ∙ ap (lined x y) r
 
+  -- by its words alone
+  pub total-wordless : isTotalWords (field 4 line) ≡ false → isTotal line ≡ false
+  total-wordless e = total-tested refl refl e ∙ both (eqb (length (fieldsOf line)) 5) (same (field 0 line) (ascii "total"))
+    where
+      both : (x y : Bool) → (x && (y && false)) ≡ false
+      both true true = refl
+      both true false = refl
+      both false y = refl
+
+  pub total-so : length (fieldsOf line) ≡ 5 → same (field 0 line) (ascii "total") ≡ true → isTotalWords (field 4 line) ≡ true → isTotal line ≡ true
+  total-so p q r = total-tested (eq-eqb _ 5 p) q r
+
   pub total-fields : (length (fieldsOf line) ≡ 5 → ⊥) → false ≡ isTotal line
   total-fields h = sym (total-tested (ne-eqb _ 5 h) refl refl)
 

@@ -5,3 +5,4 @@ pub mod Resume
 pub mod Total
 pub mod Sums
 pub mod Tallying
+pub mod Parts

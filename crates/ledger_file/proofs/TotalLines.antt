@@ -1,0 +1,110 @@
+-- The total's line that a run wrote is read as one. Assumes nothing.
+use mathlib.Core.Path.{_≡_, refl, sym, ap, ap₂, _∙_}
+use mathlib.Core.Bool.{Bool, true, false}
+use mathlib.Core.List.{List, [], _∷_, _++_, append-assoc}
+use Prim.Native.Nat.{ℕ, _+_, _-_, _*_, _<_}
+use native.Mathlib.Omega.{arith}
+use lib.Dec.{eqb}
+use lib.ListN.{length, getD}
+use Rattle.listing_text.specs.Text.{ascii, tab, decimal}
+use Rattle.form_file.specs.Steps.{ahead}
+use Rattle.form_file.specs.Words.{same, none}
+use Rattle.form_file.proofs.Wording.{same-self}
+use Rattle.ledger.specs.Books.{left, isBelow, size}
+use Rattle.ledger.specs.Phrases.{words, phrase, one}
+use Rattle.ledger.specs.Said.{fill, numbers, noVerdict, filledWith, totalAt}
+use Rattle.ledger.specs.declared.Ledger.{Ledger}
+use Rattle.ledger_file.specs.Fields.{fieldsOf, field, numberIn}
+use Rattle.ledger_file.specs.Resume.{leftText}
+use Rattle.ledger_file.specs.Total.{isTotalWords, isTotal}
+use Rattle.ledger_file.proofs.Numerals.{number-decimal}
+use Rattle.ledger_file.proofs.Rereading.{left-tabless}
+use Rattle.ledger_file.proofs.Tabless.{tabless, tabless-append, field-then, field-last-is, decimal-tabless}
+use Rattle.ledger_file.proofs.Totalling.{total-so}
+use Rattle.ledger_file.proofs.TotalWords.{total-words-so}
+
+module _ (b : Ledger) where
+  -- pages counted, to be looked at, and by how much the quota is passed
+  abbrev counted : List ℕ
+  counted = decimal (b .pages - b .looked)
+
+  abbrev looked : List ℕ
+  looked = decimal (b .looked)
+
+  abbrev sized : List ℕ
+  sized = decimal (size (left b))
+
+  abbrev behind : List ℕ
+  behind = counted ++ (ascii " counted, " ++ (looked ++ ascii " to be looked at"))
+
+  abbrev behind-over : List ℕ
+  behind-over = counted ++ (ascii " counted, " ++ (looked ++ (ascii " to be looked at; over by " ++ (sized ++ []))))
+
+  behind-tabless : tabless behind ≡ true
+  unfolding tabless ascii
+  behind-tabless =
+      tabless-append counted (ascii " counted, " ++ (looked ++ ascii " to be looked at")) (decimal-tabless (b .pages - b .looked))
+      (tabless-append looked (ascii " to be looked at") (decimal-tabless (b .looked)) refl)
+
+  over-tabless : tabless behind-over ≡ true
+  unfolding tabless ascii
+  over-tabless =
+      tabless-append counted (ascii " counted, " ++ (looked ++ (ascii " to be looked at; over by " ++ (sized ++ [])))) (decimal-tabless (b .pages - b .looked))
+      (tabless-append looked (ascii " to be looked at; over by " ++ (sized ++ [])) (decimal-tabless (b .looked)) (tabless-append sized [] (decimal-tabless (size (left b))) refl))
+
+  record Fronted (x y : Bool) : Type 0 where
+    words-are : List ℕ
+    words-tabless : tabless words-are ≡ true
+    of-total : isTotalWords words-are ≡ true
+    is :
+        fill (numbers noVerdict b) (phrase (4 + 2 * one x + one y))
+        ≡ ascii "total" ++ tab ∷ (looked ++ tab ∷ (decimal (b .heads) ++ tab ∷ (elim y [ true ↦ 45 ∷ sized | false ↦ sized ] ++ tab ∷ words-are)))
+
+  fronted : (x y : Bool) → Fronted x y
+  unfolding fill words ascii tabless isTotalWords ahead same
+  fronted false false = record {
+    words-are = decimal (b .pages) ++ (ascii " pages, " ++ behind);
+    words-tabless = tabless-append (decimal (b .pages)) (ascii " pages, " ++ behind) (decimal-tabless (b .pages)) behind-tabless;
+    of-total = total-words-so (b .pages) (ascii "s, " ++ behind);
+    is = refl;
+  }
+  fronted false true = record {
+    words-are = decimal (b .pages) ++ (ascii " pages, " ++ behind-over);
+    words-tabless = tabless-append (decimal (b .pages)) (ascii " pages, " ++ behind-over) (decimal-tabless (b .pages)) over-tabless;
+    of-total = total-words-so (b .pages) (ascii "s, " ++ behind-over);
+    is = refl;
+  }
+  fronted true false = record { words-are = ascii "1 page, " ++ behind; words-tabless = behind-tabless; of-total = refl; is = refl }
+  fronted true true = record { words-are = ascii "1 page, " ++ behind-over; words-tabless = over-tabless; of-total = refl; is = refl }
+
+  abbrev pub totalBare : List ℕ
+  totalBare = filledWith noVerdict b (totalAt b)
+
+  pub record Totalled : Type 0 where
+    pub is-total : isTotal totalBare ≡ true
+    pub looked-is : numberIn (field 1 totalBare) ≡ b .looked
+    pub heads-is : numberIn (field 2 totalBare) ≡ b .heads
+
+  fields-are : fieldsOf totalBare ≡ ascii "total" ∷ looked ∷ decimal (b .heads) ∷ leftText b ∷ fronted (eqb (b .pages) 1) (isBelow (left b)) .words-are ∷ []
+  unfolding tabless ascii
+  fields-are =
+      let f = fronted (eqb (b .pages) 1) (isBelow (left b)) in
+      let h = decimal (b .heads) in
+      let q = leftText b in
+      let w = f .words-are in
+      ap fieldsOf (f .is)
+      ∙ field-then (ascii "total") (looked ++ tab ∷ (h ++ tab ∷ (q ++ tab ∷ w))) refl
+      ∙ ap (λ (fs : List (List ℕ)). ascii "total" ∷ fs)
+      (field-then looked (h ++ tab ∷ (q ++ tab ∷ w)) (decimal-tabless (b .looked))
+      ∙ ap (λ (fs : List (List ℕ)). looked ∷ fs)
+      (field-then h (q ++ tab ∷ w) (decimal-tabless (b .heads))
+      ∙ ap (λ (fs : List (List ℕ)). h ∷ fs) (field-then q w (left-tabless noVerdict b) ∙ ap (λ (fs : List (List ℕ)). q ∷ fs) (field-last-is w (f .words-tabless)))))
+
+  pub totalled : b .looked < none → b .heads < none → Totalled
+  totalled hl hh = record {
+    is-total =
+        total-so totalBare (ap length fields-are) (ap (λ (fs : List (List ℕ)). same (getD fs 0 []) (ascii "total")) fields-are ∙ same-self (ascii "total"))
+        (ap (λ (fs : List (List ℕ)). isTotalWords (getD fs 4 [])) fields-are ∙ fronted (eqb (b .pages) 1) (isBelow (left b)) .of-total);
+    looked-is = ap (λ (fs : List (List ℕ)). numberIn (getD fs 1 [])) fields-are ∙ number-decimal (b .looked) hl;
+    heads-is = ap (λ (fs : List (List ℕ)). numberIn (getD fs 2 [])) fields-are ∙ number-decimal (b .heads) hh;
+  }
