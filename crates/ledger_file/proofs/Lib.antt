@@ -14,4 +14,5 @@ pub mod Adding
 pub mod TotalLines
 pub mod Fitting
 pub mod Parted
+pub mod Apart
 mod Sheets

@@ -26,7 +26,7 @@ use Rattle.ledger_file.proofs.Names.{fronts}
 
 -- ---- A page's line
 
-booked-pages : (b : Ledger) (v : Verdict) → booked b v .pages ≡ suc (b .pages)
+pub booked-pages : (b : Ledger) (v : Verdict) → booked b v .pages ≡ suc (b .pages)
 unfolding booked
 booked-pages b v = by (eqb (v .number) 0)
   where

@@ -2,9 +2,9 @@
 use mathlib.Core.Path.{_≡_}
 use mathlib.Core.Bool.{true, false}
 use mathlib.Core.List.{List}
-use Prim.Native.Nat.{ℕ, _≤_}
+use Prim.Native.Nat.{ℕ, _≤_, _<_}
 use lib.IntN.{ℤ}
-use lib.ListN.{length}
+use lib.ListN.{length, getD}
 use Rattle.ledger.specs.Balance.{opened, Balanced}
 use Rattle.ledger.specs.Books.{isCounted, booked, bookedAll, hasRoom}
 use Rattle.ledger.specs.Lines.{bareLine}
@@ -13,7 +13,7 @@ use Rattle.ledger.specs.declared.Verdict.{Verdict}
 use Rattle.ledger_file.specs.Page.{page, pageLineOf}
 use Rattle.ledger_file.specs.Parts.{Part, partsText, pagesOf, verdictsOf, Summable}
 use Rattle.ledger_file.specs.Resume.{resumed}
-use Rattle.ledger_file.specs.Sums.{AddsUp}
+use Rattle.ledger_file.specs.Sums.{AddsUp, nameAt}
 use Rattle.ledger_file.specs.declared.AddedUp.{AddedUp}
 
 -- a page's line is read as the length of its name, the verdict's number, and the heads where it is counted
@@ -38,3 +38,9 @@ pub record AddsAll (quota : ℤ) (ps : List Part) (r : AddedUp) : Type 0 where
 abbrev pub PartsAddUp : Type 0
 PartsAddUp =
     (quota : ℤ) (ps : List Part) (starts : List ℕ) (r : AddedUp) (starts′ : List ℕ) → Summable (length starts) (pagesOf ps) → AddsUp (partsText ps) quota starts r starts′ → AddsAll quota ps r
+
+-- whatever the text is, of the pages in the books no two have one name: their lines begin where the lent array says
+abbrev pub NoNameTwice : Type 0
+NoNameTwice =
+    (text : List ℕ) (quota : ℤ) (starts : List ℕ) (r : AddedUp) (starts′ : List ℕ) → AddsUp text quota starts r starts′
+    → (i j : ℕ) → i < j → j < r .ledger .pages → nameAt text (getD starts′ i 0) ≡ nameAt text (getD starts′ j 0) → ⊥
