@@ -2,11 +2,11 @@
 use mathlib.Core.Path.{_≡_, refl, sym, ap, ap₂, _∙_, subst}
 use mathlib.Core.Bool.{Bool, true, false}
 use mathlib.Core.List.{List, [], _∷_, _++_}
-use Prim.Native.Nat.{ℕ, zero, suc, _+_, _-_, _≤_, _<_}
+use Prim.Native.Nat.{ℕ, _+_, _-_, _≤_, _<_}
 use native.Mathlib.Omega.{arith}
 use lib.Dec.{eqb}
 use lib.IntN.{ℤ}
-use lib.ListN.{length, getD, take, drop, take-append-drop, length-drop}
+use lib.ListN.{length, take, drop, take-append-drop, length-drop}
 use lib.Seq.{length-take-le, drop-drop}
 use borrow.Author.Tests.{eq-eqb, ne-eqb}
 use Rattle.rules.specs.Pages.{overlaid}
@@ -14,7 +14,7 @@ use Rattle.listing_text.specs.Lines.{onto, pieces, linesOf, linesBehind, LineTo
 use Rattle.ledger.specs.Balance.{opened}
 use Rattle.ledger.specs.declared.Ledger.{Ledger}
 use Rattle.ledger_file.specs.Sums.{Sum, Went, on, wrong, taken, Added, lastFault, ended, adding, addedUp, AddsUp}
-use Rattle.ledger_file.specs.Tallying.{Tabbed, sumIn, Standing, Onward, Stopped, told, Tells}
+use Rattle.ledger_file.specs.Tallying.{sumIn, Standing, Onward, Stopped, told, Tells}
 use Rattle.ledger_file.specs.declared.AddedUp.{AddedUp}
 use Rattle.ledger_file.specs.declared.tally.Tally.{Tally}
 

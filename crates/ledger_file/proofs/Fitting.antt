@@ -1,7 +1,7 @@
 -- Books that have room for a list of pages. Assumes nothing.
-use mathlib.Core.Path.{_≡_, refl, sym, ap, ap₂, _∙_}
+use mathlib.Core.Path.{_≡_, refl, ap}
 use mathlib.Core.Bool.{Bool, true, false}
-use mathlib.Core.List.{List, [], _∷_, _++_, map}
+use mathlib.Core.List.{List, [], _∷_, _++_}
 use Prim.Native.Nat.{ℕ, suc, _+_, _≤_, _<_}
 use native.Mathlib.Omega.{arith}
 use lib.ListN.{length, length-append}
@@ -9,7 +9,7 @@ use borrow.Author.Tests.{lt-ltb, le-leb}
 use Rattle.form_file.specs.Words.{none}
 use Rattle.ledger.specs.Balance.{headsOf, lookedOf}
 use Rattle.ledger.specs.Books.{isCounted, booked, hasRoom, bookedAll}
-use Rattle.ledger.proofs.Balance.{Sums, sums}
+use Rattle.ledger.proofs.Balance.{sums}
 use Rattle.ledger.specs.declared.Ledger.{Ledger}
 use Rattle.ledger.specs.declared.Verdict.{Verdict}
 use Rattle.ledger_file.specs.Resume.{verdictOf}

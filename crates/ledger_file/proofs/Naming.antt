@@ -1,7 +1,7 @@
 -- Laws of the name in a line, and of the quota left. Assumes nothing.
 use mathlib.Core.Path.{_≡_, refl, sym, ap, ap₂, _∙_}
 use mathlib.Core.Bool.{Bool, true, false}
-use mathlib.Core.List.{List, [], _∷_, _++_}
+use mathlib.Core.List.{List, [], _∷_}
 use Prim.Native.Nat.{ℕ, zero, suc, _+_, _-_, _≤_, _<_}
 use native.Mathlib.Omega.{arith}
 use lib.ListN.{length, getD, take, drop, length-append}
@@ -11,7 +11,7 @@ use Rattle.listing_text.specs.Text.{decimal}
 use Rattle.listing_text.specs.Writing.{Room, Puts}
 use Rattle.listing_text.specs.Listed.{Prints}
 use Rattle.listing_text.proofs.Lengths.{decimal-short}
-use Rattle.listing_text.proofs.Written.{Owes, owes-all, owes-room, owes-some, owes-last-room, owes-last, puts-as}
+use Rattle.listing_text.proofs.Written.{Owes, owes-all, owes-some, owes-last-room, owes-last, puts-as}
 use Rattle.form_file.specs.Words.{same}
 use Rattle.form_file.proofs.Wording.{same-length, Alike, alike-first, alike-differ, alike-next, alike-end}
 use Rattle.ledger.specs.Books.{left, isBelow, size}

@@ -1,16 +1,13 @@
 -- Laws of a page's line. Assumes nothing.
-use mathlib.Core.Path.{_≡_, refl, sym, ap, ap₂, _∙_}
-use mathlib.Core.Bool.{Bool, true, false}
+use mathlib.Core.Path.{_≡_, sym, _∙_}
+use mathlib.Core.Bool.{true, false}
 use mathlib.Core.List.{List, [], _∷_}
 use Prim.Native.Nat.{ℕ, _≤_, _<_}
-use native.Mathlib.Omega.{arith}
-use lib.Dec.{eqb, ltb}
 use lib.ListN.{length}
 use borrow.Author.Tests.{eq-eqb, ne-eqb, lt-ltb, le-ltb}
 use Rattle.form_file.specs.Words.{same, none}
-use Rattle.ledger_file.specs.Fields.{fieldsOf, field, numberIn, isNumber}
+use Rattle.ledger_file.specs.Fields.{fieldsOf, field, numberIn}
 use Rattle.ledger_file.specs.Page.{noPage, page, refusedPage, countedPage, pageLineOf}
-use Rattle.ledger_file.specs.declared.PageLine.{PageLine}
 
 module _ (line : List ℕ) where
   pub not-five : (length (fieldsOf line) ≡ 5 → ⊥) → noPage ≡ pageLineOf line

@@ -1,12 +1,12 @@
 -- What several runs wrote, one behind the other, adds up. Assumes nothing.
 use mathlib.Core.Path.{_≡_, refl, sym, ap, ap₂, _∙_, subst}
 use mathlib.Core.Bool.{Bool, true, false}
-use mathlib.Core.List.{List, [], _∷_, _++_, map, append-assoc, append-nil}
-use Prim.Native.Nat.{ℕ, zero, suc, _+_, _-_, _≤_, _<_}
+use mathlib.Core.List.{List, [], _∷_, _++_, map, append-assoc}
+use Prim.Native.Nat.{ℕ, suc, _+_, _-_, _≤_, _<_}
 use native.Mathlib.Omega.{arith}
 use lib.Dec.{ltb, eqb}
 use lib.IntN.{ℤ}
-use lib.ListN.{length, getD, take, drop, length-append, length-drop, length-map, List·getD-append}
+use lib.ListN.{length, getD, drop, length-append, length-drop, length-map, List·getD-append}
 use lib.Seq.{getD-drop, drop-drop, drop-append-add, getD-append-add}
 use borrow.Author.Tests.{lt-ltb, le-ltb, ltb-true, ltb-false, eq-eqb}
 use Rattle.listing_text.specs.Text.{newline, tab}
@@ -19,7 +19,7 @@ use Rattle.ledger.specs.Balance.{opened, headsOf, lookedOf}
 use Rattle.ledger.specs.Books.{isCounted, booked, hasRoom, bookedAll}
 use Rattle.ledger.specs.Lines.{Paged, bareLine, ledgerText}
 use Rattle.ledger.specs.Said.{shown, noVerdict, numbers, totalAt, pageLine, totalLine}
-use Rattle.ledger.proofs.Balance.{Sums, sums, books-balance}
+use Rattle.ledger.proofs.Balance.{sums, books-balance}
 use Rattle.ledger.proofs.Quiet.{line-then, bare-quiet, bare-line, phrase-quiet}
 use Rattle.ledger.specs.declared.Ledger.{Ledger}
 use Rattle.ledger.specs.declared.Verdict.{Verdict}
@@ -27,16 +27,16 @@ use Rattle.ledger_file.specs.Fields.{field, numberIn}
 use Rattle.ledger_file.specs.Page.{pageLineOf}
 use Rattle.ledger_file.specs.Parts.{Part, verdictsOf, namesOf, partText, partsText, pagesOf, AllDifferent, Held, Summable}
 use Rattle.ledger_file.specs.Resume.{verdictOf, verdictIn}
-use Rattle.ledger_file.specs.Sums.{Sum, Went, on, wrong, nameAt, namesake, pageTaken, totalTaken, taken, Added, adding, ended, addedUp}
+use Rattle.ledger_file.specs.Sums.{Sum, Went, on, wrong, nameAt, namesake, pageTaken, totalTaken, Added, adding, ended, addedUp}
 use Rattle.ledger_file.specs.Total.{isTotalWords}
 use Rattle.ledger_file.specs.declared.PageLine.{PageLine}
 use Rattle.ledger_file.proofs.Adding.{lines-some, after, adding-more}
-use Rattle.ledger_file.proofs.Fitting.{heads-append, looked-few, booked-append, Holds, First, holds-first, holds-front, holds-behind}
+use Rattle.ledger_file.proofs.Fitting.{looked-few, booked-append, Holds, holds-first, holds-front, holds-behind}
 use Rattle.ledger_file.proofs.Rereading.{fielded, headsRead, reread}
 use Rattle.ledger_file.proofs.Resuming.{booked-read}
 use Rattle.ledger_file.proofs.Tabless.{field-then, shown-tabless}
 use Rattle.ledger_file.proofs.Tallies.{takes-total, takes-page}
-use Rattle.ledger_file.proofs.TotalLines.{totalBare, Totalled, totalled}
+use Rattle.ledger_file.proofs.TotalLines.{totalBare, totalled}
 use Rattle.ledger_file.proofs.Totalling.{total-wordless}
 
 -- ---- Lists

@@ -4,24 +4,23 @@ use mathlib.Core.Bool.{Bool, true, false, not, _&&_}
 use mathlib.Core.List.{List, [], _∷_, _++_, append-assoc}
 use Prim.Native.Nat.{ℕ, _+_, _-_, _*_, _≤_, _<_}
 use native.Mathlib.Omega.{arith}
-use lib.Dec.{eqb, leb, ltb}
+use lib.Dec.{eqb, leb}
 use lib.ListN.{length, getD}
-use borrow.Author.Tests.{eqb-true, eqb-false, eq-eqb, leb-true, leb-false}
+use borrow.Author.Tests.{eqb-true, eqb-false, leb-true}
 use Rattle.listing_text.specs.Text.{ascii, tab, decimal}
 use Rattle.form_file.specs.Words.{same, none}
 use Rattle.form_file.proofs.Wording.{same-self}
 use Rattle.ledger.specs.Books.{isCounted, left, isBelow, size}
 use Rattle.ledger.specs.Phrases.{words, phrase, one, plainAt, missingAt, isUnits, isOfOneNumber, isOfNoLine, reasonAt}
-use Rattle.ledger.specs.Said.{fill, numbers, shown, filledWith, headAt, reasonWith}
+use Rattle.ledger.specs.Said.{fill, numbers, shown, reasonWith}
 use Rattle.ledger.specs.Lines.{bareLine}
-use Rattle.ledger.proofs.Whole.{length-shown, reason-none, reason-some}
+use Rattle.ledger.proofs.Whole.{length-shown}
 use Rattle.ledger.specs.declared.Ledger.{Ledger}
 use Rattle.ledger.specs.declared.Verdict.{Verdict}
 use Rattle.ledger_file.specs.Fields.{fieldsOf, field, numberIn}
 use Rattle.ledger_file.specs.Page.{page, pageLineOf}
 use Rattle.ledger_file.specs.Resume.{leftText}
 use Rattle.ledger_file.specs.Total.{isTotalWords}
-use Rattle.ledger_file.specs.declared.PageLine.{PageLine}
 use Rattle.form_file.specs.Steps.{ahead}
 use Rattle.ledger_file.proofs.Numerals.{number-decimal}
 use Rattle.ledger_file.proofs.TotalWords.{reason-words}

@@ -1,11 +1,11 @@
 -- Laws of a run that goes on, test by test; and behind a line that a run wrote it does. Assumes nothing.
 use mathlib.Core.Path.{_≡_, refl, sym, ap, ap₂, _∙_}
 use mathlib.Core.Bool.{Bool, true, false, _&&_}
-use mathlib.Core.List.{List, [], _∷_}
+use mathlib.Core.List.{List, []}
 use Prim.Native.Nat.{ℕ, suc, _+_, _≤_, _<_}
 use native.Mathlib.Omega.{arith}
-use lib.Dec.{eqb, leb, ltb}
-use lib.ListN.{length, getD}
+use lib.Dec.{eqb}
+use lib.ListN.{getD}
 use borrow.Author.Tests.{lt-ltb, le-leb}
 use Rattle.form_file.specs.Words.{same, none}
 use Rattle.form_file.proofs.Wording.{same-self}
@@ -16,11 +16,11 @@ use Rattle.ledger.proofs.Rooms.{fits}
 use Rattle.ledger.specs.declared.Ledger.{Ledger}
 use Rattle.ledger.specs.declared.Verdict.{Verdict}
 use Rattle.ledger_file.specs.Fields.{field}
-use Rattle.ledger_file.specs.Page.{page, pageLineOf}
+use Rattle.ledger_file.specs.Page.{pageLineOf}
 use Rattle.ledger_file.specs.Resume.{leftText, verdictOf, verdictIn, goesOn, unresumed, resumed}
 use Rattle.ledger_file.specs.declared.PageLine.{PageLine}
 use Rattle.ledger_file.specs.declared.Resumed.{Resumed}
-use Rattle.ledger_file.proofs.Rereading.{fielded, headsText, headsRead, reread}
+use Rattle.ledger_file.proofs.Rereading.{fielded, headsRead, reread}
 
 module _ (line name : List ℕ) (b : Ledger) where
   abbrev read : Verdict

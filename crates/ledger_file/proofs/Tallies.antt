@@ -2,12 +2,12 @@
 use mathlib.Core.Path.{_≡_, refl, sym, ap, ap₂, _∙_, subst}
 use mathlib.Core.Bool.{Bool, true, false, _&&_}
 use mathlib.Core.List.{List, [], _∷_, _++_}
-use Prim.Native.Nat.{ℕ, zero, suc, _+_, _-_, _≤_, _<_}
+use Prim.Native.Nat.{ℕ, suc, _+_, _-_, _≤_, _<_}
 use native.Mathlib.Omega.{arith}
 use lib.Dec.{eqb, ltb}
 use lib.ListN.{length, getD, take, drop, set, length-set, length-drop}
 use lib.Seq.{length-take-le, getD-take, getD-drop, take-suc-set, drop-set-lt, getD-set-same, getD-set-other}
-use borrow.Author.Tests.{eq-eqb, ne-eqb, lt-ltb, le-ltb, ltb-true, ltb-false, eqb-true, eqb-false}
+use borrow.Author.Tests.{eq-eqb, ne-eqb, lt-ltb, le-ltb, ltb-true, ltb-false, eqb-true}
 use Rattle.form_file.specs.First.{firstOf}
 use Rattle.form_file.specs.Words.{same}
 use Rattle.form_file.proofs.Firsts.{first-same}
@@ -19,7 +19,7 @@ use Rattle.ledger_file.specs.Page.{noPage, page, refusedPage, countedPag
 use Rattle.ledger_file.specs.Resume.{verdictOf, verdictIn}
 use Rattle.ledger_file.specs.Total.{isTotal}
 use Rattle.ledger_file.specs.Sums.{Sum, Went, on, wrong, nameAt, namesake, pageTaken, totalTaken, taken}
-use Rattle.ledger_file.specs.Tallying.{Tabbed, sumIn, Standing, Onward, Stopped, Gone}
+use Rattle.ledger_file.specs.Tallying.{Tabbed, sumIn, Standing, Onward, Stopped}
 use Rattle.ledger_file.specs.declared.PageLine.{PageLine}
 use Rattle.ledger_file.specs.declared.tally.Tally.{Tally}
 use Rattle.ledger_file.proofs.Names.{fronts}

@@ -1,15 +1,14 @@
 -- Words that begin with a number: those of a total, and of a reason. Assumes nothing.
-use mathlib.Core.Path.{_≡_, refl, sym, ap, ap₂, _∙_}
+use mathlib.Core.Path.{_≡_, refl, ap, ap₂, _∙_}
 use mathlib.Core.Bool.{Bool, true, false, _&&_}
 use mathlib.Core.List.{List, [], _∷_, _++_, append-assoc}
-use Prim.Native.Nat.{ℕ, zero, suc, _+_, _%_, _≤_, _<_}
+use Prim.Native.Nat.{ℕ, _+_, _%_, _≤_, _<_}
 use native.Mathlib.Omega.{arith}
 use lib.Dec.{ltb}
 use lib.ListN.{length, take, drop, length-append}
 use lib.Seq.{drop-append-seam}
 use borrow.Author.Tests.{lt-ltb}
 use Rattle.listing_text.specs.Text.{ascii, digit, decimal}
-use Rattle.listing_text.specs.Reading.{digitOf}
 use Rattle.listing_text.proofs.Digits.{digit-of, decimal-ind}
 use Rattle.form_file.specs.Steps.{ahead}
 use Rattle.form_file.specs.Words.{same}

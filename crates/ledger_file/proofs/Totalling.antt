@@ -1,14 +1,13 @@
 -- Laws of a total's line, test by test. Assumes nothing.
 use mathlib.Core.Path.{_≡_, refl, sym, ap, ap₂, _∙_}
 use mathlib.Core.Bool.{Bool, true, false, _&&_}
-use mathlib.Core.List.{List, [], _∷_}
+use mathlib.Core.List.{List}
 use Prim.Native.Nat.{ℕ, _+_, _-_, _≤_, _<_}
 use native.Mathlib.Omega.{arith}
 use lib.Dec.{eqb, leb, ltb}
 use lib.ListN.{length, take, drop, length-take, length-drop}
-use borrow.Author.Tests.{eq-eqb, ne-eqb, lt-ltb, le-ltb, le-leb, lt-leb, leb-true, leb-false}
+use borrow.Author.Tests.{eq-eqb, ne-eqb, lt-ltb, leb-true, leb-false}
 use Rattle.listing_text.specs.Text.{ascii}
-use Rattle.listing_text.specs.Reading.{digitOf}
 use Rattle.listing_text.proofs.Digits.{low-byte, high-byte, digit-byte}
 use Rattle.form_file.specs.Steps.{ahead}
 use Rattle.form_file.specs.Words.{same}

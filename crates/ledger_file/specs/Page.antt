@@ -1,5 +1,5 @@
 -- What a line says of a page: `NAME`, the verdict's number, the heads or `-`, the quota left and words, parted by tabs.
-use mathlib.Core.Bool.{Bool, true, false}
+use mathlib.Core.Bool.{true, false}
 use mathlib.Core.List.{List, [], _∷_}
 use Prim.Native.Nat.{ℕ}
 use lib.Dec.{eqb}

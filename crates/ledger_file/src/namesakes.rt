@@ -1,6 +1,6 @@
 // The names of pages, compared where they stand in the text.
 ghost use mathlib.Core.Path.{_≡_};
-ghost use Prim.Native.Nat.{ℕ, _≤_, _<_};
+ghost use Prim.Native.Nat.{_<_};
 ghost use lib.ListN.{length, getD};
 ghost use Rattle.form_file.specs.First.{firstOf};
 ghost use Rattle.form_file.specs.Words.{same};

@@ -1,8 +1,7 @@
 -- `ledger_file::fields::field_end` meets its contract. The invariant: no tab stands in what was passed. Assumes nothing.
-use mathlib.Core.Path.{_≡_, refl}
-use Prim.Native.Nat.{ℕ, _-_, _≤_, _<_}
+use Prim.Native.Nat.{_-_, _≤_}
 use native.Mathlib.Omega.{arith}
-use lib.ListN.{length, getD}
+use lib.ListN.{length}
 use borrow.Author.Count.{below-more}
 use denote.Ref.{now}
 use Rattle.ledger_file.proofs.Fielding.{NoneFrom, field-last, field-ends}

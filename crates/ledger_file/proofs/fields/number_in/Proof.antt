@@ -1,7 +1,6 @@
 -- `ledger_file::fields::number_in` meets its contract. Assumes nothing.
 use Rattle.ledger_file.proofs.Fielding.{number-none, number-some}
 use denote.Ref.{now}
-use native.Mathlib.Omega.{arith}
 use mathlib.Core.Path.{_∙_}
 use borrow.Author.Needs.{needs}
 use Rattle.ledger_file.proofs.fields.number_in.Statement.{statement}

@@ -1,7 +1,6 @@
 -- `ledger_file::fields::number_of` meets its contract. Assumes nothing.
 use Rattle.ledger_file.proofs.Fielding.{field-is}
 use Rattle.ledger_file.specs.Fields.{numberIn}
-use denote.Ref.{now}
 use mathlib.Core.Path.{sym, ap, _∙_}
 use borrow.Author.Needs.{needs}
 use Rattle.ledger_file.proofs.fields.number_of.Statement.{statement}

@@ -3,7 +3,7 @@ use Rattle.ledger_file.specs.Sums.{nameAt}
 use Rattle.form_file.proofs.Firsts.{Sought, sought-start, sought-hit, sought-next, sought-none}
 use Rattle.form_file.specs.Words.{same}
 use denote.Ref.{now}
-use lib.ListN.{length, getD}
+use lib.ListN.{getD}
 use native.Mathlib.Omega.{arith}
 use Prim.Native.Nat.{ℕ, _-_}
 use mathlib.Core.Bool.{Bool}

@@ -3,7 +3,6 @@ use Rattle.ledger_file.proofs.Tallies.{takes-total, takes-none, takes-p
 use Rattle.ledger_file.specs.Tallying.{sumIn}
 use borrow.Author.Tests.{not-true, not-false}
 use denote.Ref.{now}
-use native.Mathlib.Omega.{arith}
 use lib.ListN.{length, take, drop}
 use Prim.Native.Nat.{_-_}
 use mathlib.Core.Path.{refl, sym, _∙_}

@@ -2,7 +2,6 @@
 use Rattle.ledger_file.proofs.Tallies.{page-roomless, page-twice, page-full, page-on}
 use borrow.Author.Tests.{not-true, not-false}
 use denote.Ref.{now}
-use native.Mathlib.Omega.{arith}
 use mathlib.Core.Path.{sym, _∙_}
 use borrow.Author.Needs.{needs}
 use Rattle.ledger_file.proofs.tally.page_taken.Statement.{statement}
