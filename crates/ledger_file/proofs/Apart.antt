@@ -21,7 +21,7 @@ use Rattle.ledger.specs.declared.Verdict.{Verdict}
 use Rattle.ledger_file.specs.Fields.{field, numberIn}
 use Rattle.ledger_file.specs.Page.{pageLineOf}
 use Rattle.ledger_file.specs.Resume.{verdictIn}
-use Rattle.ledger_file.specs.Total.{isTotal}
+use Rattle.ledger_file.specs.Total.{isTotal, totalPages}
 use Rattle.ledger_file.specs.Sums.{Sum, Went, on, wrong, nameAt, namesake, pageTaken, totalTaken, taken, Added, adding, addedUp, AddsUp}
 use Rattle.ledger_file.specs.declared.AddedUp.{AddedUp}
 use Rattle.ledger_file.proofs.Tallies.{booked-pages}
@@ -88,7 +88,7 @@ module _ (text : List ℕ) where
     unfolding taken totalTaken
     good line =
         either (isTotal line) _ _
-        (either (eqb (numberIn (field 1 line)) (s .books .looked - s .closed .looked) && eqb (numberIn (field 2 line)) (s .books .heads - s .closed .heads)) _ _ (record { many = h .many; apart = h .apart }) refl)
+        (either (eqb (numberIn (field 1 line)) (s .books .looked - s .closed .looked) && (eqb (numberIn (field 2 line)) (s .books .heads - s .closed .heads) && eqb (totalPages line) (s .books .pages - s .closed .pages))) _ _ (record { many = h .many; apart = h .apart }) refl)
         (either (pageLineOf line .good) _ _ (page-good (verdictIn (pageLineOf line))) refl)
 
   goes : (room at : ℕ) (s : Sum) → Apart s → (ls : List (List ℕ)) → Apart (adding text room at s ls .sum)

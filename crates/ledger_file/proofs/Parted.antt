@@ -28,7 +28,7 @@ use Rattle.ledger_file.specs.Page.{pageLineOf}
 use Rattle.ledger_file.specs.Parts.{Part, verdictsOf, namesOf, partText, partsText, pagesOf, AllDifferent, Held, Summable}
 use Rattle.ledger_file.specs.Resume.{verdictOf, verdictIn}
 use Rattle.ledger_file.specs.Sums.{Sum, Went, on, wrong, nameAt, namesake, pageTaken, totalTaken, Added, adding, ended, addedUp}
-use Rattle.ledger_file.specs.Total.{isTotalWords}
+use Rattle.ledger_file.specs.Total.{isTotalWords, totalPages}
 use Rattle.ledger_file.specs.declared.PageLine.{PageLine}
 use Rattle.ledger_file.proofs.Adding.{lines-some, after, adding-more}
 use Rattle.ledger_file.proofs.Fitting.{looked-few, booked-append, Holds, holds-first, holds-front, holds-behind}
@@ -179,17 +179,17 @@ module _ (text : List ℕ) (room : ℕ) (all : List (List ℕ)) (different : All
     abbrev closed-now : Sum
     closed-now = record { books = s .books; closed = s .books; starts = s .starts }
 
-    module _ (el : b .looked ≡ s .books .looked - s .closed .looked) (eh : b .heads ≡ s .books .heads - s .closed .heads) (hl : b .looked < none) (hh : b .heads < none) where
+    module _ (el : b .looked ≡ s .books .looked - s .closed .looked) (eh : b .heads ≡ s .books .heads - s .closed .heads) (ep : b .pages ≡ s .books .pages - s .closed .pages) (hl : b .looked < none) (hh : b .heads < none) (hp : b .pages < none) where
       total-took : totalTaken (totalBare b) s ≡ on closed-now
       unfolding totalTaken
       total-took =
-          rw (totalTaken, eq-eqb (numberIn (field 1 (totalBare b))) (s .books .looked - s .closed .looked) (totalled b hl hh .looked-is ∙ el), eq-eqb (numberIn (field 2 (totalBare b))) (s .books .heads - s .closed .heads) (totalled b hl hh .heads-is ∙ eh))
+          rw (totalTaken, eq-eqb (numberIn (field 1 (totalBare b))) (s .books .looked - s .closed .looked) (totalled b hl hh hp .looked-is ∙ el), eq-eqb (numberIn (field 2 (totalBare b))) (s .books .heads - s .closed .heads) (totalled b hl hh hp .heads-is ∙ eh), eq-eqb (totalPages (totalBare b)) (s .books .pages - s .closed .pages) (totalled b hl hh hp .pages-is ∙ ep))
 
       total-step : adding text room at s (linesOf (drop at text)) ≡ adding text room (at + length (totalBare b) + 1) closed-now (linesOf rest)
       total-step =
           ap (adding text room at s) (ap linesOf e ∙ line-then (totalBare b) rest (phrase-quiet (numbers noVerdict b) (totalAt b)))
           ∙ adding-more text room at s (totalBare b) (linesOf rest) (lines-some rest)
-          ∙ ap (after text room at s (totalBare b) (linesOf rest)) (takes-total text room at (totalBare b) s (totalled b hl hh .is-total) ∙ total-took)
+          ∙ ap (after text room at s (totalBare b) (linesOf rest)) (takes-total text room at (totalBare b) s (totalled b hl hh hp .is-total) ∙ total-took)
 
   -- ---- The pages of a part
 
@@ -286,13 +286,17 @@ module _ (text : List ℕ) (room : ℕ) (all : List (List ℕ)) (different : All
       let hb = holds-front (s .books) vs ws f′ in
       let looked-t : t .books .looked ≡ s .books .looked + lookedOf vs = ap (λ (x : Ledger). x .looked) (w .books) ∙ q .looked in
       let heads-t : t .books .heads ≡ s .books .heads + headsOf vs = ap (λ (x : Ledger). x .heads) (w .books) ∙ q .heads in
+      let pages-t : t .books .pages ≡ s .books .pages + length vs = ap (λ (x : Ledger). x .pages) (w .books) ∙ q .pages in
       let looked-c : t .closed .looked ≡ s .books .looked = ap (λ (x : Ledger). x .looked) (w .closed ∙ c) in
       let heads-c : t .closed .heads ≡ s .books .heads = ap (λ (x : Ledger). x .heads) (w .closed ∙ c) in
+      let pages-c : t .closed .pages ≡ s .books .pages = ap (λ (x : Ledger). x .pages) (w .closed ∙ c) in
       let e₂ : drop (w .at′) text ≡ totalBare b ++ newline ∷ partsText ps = w .dropped ∙ append-assoc (totalBare b) (newline ∷ []) (partsText ps) in
       let el : b .looked ≡ t .books .looked - t .closed .looked = omega (arith, m .looked, looked-t, looked-c) in
       let eh : b .heads ≡ t .books .heads - t .closed .heads = omega (arith, m .heads, heads-t, heads-c) in
+      let ep : b .pages ≡ t .books .pages - t .closed .pages = omega (arith, m .pages, pages-t, pages-c) in
       let hl : b .looked < none = omega (arith, m .looked, looked-few vs, hb .pages) in
       let hh : b .heads < none = omega (arith, m .heads, hb .heads) in
+      let hp : b .pages < none = omega (arith, m .pages, hb .pages) in
       let at₂ = w .at′ + length (totalBare b) + 1 in
       let s₂ : Sum = record { books = t .books; closed = t .books; starts = t .starts } in
       let d₂ = line-behind text (w .at′) (totalBare b) (partsText ps) e₂ in
@@ -302,7 +306,7 @@ module _ (text : List ℕ) (room : ℕ) (all : List (List ℕ)) (different : All
       let steps : adding text room at s (linesOf (drop at text)) ≡ adding text room at₂ s₂ (linesOf (drop at₂ text)) =
       w .is
       ∙ ap (λ (xs : List ℕ). adding text room (w .at′) t (linesOf xs)) (sym (w .dropped))
-      ∙ total-step (w .at′) t b (partsText ps) e₂ el eh hl hh
+      ∙ total-step (w .at′) t b (partsText ps) e₂ el eh ep hl hh hp
       ∙ ap (λ (xs : List ℕ). adding text room at₂ s₂ (linesOf xs)) (sym d₂) in record {
         number = ap (λ (a : Added). a .number) steps ∙ r .number;
         books =

@@ -66,6 +66,11 @@ other-total : sums "a\t0\t7\t3\tcounted\ntotal\t0\t8\t3\t1 page,\n" ≡ 2 ∷ 16
 unfolding ascii pieces same valueFrom ahead firstOf countedPage refusedPage pageLineOf isTotal isTotalWords booked hasRoom adding taken pageTaken totalTaken
 other-total = refl
 
+-- a total of two pages over the line of one, where a line without heads is lost
+other-pages : sums "a\t0\t7\t3\tcounted\ntotal\t0\t7\t3\t2 pages,\n" ≡ 2 ∷ 16 ∷ 0 ∷ 7 ∷ 1 ∷ 0 ∷ []
+unfolding ascii pieces same valueFrom ahead firstOf countedPage refusedPage pageLineOf isTotal isTotalWords booked hasRoom adding taken pageTaken totalTaken
+other-pages = refl
+
 without-total : sums "a\t0\t7\t3\tcounted\n" ≡ 3 ∷ 16 ∷ 0 ∷ 7 ∷ 1 ∷ 0 ∷ []
 unfolding ascii pieces same valueFrom ahead firstOf countedPage refusedPage pageLineOf isTotal isTotalWords booked hasRoom adding taken pageTaken totalTaken
 without-total = refl

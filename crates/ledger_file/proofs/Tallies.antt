@@ -17,7 +17,7 @@ use Rattle.ledger.specs.declared.Verdict.{Verdict}
 use Rattle.ledger_file.specs.Fields.{fieldsOf, field, numberIn, isNumber}
 use Rattle.ledger_file.specs.Page.{noPage, page, refusedPage, countedPage, pageLineOf}
 use Rattle.ledger_file.specs.Resume.{verdictOf, verdictIn}
-use Rattle.ledger_file.specs.Total.{isTotal}
+use Rattle.ledger_file.specs.Total.{isTotal, totalPages}
 use Rattle.ledger_file.specs.Sums.{Sum, Went, on, wrong, nameAt, namesake, pageTaken, totalTaken, taken}
 use Rattle.ledger_file.specs.Tallying.{Tabbed, sumIn, Standing, Onward, Stopped}
 use Rattle.ledger_file.specs.declared.PageLine.{PageLine}
@@ -129,24 +129,33 @@ module _ (text : List ℕ) (at : ℕ) (v : Verdict) (t : Tally) (starts : List �
 -- ---- A total's line
 
 module _ (line : List ℕ) (t : Tally) (text starts : List ℕ) (st : Standing text (t .books .pages) starts) where
-  abbrev told-is : Bool → Bool → Went
-  told-is x y = elim (x && y) [ true ↦ on (record { books = t .books; closed = t .books; starts = take (t .books .pages) starts }) | false ↦ wrong 2 0 ]
+  abbrev told-is : Bool → Bool → Bool → Went
+  told-is x y z = elim (x && (y && z)) [ true ↦ on (record { books = t .books; closed = t .books; starts = take (t .books .pages) starts }) | false ↦ wrong 2 0 ]
 
-  total-tested : {x y : Bool} → eqb (numberIn (field 1 line)) (t .books .looked - t .closed .looked) ≡ x → eqb (numberIn (field 2 line)) (t .books .heads - t .closed .heads) ≡ y
-      → totalTaken line (sumIn t starts) ≡ told-is x y
+  total-tested : {x y z : Bool} → eqb (numberIn (field 1 line)) (t .books .looked - t .closed .looked) ≡ x → eqb (numberIn (field 2 line)) (t .books .heads - t .closed .heads) ≡ y
+      → eqb (totalPages line) (t .books .pages - t .closed .pages) ≡ z → totalTaken line (sumIn t starts) ≡ told-is x y z
   unfolding totalTaken
-  total-tested p q = ap₂ told-is p q
+  total-tested {x} {y} {z} p q r = ap₂ (λ (a b : Bool). told-is a b (eqb (totalPages line) (t .books .pages - t .closed .pages))) p q ∙ ap (told-is x y) r
 
   module _ {m n : ℕ} (em : m ≡ numberIn (field 1 line)) (en : n ≡ t .books .looked - t .closed .looked) where
     pub total-looked : (m ≡ n → ⊥) → Stopped (totalTaken line (sumIn t starts)) starts 2 0 starts
-    total-looked d = record { is = total-tested (ne-eqb _ _ (λ z. d (em ∙ z ∙ sym en))) refl; same = refl }
+    total-looked d = record { is = total-tested (ne-eqb _ _ (λ z. d (em ∙ z ∙ sym en))) refl refl; same = refl }
 
     module _ (d : m ≡ n) {p q : ℕ} (ep : p ≡ numberIn (field 2 line)) (eq : q ≡ t .books .heads - t .closed .heads) where
       pub total-heads : (p ≡ q → ⊥) → Stopped (totalTaken line (sumIn t starts)) starts 2 0 starts
-      total-heads f = record { is = total-tested (eq-eqb _ _ (sym em ∙ d ∙ en)) (ne-eqb _ _ (λ z. f (ep ∙ z ∙ sym eq))); same = refl }
+      total-heads f = record { is = total-tested (eq-eqb _ _ (sym em ∙ d ∙ en)) (ne-eqb _ _ (λ z. f (ep ∙ z ∙ sym eq))) refl; same = refl }
 
-      pub total-on : p ≡ q → Onward text (totalTaken line (sumIn t starts)) (t .books .pages) starts (record { books = t .books; closed = t .books }) starts
-      total-on f = record { is = total-tested (eq-eqb _ _ (sym em ∙ d ∙ en)) (eq-eqb _ _ (sym ep ∙ f ∙ eq)); more = omega arith; behind = refl; stands = st }
+      module _ (f : p ≡ q) {k l : ℕ} (ek : k ≡ totalPages line) (el : l ≡ t .books .pages - t .closed .pages) where
+        pub total-pages : (k ≡ l → ⊥) → Stopped (totalTaken line (sumIn t starts)) starts 2 0 starts
+        total-pages g = record { is = total-tested (eq-eqb _ _ (sym em ∙ d ∙ en)) (eq-eqb _ _ (sym ep ∙ f ∙ eq)) (ne-eqb _ _ (λ z. g (ek ∙ z ∙ sym el))); same = refl }
+
+        pub total-on : k ≡ l → Onward text (totalTaken line (sumIn t starts)) (t .books .pages) starts (record { books = t .books; closed = t .books }) starts
+        total-on g = record {
+          is = total-tested (eq-eqb _ _ (sym em ∙ d ∙ en)) (eq-eqb _ _ (sym ep ∙ f ∙ eq)) (eq-eqb _ _ (sym ek ∙ g ∙ el));
+          more = omega arith;
+          behind = refl;
+          stands = st;
+        }
 
 -- ---- Any line
 

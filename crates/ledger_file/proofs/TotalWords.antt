@@ -6,15 +6,16 @@ use Prim.Native.Nat.{ℕ, _+_, _%_, _≤_, _<_}
 use native.Mathlib.Omega.{arith}
 use lib.Dec.{ltb}
 use lib.ListN.{length, take, drop, length-append}
-use lib.Seq.{drop-append-seam}
+use lib.Seq.{take-append-seam, drop-append-seam}
 use borrow.Author.Tests.{lt-ltb}
 use Rattle.listing_text.specs.Text.{ascii, digit, decimal}
 use Rattle.listing_text.proofs.Digits.{digit-of, decimal-ind}
 use Rattle.form_file.specs.Steps.{ahead}
-use Rattle.form_file.specs.Words.{same}
+use Rattle.form_file.specs.Words.{none, same}
 use Rattle.form_file.proofs.Ahead.{ahead-more}
-use Rattle.ledger_file.specs.Total.{isDigit, isTotalWords}
-use Rattle.ledger_file.proofs.Numerals.{decimal-some}
+use Rattle.ledger_file.specs.Total.{isDigit, isTotalWords, numberAhead}
+use Rattle.ledger_file.specs.Fields.{numberIn}
+use Rattle.ledger_file.proofs.Numerals.{decimal-some, number-decimal}
 
 is-digit : (d : ℕ) → d < 10 → isDigit (digit d) ≡ true
 is-digit d h = ap (λ (k : ℕ). ltb k 10) (digit-of d h) ∙ lt-ltb d 10 h
@@ -57,3 +58,10 @@ reason-words n rest = words-of n (58 ∷ rest) refl
 pub total-words-so : (n : ℕ) (rest : List ℕ) → isTotalWords (decimal n ++ 32 ∷ 112 ∷ 97 ∷ 103 ∷ 101 ∷ rest) ≡ true
 unfolding ahead same ascii
 total-words-so n rest = words-of n (32 ∷ 112 ∷ 97 ∷ 103 ∷ 101 ∷ rest) refl
+
+-- and its number is the one that is read: 32 is a space
+pub number-ahead-so : (n : ℕ) (rest : List ℕ) → n < none → numberAhead (decimal n ++ 32 ∷ rest) ≡ n
+unfolding ahead
+number-ahead-so n rest l =
+    let k : ahead isDigit (decimal n ++ 32 ∷ rest) ≡ length (decimal n) = omega (arith, ahead-decimal n (32 ∷ rest)) in
+    ap (λ (j : ℕ). numberIn (take j (decimal n ++ 32 ∷ rest))) k ∙ ap numberIn (take-append-seam (decimal n) (32 ∷ rest)) ∙ number-decimal n l

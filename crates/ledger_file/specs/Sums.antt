@@ -17,7 +17,7 @@ use Rattle.ledger.specs.declared.Verdict.{Verdict}
 use Rattle.ledger_file.specs.Fields.{field, numberIn}
 use Rattle.ledger_file.specs.Page.{pageLineOf}
 use Rattle.ledger_file.specs.Resume.{verdictIn}
-use Rattle.ledger_file.specs.Total.{isTotal}
+use Rattle.ledger_file.specs.Total.{isTotal, totalPages}
 use Rattle.ledger_file.specs.declared.AddedUp.{AddedUp}
 
 -- ---- What can be wrong
@@ -82,10 +82,10 @@ pageTaken text room at v s =
           ]
     ]
 
--- a total's line: what is to be looked at, and the heads, are those of the pages since the total before it
+-- a total's line: what is to be looked at, the heads, and how many pages its words say, are those of the pages since the total before it
 unfoldable pub totalTaken : List ℕ → Sum → Went
 totalTaken line s =
-    elim (eqb (numberIn (field 1 line)) (s .books .looked - s .closed .looked) && eqb (numberIn (field 2 line)) (s .books .heads - s .closed .heads)) [
+    elim (eqb (numberIn (field 1 line)) (s .books .looked - s .closed .looked) && (eqb (numberIn (field 2 line)) (s .books .heads - s .closed .heads) && eqb (totalPages line) (s .books .pages - s .closed .pages))) [
       | true ↦ on (record { books = s .books; closed = s .books; starts = s .starts })
       | false ↦ wrong otherTotal 0
     ]

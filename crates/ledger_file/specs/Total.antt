@@ -8,7 +8,7 @@ use Rattle.listing_text.specs.Text.{ascii}
 use Rattle.listing_text.specs.Reading.{digitOf}
 use Rattle.form_file.specs.Steps.{ahead}
 use Rattle.form_file.specs.Words.{same}
-use Rattle.ledger_file.specs.Fields.{fieldsOf, field}
+use Rattle.ledger_file.specs.Fields.{fieldsOf, field, numberIn}
 
 abbrev pub isDigit : ℕ → Bool
 isDigit b = ltb (digitOf b) 10
@@ -20,3 +20,11 @@ isTotalWords words = ltb 0 (ahead isDigit words) && same (take 5 (drop (ahead is
 -- by its first field and its words, so that a page named total is still a page
 unfoldable pub isTotal : List ℕ → Bool
 isTotal line = eqb (length (fieldsOf line)) 5 && (same (field 0 line) (ascii "total") && isTotalWords (field 4 line))
+
+-- the number with which words begin
+abbrev pub numberAhead : List ℕ → ℕ
+numberAhead words = numberIn (take (ahead isDigit words) words)
+
+-- how many pages a total is of, as its words say
+abbrev pub totalPages : List ℕ → ℕ
+totalPages line = numberAhead (field 4 line)

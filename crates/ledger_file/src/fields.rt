@@ -63,7 +63,7 @@ pub(crate) fn is_field(line: &[u8], k: usize, word: &[u8]) -> bool
 }
 
 // The number that a word says; NONE where it says none that 32 bits hold, or has no digit.
-fn number_in(word: &[u8]) -> u64
+pub(crate) fn number_in(word: &[u8]) -> u64
     ensures { λ r. ⌜ r ≡ numberIn (now (word .entry)) ⌝ }
 {
     if word.len() == 0 {

@@ -4,6 +4,7 @@ use crate::namesakes::namesake;
 use crate::onward::verdict_of;
 use crate::page::page_line;
 use crate::total::is_total;
+use crate::total::total_pages;
 use ledger::Ledger;
 use ledger::Verdict;
 ghost use mathlib.Core.Path.{_≡_};
@@ -71,6 +72,9 @@ fn total_taken(line: &[u8], t: Tally) -> Step
         return Step::Wrong(crate::OTHER_TOTAL, 0);
     }
     if number_of(line, 2) != since(books.heads, closed.heads) {
+        return Step::Wrong(crate::OTHER_TOTAL, 0);
+    }
+    if total_pages(line) != since(books.pages, closed.pages) {
         return Step::Wrong(crate::OTHER_TOTAL, 0);
     }
     Step::On(Tally {

@@ -3,12 +3,13 @@ use crate::fields::count;
 use crate::fields::field_end;
 use crate::fields::field_start;
 use crate::fields::is_field;
+use crate::fields::number_in;
 use form_file::words;
 ghost use mathlib.Core.Path.{_≡_};
 ghost use Rattle.form_file.specs.Steps.{ahead};
 ghost use Rattle.ledger_file.specs.Fields.{field};
 ghost use Rattle.ledger_file.specs.Total as Total;
-ghost use Rattle.ledger_file.specs.Total.{isDigit, isTotalWords};
+ghost use Rattle.ledger_file.specs.Total.{isDigit, isTotalWords, numberAhead, totalPages};
 
 fn is_digit(b: u8) -> bool
     ensures { λ r. ⌜ r ≡ isDigit b ⌝ }
@@ -69,4 +70,21 @@ pub(crate) fn is_total(line: &[u8]) -> bool
         return false;
     }
     has_total_words(line)
+}
+
+// The number with which a word begins; NONE where it begins with none that 32 bits hold.
+fn number_ahead(word: &[u8]) -> u64
+    ensures { λ r. ⌜ r ≡ numberAhead (now (word .entry)) ⌝ }
+{
+    let k = digits_end(word);
+    number_in(&word[0..k])
+}
+
+// How many pages a total is of, as its words say.
+pub(crate) fn total_pages(line: &[u8]) -> u64
+    ensures { λ r. ⌜ r ≡ totalPages (now (line .entry)) ⌝ }
+{
+    let from = field_start(line, 4);
+    let end = field_end(line, from);
+    number_ahead(&line[from..end])
 }
