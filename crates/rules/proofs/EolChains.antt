@@ -43,7 +43,7 @@ pub data Chain (bs : List Bool) : ℕ → ℕ → ℕ → Type 0 where
   no-more : {at : ℕ} → Quiet bs at → Chain bs 0 at at
   eol-then : {j at e : ℕ} (h : EolAt bs at) → Chain bs j (at + suc (h .zeros)) e → Chain bs (suc j) at e
 
-chain-read : {bs : List Bool} {j at e : ℕ} → Chain bs j at e → (n : ℕ) → j ≤ n → readEols n bs at ≡ eolsTo j e
+pub chain-read : {bs : List Bool} {j at e : ℕ} → Chain bs j at e → (n : ℕ) → j ≤ n → readEols n bs at ≡ eolsTo j e
 chain-read (no-more q) n h = q n
 chain-read (eol-then k c) zero h = absurd (omega arith)
 chain-read {bs} {at = at} (eol-then k c) (suc n) h = one-eol n bs at (k .zeros) (k .run) (k .many) ∙ rw (chain-read c n (omega arith))

@@ -92,7 +92,7 @@ pub record Beyond (bs : List Bool) (e r : Eols) : Type 0 where
   pub inside : e .at ≤ length bs → r .at ≤ length bs
   pub count : e .count ≤ r .count
 
-tags-beyond : (n : ℕ) (bs : List Bool) (e : Eols) → Beyond bs e (betweenTags n bs e)
+pub tags-beyond : (n : ℕ) (bs : List Bool) (e : Eols) → Beyond bs e (betweenTags n bs e)
 unfolding betweenTags
 tags-beyond zero bs e = record { forward = omega arith; inside = λ h. h; count = omega arith }
 tags-beyond (suc n) bs e = cases (λ d. tags-beyond n bs d) (firstBit (drop (e .at) bs)) refl

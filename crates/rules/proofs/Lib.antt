@@ -69,3 +69,4 @@ pub mod Handed
 pub mod UnitSheets
 pub mod ByUnit
 pub mod ByUnitSheets
+pub mod Untouched

@@ -26,5 +26,6 @@ pub mod WriteGroup3
 pub mod Damage
 pub mod Damage2D
 pub mod Cut
+pub mod Standing
 pub mod Sheets
 pub mod UnitSheets

@@ -1,0 +1,33 @@
+-- Rows that stand whatever becomes of the data behind them: what two data share, and which of the rows that were read hang on the bits before the reader's alone. That
+-- they do is proved (proofs/Standing.antt, StandingCalls.antt), and why no more rows do (proofs/StandingSheets.antt).
+use mathlib.Core.Path.{_≡_}
+use mathlib.Core.Bool.{Bool, true}
+use mathlib.Core.Logic.{_⊎_}
+use mathlib.Core.List.{List, [], _∷_}
+use Prim.Native.Nat.{ℕ, _*_, _≤_}
+use lib.ListN.{length, take}
+use Rattle.rules.specs.Bits.{bitsOf}
+use Rattle.rules.specs.Rows.{Encoding, group4, Settings, recoveredMark}
+
+-- two data agree in their first p bits, which both have; behind them they may differ, in their length too
+pub record AgreeTo (p : ℕ) (bytes bytes′ : List ℕ) : Type 0 where
+  pub long : p ≤ 8 * length bytes
+  pub long′ : p ≤ 8 * length bytes′
+  pub same : take p (bitsOf bytes) ≡ take p (bitsOf bytes′)
+
+-- A row with this mark was read. A recovered one was not: its line was read up to where it failed, and "the reader returns to the line's start", before bits that it has seen.
+abbrev pub WasRead : ℕ → Type 0
+WasRead mark = mark ≡ recoveredMark → ⊥
+
+-- EOLs that were expected before a row are expected behind it. A lenient reader gives them up where none is left, and that is told by all of the data.
+abbrev pub KeepsEols : Bool → Bool → Type 0
+KeepsEols before behind = before ≡ true → behind ≡ true
+
+-- Group 4, and what is read strictly: neither is known there.
+abbrev pub Sure : Encoding → Settings → Type 0
+Sure enc S = (enc ≡ group4) ⊎ (S .strict ≡ true)
+
+-- the last of these numbers, or m where there is none
+unfoldable pub lastOr : ℕ → List ℕ → ℕ
+lastOr m [] = m
+lastOr m (x ∷ xs) = lastOr x xs
