@@ -69,4 +69,6 @@ pub mod Handed
 pub mod UnitSheets
 pub mod ByUnit
 pub mod ByUnitSheets
+pub mod Broken
 pub mod Untouched
+pub mod UntouchedMended
