@@ -336,7 +336,7 @@ module _ (S : Settings) (wide : 0 < S .columns) (bytes : List ℕ) where
 
   module _ (narrow : tooWide (S .columns) ≡ false) (size : length bytes ≤ mostBytes) where
     -- once its tests are passed, a call reads a row
-    tests-pass : (p : RowState) (xs : Arrays) → sound S bytes p xs ≡ true → tested S bytes p xs ≡ nextRow S bytes p xs
+    pub tests-pass : (p : RowState) (xs : Arrays) → sound S bytes p xs ≡ true → tested S bytes p xs ≡ nextRow S bytes p xs
     unfolding tested
     tests-pass p xs e = rw (narrow, le-ltb mostBytes (length bytes) size, e, ne-eqb (S .columns) 0 (λ z. omega arith), tested)
 

@@ -72,3 +72,6 @@ pub mod ByUnitSheets
 pub mod Broken
 pub mod Untouched
 pub mod UntouchedMended
+pub mod Standing
+pub mod StandingCalls
+pub mod StandingSheets
