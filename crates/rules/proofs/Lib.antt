@@ -75,3 +75,4 @@ pub mod UntouchedMended
 pub mod Standing
 pub mod StandingCalls
 pub mod StandingSheets
+pub mod Blamed
