@@ -76,3 +76,4 @@ pub mod Standing
 pub mod StandingCalls
 pub mod StandingSheets
 pub mod Blamed
+pub mod Proper

@@ -27,5 +27,6 @@ pub mod Damage
 pub mod Damage2D
 pub mod Cut
 pub mod Standing
+pub mod Proper
 pub mod Sheets
 pub mod UnitSheets
