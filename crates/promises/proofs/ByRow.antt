@@ -126,14 +126,14 @@ module _ (bytes : List ℕ) (settings : DecodeSettings) where
 
   -- ---- Calls, as the rules' caller makes them
 
-  abbrev at : RowState → List ℕ → List ℕ → List (List ℕ) → List ℕ → Caller
+  abbrev pub at : RowState → List ℕ → List ℕ → List (List ℕ) → List ℕ → Caller
   at st xs ys rows marks = record { state = rowStateOf st; arrays = both xs ys; rows = rows; marks = marks }
 
-  handed-at : (st : RowState) (xs ys : List ℕ) (c : RowCall) → Handed st xs ys c → (rows : List (List ℕ)) (marks : List ℕ) → at (c .state) (c .first) (c .second) rows marks ≡ at st xs ys rows marks
+  pub handed-at : (st : RowState) (xs ys : List ℕ) (c : RowCall) → Handed st xs ys c → (rows : List (List ℕ)) (marks : List ℕ) → at (c .state) (c .first) (c .second) rows marks ≡ at st xs ys rows marks
   handed-at st xs ys c (s, f, t) rows marks = λ i. at (s i) (f i) (t i) rows marks
 
   -- a call that gives a row
-  step-more : (c : RowCall) → RowReading bytes settings c → numberOf c ≡ moreToCome → (rows : List (List ℕ)) (marks : List ℕ)
+  pub step-more : (c : RowCall) → RowReading bytes settings c → numberOf c ≡ moreToCome → (rows : List (List ℕ)) (marks : List ℕ)
       → callStep S bytes (at (c .state) (c .first) (c .second) rows marks) ≡ more (at (c .step .state) (c .first′) (c .second′) (rows ++ changesOf c ∷ []) (marks ++ markOf c ∷ []))
   unfolding callStep
   step-more c g e rows marks =
@@ -180,7 +180,7 @@ module _ (bytes : List ℕ) (settings : DecodeSettings) where
     pub narrow : tooWide (settings .columns) ≡ false
     pub size : length bytes ≤ mostBytes
 
-  passed : (c : RowCall) → RowReading bytes settings c → numberOf c ≡ moreToCome → Passed
+  pub passed : (c : RowCall) → RowReading bytes settings c → numberOf c ≡ moreToCome → Passed
   passed c g e =
       call-cases S bytes (rowStateOf (c .state)) (both (c .first) (c .second)) (λ d. d .said .number ≡ moreToCome → Passed)
       (λ n place b loose u z. absurd (not-more n (listed c g n place b loose u) z))
@@ -251,7 +251,7 @@ module _ (bytes : List ℕ) (settings : DecodeSettings) where
   page-cases first second [] last f C some none = none (ap rowStateOf (f .follows .0 .0) ∙ f .is-start) (f .follows .1)
   page-cases first second (c ∷ cs) last f C some none = some (passed c (f .follows .1) (f .follows .2))
 
-  last-reads : (cs : List RowCall) (last : RowCall) (st : RowState) (xs ys : List ℕ) → Follows bytes settings st xs ys cs last → RowReading bytes settings last
+  pub last-reads : (cs : List RowCall) (last : RowCall) (st : RowState) (xs ys : List ℕ) → Follows bytes settings st xs ys cs last → RowReading bytes settings last
   unfolding Follows
   last-reads [] last st xs ys (h, g) = g
   last-reads (c ∷ cs) last st xs ys (h, g, q, f) = last-reads cs last (c .step .state) (c .first′) (c .second′) f

@@ -35,6 +35,7 @@ pub mod WriteGroup3
 pub mod BadLines
 pub mod BadLines2D
 pub mod CutGroup3
+pub mod NeverBack
 pub mod Heads
 pub mod HeadRuns
 pub mod HeadsOfPage

@@ -28,6 +28,7 @@ pub mod StepsForC
 pub mod BadLines
 pub mod BadLines2D
 pub mod CutGroup3
+pub mod NeverBack
 pub mod Heads
 pub mod HeadsOfPage
 pub mod Called

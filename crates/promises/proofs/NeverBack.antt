@@ -1,0 +1,285 @@
+-- Damage never reaches back: what the rules say of two data that agree in their first bits, over the contracts of `read_row` and of `decode`. Assumes nothing.
+use mathlib.Core.Path.{_≡_, refl, sym, ap, _∙_, subst}
+use mathlib.Core.Logic.{_⊎_, inl, inr, ⊎-elim}
+use mathlib.Core.List.{List, [], _∷_, _++_, append-nil}
+use Prim.Native.Nat.{ℕ, zero, suc, _+_, _≤_, _<_}
+use native.Mathlib.Omega.{arith}
+use lib.ListN.{length, take, length-append}
+use lib.Seq.{take-at}
+use Rattle.rules.specs.Answers.{moreToCome, mostPixels}
+use Rattle.rules.specs.Machine.{Out, more, andThen, run}
+use Rattle.rules.specs.Bits.{bitsOf}
+use Rattle.rules.specs.Rows.{Settings}
+use Rattle.rules.specs.Pages as Rules
+use Rattle.rules.specs.Pages.{Kept, noneKept, withRow, pageStep, rowOf, strictIfExact, mostBytes, decode}
+use Rattle.rules.specs.ByRow as Rule
+use Rattle.rules.specs.ByRow.{Caller, callStep, between}
+use Rattle.rules.specs.Standing.{WasRead}
+use Rattle.rules.proofs.Agree.{Agree, agree-less}
+use Rattle.rules.proofs.Budget.{whole-bytes}
+use Rattle.rules.proofs.Answers.{Refuses, too-wide, too-long, no-columns, Allowed, decode-cases}
+use Rattle.rules.proofs.Pages.{page-cases}
+use Rattle.rules.proofs.ByRow.{Own, own-start}
+use Rattle.rules.proofs.Standing.{agree-of, Stands, Begun, last-snoc, sure-stands, read-stands, Fronts, never-back}
+use Rattle.rules.proofs.StandingCalls.{KeptEols, call-same, step-own, step-ahead, last-same, followed-same, sure-gave}
+use Rattle.rules.proofs.Blamed.{decode-refused}
+use Rattle.answer.specs.declared.Answer.{Answer}
+use Rattle.settings.specs.declared.DecodeSettings.{DecodeSettings}
+use Rattle.settings.specs.Settings.{settingsOf}
+use Rattle.by_row.specs.declared.RowState.{RowState}
+use Rattle.by_row.specs.ByRow.{sideOf, rowStateOf, Gives}
+use Rattle.promises.specs.Rooms.{Call, places, rowsOf, marksOf, Reading}
+use Rattle.promises.specs.ByRow.{RowCall, RowReading, numberOf, markOf, changesOf, Handed, Follows}
+use Rattle.promises.specs.NeverBack.{readAs, SureFor, EolsStay, AllStay, DamageNeverReachesBack, CallNeverReachesBack, SameFirst, PageNeverReachesBack, RefusedRowsStand}
+use Rattle.promises.proofs.Rooms.{answerIn, rows-are, marks-are, as-many}
+use Rattle.promises.proofs.ByRow.{both, told, number-is, at, handed-at, step-more, Passed, passed, last-reads, sound-passes}
+
+-- ---- The row form
+
+-- a call that comes to the same over the other data is a call there
+module _ (bytes bytes′ : List ℕ) (settings : DecodeSettings) (c : RowCall) (g : RowReading bytes settings c) where
+  over : told bytes′ settings c ≡ told bytes settings c → RowReading bytes′ settings c
+  over e = subst (λ (d : Rule.RowStep). Gives (sideOf (c .state .side)) d (c .step) (c .first′) (c .second′)) (sym e) g
+
+pub call-never-back : CallNeverReachesBack
+call-never-back p bytes bytes′ settings agree small c g s e h k =
+    over bytes bytes′ settings c g
+    (call-same (settingsOf settings) bytes bytes′ (rowStateOf (c .state)) (both (c .first) (c .second)) small (sound-passes bytes′ settings c s) (sym (number-is bytes settings c g) ∙ e)
+    (⊎-elim inl (λ w. inr (subst WasRead (ap (λ (a : Answer). a .mark) (g .answer)) (w .0), λ x. sym (ap (λ (q : Rule.RowState). q .eols) (g .state)) ∙ w .1 x)) k)
+    (agree-less (told bytes settings c .state .at) (omega (arith, h, ap (λ (q : Rule.RowState). q .at) (g .state))) (agree-of agree)))
+
+module _ (bytes bytes′ : List ℕ) (settings : DecodeSettings) (p : Passed bytes settings) (size′ : length bytes′ ≤ mostBytes) where
+  abbrev S : Settings
+  S = settingsOf settings
+
+  abbrev OwnIn : List ℕ → RowState → List ℕ → List ℕ → List (List ℕ) → List ℕ → Type 0
+  OwnIn held st xs ys rows marks = Own S (p .wide) held (at bytes settings st xs ys rows marks)
+
+  -- the state that a call is handed
+  own-handed : (held : List ℕ) (st : RowState) (xs ys : List ℕ) (c : RowCall) → Handed st xs ys c → (rows : List (List ℕ)) (marks : List ℕ) → OwnIn held st xs ys rows marks
+      → OwnIn held (c .state) (c .first) (c .second) rows marks
+  own-handed held st xs ys c h rows marks o = subst (λ (k : Caller). Own S (p .wide) held k) (sym (handed-at bytes settings st xs ys c h rows marks)) o
+
+  module _ (n : ℕ) where
+    -- the next of the calls
+    record Next (k : Caller) : Type 0 where
+      to : Caller
+      call : callStep S bytes k ≡ more to
+      keeps : KeptEols (k .state) (to .state)
+      inside : to .state .at ≤ n
+
+    next : (cs : List RowCall) (last : RowCall) (st : RowState) (xs ys : List ℕ) → Follows bytes settings st xs ys cs last → numberOf last ≡ moreToCome → AllStay cs → EolsStay last
+        → last .step .state .at ≤ n → (rows : List (List ℕ)) (marks : List ℕ) → OwnIn bytes st xs ys rows marks → Next (at bytes settings st xs ys rows marks)
+    unfolding Follows AllStay
+    next [] last st xs ys (h, g) e a k le rows marks o = record {
+      to = at bytes settings (last .step .state) (last .first′) (last .second′) (rows ++ changesOf last ∷ []) (marks ++ markOf last ∷ []);
+      call = ap (callStep S bytes) (sym (handed-at bytes settings st xs ys last h rows marks)) ∙ step-more bytes settings last g e rows marks;
+      keeps = λ x. k (ap (λ (s : RowState). s .eols) (h .0) ∙ x);
+      inside = le;
+    }
+    next (c ∷ cs) last st xs ys (h, g, q, f) e a k le rows marks o =
+        let d = at bytes settings (c .step .state) (c .first′) (c .second′) (rows ++ changesOf c ∷ []) (marks ++ markOf c ∷ []) in
+        let od : Own S (p .wide) bytes d = step-own S (p .wide) (p .narrow) bytes (p .size) (at bytes settings (c .state) (c .first) (c .second) rows marks) d (own-handed bytes st xs ys c h rows marks o) (step-more bytes settings c g q rows marks) in
+        let m = next cs last (c .step .state) (c .first′) (c .second′) f e (a .1) k le (rows ++ changesOf c ∷ []) (marks ++ markOf c ∷ []) od in
+        record {
+          to = d;
+          call = ap (callStep S bytes) (sym (handed-at bytes settings st xs ys c h rows marks)) ∙ step-more bytes settings c g q rows marks;
+          keeps = λ x. a .0 (ap (λ (s : RowState). s .eols) (h .0) ∙ x);
+          inside = omega (arith, step-ahead S (p .wide) (p .narrow) bytes (p .size) d (m .to) od (m .call), m .inside);
+        }
+
+    -- calls that stand are calls over the other data
+    same-along : Agree n (bitsOf bytes) (bitsOf bytes′) → (cs : List RowCall) (last : RowCall) (st : RowState) (xs ys : List ℕ) → Follows bytes settings st xs ys cs last → numberOf last ≡ moreToCome
+        → AllStay cs → EolsStay last → WasRead (markOf last) → last .step .state .at ≤ n → (rows : List (List ℕ)) (marks : List ℕ) → OwnIn bytes st xs ys rows marks → OwnIn bytes′ st xs ys rows marks
+        → Follows bytes′ settings st xs ys cs last
+    unfolding Follows AllStay
+    same-along agree [] last st xs ys (h, g) e a k w le rows marks o o′ = (
+      h,
+      over bytes bytes′ settings last g
+          (last-same S (p .wide) (p .narrow) bytes (p .size) bytes′ size′ (at bytes settings (last .state) (last .first) (last .second) rows marks)
+          (at bytes settings (last .step .state) (last .first′) (last .second′) (rows ++ changesOf last ∷ []) (marks ++ markOf last ∷ []))
+          (own-handed bytes st xs ys last h rows marks o) (own-handed bytes′ st xs ys last h rows marks o′) (step-more bytes settings last g e rows marks) k
+          (subst WasRead (sym (last-snoc 0 marks (markOf last))) w) (agree-less (last .step .state .at) le agree) .0),
+    )
+    same-along agree (c ∷ cs) last st xs ys (h, g, q, f) e a k w le rows marks o o′ =
+        let b = at bytes settings (c .state) (c .first) (c .second) rows marks in
+        let d = at bytes settings (c .step .state) (c .first′) (c .second′) (rows ++ changesOf c ∷ []) (marks ++ markOf c ∷ []) in
+        let call : callStep S bytes b ≡ more d = step-more bytes settings c g q rows marks in
+        let ob = own-handed bytes st xs ys c h rows marks o in
+        let od : Own S (p .wide) bytes d = step-own S (p .wide) (p .narrow) bytes (p .size) b d ob call in
+        let m = next cs last (c .step .state) (c .first′) (c .second′) f e (a .1) k le (rows ++ changesOf c ∷ []) (marks ++ markOf c ∷ []) od in
+        let r = followed-same S (p .wide) (p .narrow) bytes (p .size) bytes′ size′ b d (m .to) ob (own-handed bytes′ st xs ys c h rows marks o′) call (a .0) (m .call) (m .keeps) n
+        (omega (arith, step-ahead S (p .wide) (p .narrow) bytes (p .size) d (m .to) od (m .call), m .inside)) (m .inside) agree in
+        (h, over bytes bytes′ settings c g (r .0), q, same-along agree cs last (c .step .state) (c .first′) (c .second′) f e (a .1) k w le (rows ++ changesOf c ∷ []) (marks ++ markOf c ∷ []) od (r .1))
+
+  -- in Group 4, and strict or exact, all calls that give a row stand
+  sure-along : SureFor settings → (cs : List RowCall) (last : RowCall) (st : RowState) (xs ys : List ℕ) → Follows bytes settings st xs ys cs last → numberOf last ≡ moreToCome
+      → (rows : List (List ℕ)) (marks : List ℕ) → OwnIn bytes st xs ys rows marks → Begun (between (rowStateOf st) (both xs ys)) → AllStay cs × EolsStay last × WasRead (markOf last)
+  unfolding Follows AllStay
+  sure-along sure [] last st xs ys (h, g) e rows marks o b =
+      let s = sure-gave S (p .wide) (p .narrow) bytes (p .size) sure (at bytes settings (last .state) (last .first) (last .second) rows marks)
+      (at bytes settings (last .step .state) (last .first′) (last .second′) (rows ++ changesOf last ∷ []) (marks ++ markOf last ∷ []))
+      (own-handed bytes st xs ys last h rows marks o) (λ z. ap (λ (x : RowState). x .eols) (h .0) ∙ b (sym (ap (λ (x : RowState). x .rows) (h .0)) ∙ z)) (step-more bytes settings last g e rows marks) in
+      (tt, s .0, subst WasRead (last-snoc 0 marks (markOf last)) (s .1))
+  sure-along sure (c ∷ cs) last st xs ys (h, g, q, f) e rows marks o b =
+      let s = sure-gave S (p .wide) (p .narrow) bytes (p .size) sure (at bytes settings (c .state) (c .first) (c .second) rows marks)
+      (at bytes settings (c .step .state) (c .first′) (c .second′) (rows ++ changesOf c ∷ []) (marks ++ markOf c ∷ []))
+      (own-handed bytes st xs ys c h rows marks o) (λ z. ap (λ (x : RowState). x .eols) (h .0) ∙ b (sym (ap (λ (x : RowState). x .rows) (h .0)) ∙ z)) (step-more bytes settings c g q rows marks) in
+      let t = sure-along sure cs last (c .step .state) (c .first′) (c .second′) f e (rows ++ changesOf c ∷ []) (marks ++ markOf c ∷ []) (s .2) (s .3) in
+      ((s .0, t .0), t .1, t .2)
+
+pub damage-never-back : DamageNeverReachesBack
+damage-never-back n bytes bytes′ settings agree small first second given last f e le k = record {
+  start = f .start;
+  is-start = f .is-start;
+  follows = same-along bytes bytes′ settings p small n (agree-of agree) given last (f .start) first second (f .follows) e (stand .0) (stand .1) (stand .2) le [] [] (own bytes) (own bytes′);
+}
+  where
+    p : Passed bytes settings
+    p = passed bytes settings last (last-reads bytes settings given last (f .start) first second (f .follows)) e
+
+    own : (held : List ℕ) → OwnIn bytes bytes′ settings p small held (f .start) first second [] []
+    own held =
+        subst (λ (c : Caller). Own (settingsOf settings) (p .wide) held c) (λ i. record { state = sym (f .is-start) i; arrays = both first second; rows = []; marks = [] })
+        (own-start (settingsOf settings) (p .wide) held (both first second))
+
+    stand : AllStay given × EolsStay last × WasRead (markOf last)
+    stand = ⊎-elim
+        (λ s. sure-along bytes bytes′ settings p small s given last (f .start) first second (f .follows) e [] [] (own bytes) (λ z. ap (λ (s : Rule.RowState). s .eols) (f .is-start)))
+        (λ r. (r .stay, r .stays, r .read)) k
+
+-- ---- The page form
+
+-- a page that kept a row, or is answered with a number from 1 to 3, was read
+module _ (S : Settings) (bytes : List ℕ) (store places : ℕ) where
+  kept-read : 0 < length (decode S bytes store places .rows) → Allowed S bytes
+  kept-read = decode-cases S bytes (λ f. 0 < length (f store places .rows) → Allowed S bytes) (λ n r h. absurd (omega arith)) (λ a h. a)
+
+-- rows that are the first of both answers
+module _ (c d : Call) (a b : Rules.Answer) (bytes bytes′ : List ℕ) (settings : DecodeSettings) (g : Reading bytes settings c) (g′ : Reading bytes′ settings d)
+    (is : answerIn bytes settings c ≡ a) (is′ : answerIn bytes′ settings d ≡ b) where
+  first-of : (n : ℕ) (rows : List (List ℕ)) (marks : List ℕ) → length rows ≡ n → length marks ≡ n
+      → ((rest : List (List ℕ)) × (a .rows ≡ rows ++ rest) × (later : List ℕ) × (a .marks ≡ marks ++ later))
+      → ((rest : List (List ℕ)) × (b .rows ≡ rows ++ rest) × (later : List ℕ) × (b .marks ≡ marks ++ later))
+      → SameFirst n c d
+  first-of n rows marks l m (rest, x, later, y) (rest′, x′, later′, y′) = record {
+    many = omega (arith, ap length (sym (rows-are (answerIn bytes settings c) c g) ∙ there), counted, length-append rows rest, l);
+    many′ = omega (arith, counted′, length-append rows rest′, l);
+    rows = ap (take n) there′ ∙ take-at rows rest′ n l ∙ sym (ap (take n) there ∙ take-at rows rest n l);
+    marks = ap (take n) marked′ ∙ take-at marks later′ n m ∙ sym (ap (take n) marked ∙ take-at marks later n m);
+  }
+    where
+      there : rowsOf c ≡ rows ++ rest
+      there = rows-are (answerIn bytes settings c) c g ∙ ap (λ (z : Rules.Answer). z .rows) is ∙ x
+
+      there′ : rowsOf d ≡ rows ++ rest′
+      there′ = rows-are (answerIn bytes′ settings d) d g′ ∙ ap (λ (z : Rules.Answer). z .rows) is′ ∙ x′
+
+      marked : marksOf c ≡ marks ++ later
+      marked = marks-are (answerIn bytes settings c) c g (as-many bytes settings c) ∙ ap (λ (z : Rules.Answer). z .marks) is ∙ y
+
+      marked′ : marksOf d ≡ marks ++ later′
+      marked′ = marks-are (answerIn bytes′ settings d) d g′ (as-many bytes′ settings d) ∙ ap (λ (z : Rules.Answer). z .marks) is′ ∙ y′
+
+      counted : c .answer .rows ≡ length (rows ++ rest)
+      counted = ap (λ (z : Answer). z .rows) (g .answer) ∙ ap length (ap (λ (z : Rules.Answer). z .rows) is ∙ x)
+
+      counted′ : d .answer .rows ≡ length (rows ++ rest′)
+      counted′ = ap (λ (z : Answer). z .rows) (g′ .answer) ∙ ap length (ap (λ (z : Rules.Answer). z .rows) is′ ∙ x′)
+
+-- so many steps keep so many rows, with as many marks
+module _ (S : Settings) (wide : 0 < S .columns) (bytes : List ℕ) (store places : ℕ) where
+  abbrev step : Kept → Out Kept Rules.Answer
+  step = pageStep (rowOf (S .encoding) S (bitsOf bytes)) store places
+
+  kept-counted : (n : ℕ) (j k : Kept) → run step n j ≡ more k → (length (k .rows) ≡ length (j .rows) + n) × (length (k .marks) ≡ length (j .marks) + n)
+  unfolding run
+  kept-counted zero j k = λ q. let y : j ≡ k = cc in (omega (arith, ap (λ (x : Kept). length (x .rows)) y), omega (arith, ap (λ (x : Kept). length (x .marks)) y))
+  kept-counted (suc n) j k =
+      page-cases (S .encoding) S wide (bitsOf bytes) (whole-bytes bytes) store places j
+      (λ o. andThen o (run step n) ≡ more k → (length (k .rows) ≡ length (j .rows) + suc n) × (length (k .marks) ≡ length (j .marks) + suc n))
+      (λ r mark next e l q.
+      let c = kept-counted n (withRow j r mark next) k q in
+      (omega (arith, c .0, length-append (j .rows) (r ∷ [])), omega (arith, c .1, length-append (j .marks) (mark ∷ []))))
+      (λ r mark next e l q. absurd (let z : _≡_ {A = ℕ} 0 1 = cc in omega arith))
+      (λ m place b loose e q. absurd (let z : _≡_ {A = ℕ} 0 1 = cc in omega arith))
+
+  one-step : (k : Kept) → step noneKept ≡ more k → run step 1 noneKept ≡ more k
+  unfolding run
+  one-step k e = rw e
+
+pub page-never-back : PageNeverReachesBack
+unfolding run
+page-never-back p bytes bytes′ settings small-columns agree small′ c d g g′ room zero le k q h s =
+    record { many = omega arith; many′ = omega arith; rows = refl; marks = refl }
+page-never-back p bytes bytes′ settings small-columns agree small′ c d g g′ room (suc n) le k q h s =
+    first-of c d (answerIn bytes settings c) (decode S bytes′ store spots) bytes bytes′ settings g g′ refl (λ i. decode S bytes′ (room .changes i) (room .places i))
+    (suc n) (k .rows) (k .marks) (counted .0) (counted .1) (both-front .0) (both-front .1)
+  where
+    S : Settings
+    S = settingsOf settings
+
+    store : ℕ
+    store = length (c .changes)
+
+    spots : ℕ
+    spots = places c
+
+    allowed : Allowed S bytes
+    allowed = kept-read S bytes store spots (omega (arith, le, ap (λ (z : Answer). z .rows) (g .answer)))
+
+    narrow : S .columns < mostPixels
+    narrow = let z : S .columns ≡ mostPixels → ⊥ = allowed .narrow in omega arith
+
+    counted : (length (k .rows) ≡ suc n) × (length (k .marks) ≡ suc n)
+    counted = let r = kept-counted (readAs settings) (allowed .wide) bytes store spots (suc n) noneKept k q in (omega (arith, r .0), omega (arith, r .1))
+
+    stands : Stands (rowOf (S .encoding) (strictIfExact S) (bitsOf bytes)) store spots noneKept k
+    stands = ⊎-elim
+        (λ x. sure-stands (S .encoding) (strictIfExact S) (allowed .wide) (bitsOf bytes) (whole-bytes bytes) store spots x n k q)
+        (λ r. read-stands (S .encoding) (strictIfExact S) (allowed .wide) (bitsOf bytes) (whole-bytes bytes) store spots k (r .read) n
+        (λ f e. r .stays f (one-step (readAs settings) (allowed .wide) bytes store spots f e)) q) s
+
+    both-front : Fronts k (decode S bytes store spots) × Fronts k (decode S bytes′ store spots)
+    both-front = never-back S (allowed .wide) narrow store spots bytes bytes′ (allowed .small) small′ k stands (agree-less (k .state .at) h (agree-of agree))
+
+pub refused-rows-stand : RefusedRowsStand
+refused-rows-stand bytes bytes′ settings small-columns sure c d g g′ room i j agree small′ =
+    first-of c d a (decode S bytes′ store spots) bytes bytes′ settings g g′ refl (λ i. decode S bytes′ (room .changes i) (room .places i))
+    (c .answer .rows) (a .rows) (a .marks) (sym (ap (λ (z : Answer). z .rows) (g .answer))) (as-many bytes settings c ∙ sym (ap (λ (z : Answer). z .rows) (g .answer)))
+    ([], sym (append-nil (a .rows)), [], sym (append-nil (a .marks))) told-rows
+  where
+    S : Settings
+    S = settingsOf settings
+
+    store : ℕ
+    store = length (c .changes)
+
+    spots : ℕ
+    spots = places c
+
+    a : Rules.Answer
+    a = answerIn bytes settings c
+
+    number : c .answer .number ≡ a .number
+    number = ap (λ (z : Answer). z .number) (g .answer)
+
+    place : c .answer .place ≡ a .place
+    place = ap (λ (z : Answer). z .place) (g .answer)
+
+    allowed : Allowed S bytes
+    allowed =
+        decode-cases S bytes (λ f. 1 ≤ f store spots .number → f store spots .number ≤ 3 → Allowed S bytes)
+        (λ n r x y. refused-number n r x y) (λ z x y. z) (omega (arith, i, number)) (omega (arith, j, number))
+      where
+        refused-number : (n : ℕ) → Refuses S bytes n → 1 ≤ n → n ≤ 3 → Allowed S bytes
+        refused-number n (too-wide e) x y = absurd (omega arith)
+        refused-number n (too-long e) x y = absurd (omega arith)
+        refused-number n (no-columns e) x y = absurd (omega arith)
+
+    narrow : S .columns < mostPixels
+    narrow = let z : S .columns ≡ mostPixels → ⊥ = allowed .narrow in omega arith
+
+    told-rows : (rest : List (List ℕ)) × (decode S bytes′ store spots .rows ≡ a .rows ++ rest) × (later : List ℕ) × (decode S bytes′ store spots .marks ≡ a .marks ++ later)
+    told-rows = decode-refused S (allowed .wide) narrow sure bytes bytes′ (allowed .small) small′ store spots (omega (arith, i, number)) (omega (arith, j, number))
+        (subst (λ (n : ℕ). Agree n (bitsOf bytes) (bitsOf bytes′)) place (agree-of agree))

@@ -1,0 +1,98 @@
+-- Damage never reaches back: which rows stand whatever becomes of the data behind them.
+-- Two data are read with the same settings, and agree in their first p bits; behind those bits they may differ in anything, in their length too.
+use mathlib.Core.Path.{_≡_}
+use mathlib.Core.Logic.{_⊎_}
+use mathlib.Core.List.{List, [], _∷_}
+use Prim.Native.Nat.{ℕ, _≤_}
+use lib.ListN.{length, take}
+use Rattle.rules.specs.Answers.{invalidCode, overflow, moreToCome, mostPixels}
+use Rattle.rules.specs.Machine.{more, run}
+use Rattle.rules.specs.Bits.{bitsOf}
+use Rattle.rules.specs.Rows.{Settings}
+use Rattle.rules.specs.Pages.{Kept, noneKept, pageStep, rowOf, strictIfExact, mostBytes}
+use Rattle.rules.specs.Standing.{AgreeTo, WasRead, KeepsEols, Sure, lastOr}
+use Rattle.settings.specs.declared.DecodeSettings.{DecodeSettings}
+use Rattle.settings.specs.Settings.{settingsOf}
+use Rattle.promises.specs.Rooms.{Call, places, rowsOf, marksOf, Reading}
+use Rattle.promises.specs.ByRow.{RowCall, RowReading, numberOf, markOf, Page, Sound}
+
+-- how a page is read: strictly where exact is set (A12)
+abbrev pub readAs : DecodeSettings → Settings
+readAs settings = strictIfExact (settingsOf settings)
+
+-- Group 4; or Group 3, strict or exact
+abbrev pub SureFor : DecodeSettings → Type 0
+SureFor settings = Sure (readAs settings .encoding) (readAs settings)
+
+-- ---- The row form
+
+-- the call did not give EOLs up: its state shows it
+abbrev pub EolsStay : RowCall → Type 0
+EolsStay c = KeepsEols (c .state .eols) (c .step .state .eols)
+
+-- none of these did
+unfoldable pub AllStay : List RowCall → Type 0
+AllStay [] = Unit {0}
+AllStay (c ∷ cs) = EolsStay c × AllStay cs
+
+-- Lenient Group 3: the last row was read, and no call gave EOLs up. Rows before the last may have been recovered.
+pub record ReadOn (given : List RowCall) (last : RowCall) : Type 0 where
+  pub read : WasRead (markOf last)
+  pub stays : EolsStay last
+  pub stay : AllStay given
+
+-- The calls of a page, of which the last gave a row and handed back a state at bit p or before it, are, each with its row, its mark, its state and every entry of its arrays, the calls of a page in the
+-- other data. (What `read_row` answers is settled by its contract: `ReadRowPinned`.)
+abbrev pub DamageNeverReachesBack : Type 0
+DamageNeverReachesBack =
+    (p : ℕ) (bytes bytes′ : List ℕ) (settings : DecodeSettings) → AgreeTo p bytes bytes′ → length bytes′ ≤ mostBytes
+    → (first second : List ℕ) (given : List RowCall) (last : RowCall) → Page bytes settings first second given last
+    → numberOf last ≡ moreToCome → last .step .state .at ≤ p → SureFor settings ⊎ ReadOn given last
+    → Page bytes′ settings first second given last
+
+-- The same of one call, from any state that the other data do not refuse, a forged one too.
+abbrev pub CallNeverReachesBack : Type 0
+CallNeverReachesBack =
+    (p : ℕ) (bytes bytes′ : List ℕ) (settings : DecodeSettings) → AgreeTo p bytes bytes′ → length bytes′ ≤ mostBytes
+    → (c : RowCall) → RowReading bytes settings c → Sound bytes′ settings c
+    → numberOf c ≡ moreToCome → c .step .state .at ≤ p → SureFor settings ⊎ (WasRead (markOf c) × EolsStay c)
+    → RowReading bytes′ settings c
+
+-- ---- The page form
+
+-- the page so far behind n rows, by the page's own steps, in the room that a call lends
+abbrev pub Reaches : List ℕ → DecodeSettings → Call → ℕ → Kept → Type 0
+Reaches bytes settings c n k = run (pageStep (rowOf (readAs settings .encoding) (readAs settings) (bitsOf bytes)) (length (c .changes)) (places c)) n noneKept ≡ more k
+
+-- Lenient Group 3: the last row so far was read, and EOLs are expected behind it if they were behind the first. The page form shows no state, so a caller of it does not see whether EOLs were given up.
+pub record ReadTo (bytes : List ℕ) (settings : DecodeSettings) (c : Call) (k : Kept) : Type 0 where
+  pub read : WasRead (lastOr 0 (k .marks))
+  pub stays : (first : Kept) → Reaches bytes settings c 1 first → KeepsEols (first .state .eols) (k .state .eols)
+
+-- two calls of `decode` with as much room
+pub record SameRoom (c d : Call) : Type 0 where
+  pub changes : length (d .changes) ≡ length (c .changes)
+  pub places : places d ≡ places c
+
+-- both have n rows, and these are the same, with their marks
+pub record SameFirst (n : ℕ) (c d : Call) : Type 0 where
+  pub many : n ≤ c .answer .rows
+  pub many′ : n ≤ d .answer .rows
+  pub rows : take n (rowsOf d) ≡ take n (rowsOf c)
+  pub marks : take n (marksOf d) ≡ take n (marksOf c)
+
+-- Rows of `decode` behind which the reader stands at bit p or before it are the first rows of both.
+abbrev pub PageNeverReachesBack : Type 0
+PageNeverReachesBack =
+    (p : ℕ) (bytes bytes′ : List ℕ) (settings : DecodeSettings) → settings .columns ≤ mostPixels → AgreeTo p bytes bytes′ → length bytes′ ≤ mostBytes
+    → (c d : Call) → Reading bytes settings c → Reading bytes′ settings d → SameRoom c d
+    → (n : ℕ) → n ≤ c .answer .rows → (k : Kept) → Reaches bytes settings c n k → k .state .at ≤ p → SureFor settings ⊎ ReadTo bytes settings c k
+    → SameFirst n c d
+
+-- Where a page is answered with 1, 2 or 3, all rows kept before the place that is named are the first rows of any data that agree with these up to it.
+abbrev pub RefusedRowsStand : Type 0
+RefusedRowsStand =
+    (bytes bytes′ : List ℕ) (settings : DecodeSettings) → settings .columns ≤ mostPixels → SureFor settings
+    → (c d : Call) → Reading bytes settings c → Reading bytes′ settings d → SameRoom c d
+    → invalidCode ≤ c .answer .number → c .answer .number ≤ overflow → AgreeTo (c .answer .place) bytes bytes′ → length bytes′ ≤ mostBytes
+    → SameFirst (c .answer .rows) c d
