@@ -14,13 +14,13 @@ use Rattle.rules.specs.Pages as Rules
 use Rattle.rules.specs.Pages.{Kept, noneKept, withRow, pageStep, rowOf, strictIfExact, mostBytes, decode}
 use Rattle.rules.specs.ByRow as Rule
 use Rattle.rules.specs.ByRow.{Caller, callStep, between}
-use Rattle.rules.specs.Standing.{WasRead}
-use Rattle.rules.proofs.Agree.{Agree, agree-less}
+use Rattle.rules.specs.Standing.{WasRead, SettledBy}
+use Rattle.rules.proofs.Agree.{Agree}
 use Rattle.rules.proofs.Budget.{whole-bytes}
 use Rattle.rules.proofs.Answers.{Refuses, too-wide, too-long, no-columns, Allowed, decode-cases}
 use Rattle.rules.proofs.Pages.{page-cases}
 use Rattle.rules.proofs.ByRow.{Own, own-start}
-use Rattle.rules.proofs.Standing.{agree-of, Stands, Begun, last-snoc, sure-stands, read-stands, Fronts, never-back}
+use Rattle.rules.proofs.Standing.{agree-of, Stands, SettledIn, stands-as, settled-inside, Fronts, never-back, Begun, last-snoc, sure-stands, read-stands}
 use Rattle.rules.proofs.StandingCalls.{KeptEols, call-same, step-own, step-ahead, last-same, followed-same, sure-gave}
 use Rattle.rules.proofs.Blamed.{decode-refused}
 use Rattle.answer.specs.declared.Answer.{Answer}
@@ -42,11 +42,17 @@ module _ (bytes bytes′ : List ℕ) (settings : DecodeSettings) (c : RowCall) (
   over e = subst (λ (d : Rule.RowStep). Gives (sideOf (c .state .side)) d (c .step) (c .first′) (c .second′)) (sym e) g
 
 pub call-never-back : CallNeverReachesBack
-call-never-back p bytes bytes′ settings agree small c g s e h k =
+call-never-back p bytes bytes′ settings agree small c g s e k =
     over bytes bytes′ settings c g
-    (call-same (settingsOf settings) bytes bytes′ (rowStateOf (c .state)) (both (c .first) (c .second)) small (sound-passes bytes′ settings c s) (sym (number-is bytes settings c g) ∙ e)
-    (⊎-elim inl (λ w. inr (subst WasRead (ap (λ (a : Answer). a .mark) (g .answer)) (w .0), λ x. sym (ap (λ (q : Rule.RowState). q .eols) (g .state)) ∙ w .1 x)) k)
-    (agree-less (told bytes settings c .state .at) (omega (arith, h, ap (λ (q : Rule.RowState). q .at) (g .state))) (agree-of agree)))
+    (call-same (settingsOf settings) bytes bytes′ (rowStateOf (c .state)) (both (c .first) (c .second)) small (sound-passes bytes′ settings c s) p (agree-of agree) (sym (number-is bytes settings c g) ∙ e)
+    (⊎-elim (λ w. inl (w .0, (let z : told bytes settings c .state .at ≤ p = omega (arith, w .1, at-is) in z)))
+    (λ w. inr (
+      subst (SettledBy p (bitsOf bytes) (told bytes settings c .said .mark)) at-is (subst (λ (m : ℕ). SettledBy p (bitsOf bytes) m (c .step .state .at)) (ap (λ (a : Answer). a .mark) (g .answer)) (w .0)),
+      λ x. sym (ap (λ (q : Rule.RowState). q .eols) (g .state)) ∙ w .1 x,
+    )) k))
+  where
+    at-is : c .step .state .at ≡ told bytes settings c .state .at
+    at-is = ap (λ (q : Rule.RowState). q .at) (g .state)
 
 module _ (bytes bytes′ : List ℕ) (settings : DecodeSettings) (p : Passed bytes settings) (size′ : length bytes′ ≤ mostBytes) where
   abbrev S : Settings
@@ -90,27 +96,27 @@ module _ (bytes bytes′ : List ℕ) (settings : DecodeSettings) (p : Passed byt
 
     -- calls that stand are calls over the other data
     same-along : Agree n (bitsOf bytes) (bitsOf bytes′) → (cs : List RowCall) (last : RowCall) (st : RowState) (xs ys : List ℕ) → Follows bytes settings st xs ys cs last → numberOf last ≡ moreToCome
-        → AllStay cs → EolsStay last → WasRead (markOf last) → last .step .state .at ≤ n → (rows : List (List ℕ)) (marks : List ℕ) → OwnIn bytes st xs ys rows marks → OwnIn bytes′ st xs ys rows marks
+        → AllStay cs → EolsStay last → SettledBy n (bitsOf bytes) (markOf last) (last .step .state .at) → (rows : List (List ℕ)) (marks : List ℕ) → OwnIn bytes st xs ys rows marks → OwnIn bytes′ st xs ys rows marks
         → Follows bytes′ settings st xs ys cs last
     unfolding Follows AllStay
-    same-along agree [] last st xs ys (h, g) e a k w le rows marks o o′ = (
+    same-along agree [] last st xs ys (h, g) e a k w rows marks o o′ = (
       h,
       over bytes bytes′ settings last g
           (last-same S (p .wide) (p .narrow) bytes (p .size) bytes′ size′ (at bytes settings (last .state) (last .first) (last .second) rows marks)
           (at bytes settings (last .step .state) (last .first′) (last .second′) (rows ++ changesOf last ∷ []) (marks ++ markOf last ∷ []))
-          (own-handed bytes st xs ys last h rows marks o) (own-handed bytes′ st xs ys last h rows marks o′) (step-more bytes settings last g e rows marks) k
-          (subst WasRead (sym (last-snoc 0 marks (markOf last))) w) (agree-less (last .step .state .at) le agree) .0),
+          (own-handed bytes st xs ys last h rows marks o) (own-handed bytes′ st xs ys last h rows marks o′) (step-more bytes settings last g e rows marks) k n
+          (subst (λ (m : ℕ). SettledBy n (bitsOf bytes) m (last .step .state .at)) (sym (last-snoc 0 marks (markOf last))) w) agree .0),
     )
-    same-along agree (c ∷ cs) last st xs ys (h, g, q, f) e a k w le rows marks o o′ =
+    same-along agree (c ∷ cs) last st xs ys (h, g, q, f) e a k w rows marks o o′ =
         let b = at bytes settings (c .state) (c .first) (c .second) rows marks in
         let d = at bytes settings (c .step .state) (c .first′) (c .second′) (rows ++ changesOf c ∷ []) (marks ++ markOf c ∷ []) in
         let call : callStep S bytes b ≡ more d = step-more bytes settings c g q rows marks in
         let ob = own-handed bytes st xs ys c h rows marks o in
         let od : Own S (p .wide) bytes d = step-own S (p .wide) (p .narrow) bytes (p .size) b d ob call in
-        let m = next cs last (c .step .state) (c .first′) (c .second′) f e (a .1) k le (rows ++ changesOf c ∷ []) (marks ++ markOf c ∷ []) od in
+        let m = next cs last (c .step .state) (c .first′) (c .second′) f e (a .1) k (settled-inside n (bitsOf bytes) (markOf last) (last .step .state .at) w) (rows ++ changesOf c ∷ []) (marks ++ markOf c ∷ []) od in
         let r = followed-same S (p .wide) (p .narrow) bytes (p .size) bytes′ size′ b d (m .to) ob (own-handed bytes′ st xs ys c h rows marks o′) call (a .0) (m .call) (m .keeps) n
         (omega (arith, step-ahead S (p .wide) (p .narrow) bytes (p .size) d (m .to) od (m .call), m .inside)) (m .inside) agree in
-        (h, over bytes bytes′ settings c g (r .0), q, same-along agree cs last (c .step .state) (c .first′) (c .second′) f e (a .1) k w le (rows ++ changesOf c ∷ []) (marks ++ markOf c ∷ []) od (r .1))
+        (h, over bytes bytes′ settings c g (r .0), q, same-along agree cs last (c .step .state) (c .first′) (c .second′) f e (a .1) k w (rows ++ changesOf c ∷ []) (marks ++ markOf c ∷ []) od (r .1))
 
   -- in Group 4, and strict or exact, all calls that give a row stand
   sure-along : SureFor settings → (cs : List RowCall) (last : RowCall) (st : RowState) (xs ys : List ℕ) → Follows bytes settings st xs ys cs last → numberOf last ≡ moreToCome
@@ -129,10 +135,10 @@ module _ (bytes bytes′ : List ℕ) (settings : DecodeSettings) (p : Passed byt
       ((s .0, t .0), t .1, t .2)
 
 pub damage-never-back : DamageNeverReachesBack
-damage-never-back n bytes bytes′ settings agree small first second given last f e le k = record {
+damage-never-back n bytes bytes′ settings agree small first second given last f e k = record {
   start = f .start;
   is-start = f .is-start;
-  follows = same-along bytes bytes′ settings p small n (agree-of agree) given last (f .start) first second (f .follows) e (stand .0) (stand .1) (stand .2) le [] [] (own bytes) (own bytes′);
+  follows = same-along bytes bytes′ settings p small n (agree-of agree) given last (f .start) first second (f .follows) e (stand .0) (stand .1) (stand .2) [] [] (own bytes) (own bytes′);
 }
   where
     p : Passed bytes settings
@@ -143,10 +149,12 @@ damage-never-back n bytes bytes′ settings agree small first second given last 
         subst (λ (c : Caller). Own (settingsOf settings) (p .wide) held c) (λ i. record { state = sym (f .is-start) i; arrays = both first second; rows = []; marks = [] })
         (own-start (settingsOf settings) (p .wide) held (both first second))
 
-    stand : AllStay given × EolsStay last × WasRead (markOf last)
+    stand : AllStay given × EolsStay last × SettledBy n (bitsOf bytes) (markOf last) (last .step .state .at)
     stand = ⊎-elim
-        (λ s. sure-along bytes bytes′ settings p small s given last (f .start) first second (f .follows) e [] [] (own bytes) (λ z. ap (λ (s : Rule.RowState). s .eols) (f .is-start)))
-        (λ r. (r .stay, r .stays, r .read)) k
+        (λ s.
+        let r = sure-along bytes bytes′ settings p small (s .0) given last (f .start) first second (f .follows) e [] [] (own bytes) (λ z. ap (λ (s : Rule.RowState). s .eols) (f .is-start)) in
+        (r .0, r .1, inl (r .2, s .1)))
+        (λ r. (r .stay, r .stays, r .settled)) k
 
 -- ---- The page form
 
@@ -210,9 +218,9 @@ module _ (S : Settings) (wide : 0 < S .columns) (bytes : List ℕ) (store places
 
 pub page-never-back : PageNeverReachesBack
 unfolding run
-page-never-back p bytes bytes′ settings small-columns agree small′ c d g g′ room zero le k q h s =
+page-never-back p bytes bytes′ settings small-columns agree small′ c d g g′ room zero le k q s =
     record { many = omega arith; many′ = omega arith; rows = refl; marks = refl }
-page-never-back p bytes bytes′ settings small-columns agree small′ c d g g′ room (suc n) le k q h s =
+page-never-back p bytes bytes′ settings small-columns agree small′ c d g g′ room (suc n) le k q s =
     first-of c d (answerIn bytes settings c) (decode S bytes′ store spots) bytes bytes′ settings g g′ refl (λ i. decode S bytes′ (room .changes i) (room .places i))
     (suc n) (k .rows) (k .marks) (counted .0) (counted .1) (both-front .0) (both-front .1)
   where
@@ -234,14 +242,14 @@ page-never-back p bytes bytes′ settings small-columns agree small′ c d g g�
     counted : (length (k .rows) ≡ suc n) × (length (k .marks) ≡ suc n)
     counted = let r = kept-counted (readAs settings) (allowed .wide) bytes store spots (suc n) noneKept k q in (omega (arith, r .0), omega (arith, r .1))
 
-    stands : Stands (rowOf (S .encoding) (strictIfExact S) (bitsOf bytes)) store spots noneKept k
+    stands : Stands (SettledIn p (bitsOf bytes)) (rowOf (S .encoding) (strictIfExact S) (bitsOf bytes)) store spots noneKept k
     stands = ⊎-elim
-        (λ x. sure-stands (S .encoding) (strictIfExact S) (allowed .wide) (bitsOf bytes) (whole-bytes bytes) store spots x n k q)
-        (λ r. read-stands (S .encoding) (strictIfExact S) (allowed .wide) (bitsOf bytes) (whole-bytes bytes) store spots k (r .read) n
+        (λ x. stands-as p (λ mark next i w. inl (w, i)) (x .1) (sure-stands (S .encoding) (strictIfExact S) (allowed .wide) (bitsOf bytes) (whole-bytes bytes) store spots (x .0) n k q))
+        (λ r. read-stands (S .encoding) (strictIfExact S) (allowed .wide) (bitsOf bytes) (whole-bytes bytes) store spots (SettledIn p (bitsOf bytes)) k (r .settled) n
         (λ f e. r .stays f (one-step (readAs settings) (allowed .wide) bytes store spots f e)) q) s
 
     both-front : Fronts k (decode S bytes store spots) × Fronts k (decode S bytes′ store spots)
-    both-front = never-back S (allowed .wide) narrow store spots bytes bytes′ (allowed .small) small′ k stands (agree-less (k .state .at) h (agree-of agree))
+    both-front = never-back S (allowed .wide) narrow store spots bytes bytes′ (allowed .small) small′ p (agree-of agree) k stands
 
 pub refused-rows-stand : RefusedRowsStand
 refused-rows-stand bytes bytes′ settings small-columns sure c d g g′ room i j agree small′ =
@@ -281,5 +289,5 @@ refused-rows-stand bytes bytes′ settings small-columns sure c d g g′ room i 
     narrow = let z : S .columns ≡ mostPixels → ⊥ = allowed .narrow in omega arith
 
     told-rows : (rest : List (List ℕ)) × (decode S bytes′ store spots .rows ≡ a .rows ++ rest) × (later : List ℕ) × (decode S bytes′ store spots .marks ≡ a .marks ++ later)
-    told-rows = decode-refused S (allowed .wide) narrow sure bytes bytes′ (allowed .small) small′ store spots (omega (arith, i, number)) (omega (arith, j, number))
+    told-rows = decode-refused S (allowed .wide) narrow bytes bytes′ (allowed .small) small′ sure store spots (omega (arith, i, number)) (omega (arith, j, number))
         (subst (λ (n : ℕ). Agree n (bitsOf bytes) (bitsOf bytes′)) place (agree-of agree))

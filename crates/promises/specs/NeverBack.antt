@@ -10,7 +10,7 @@ use Rattle.rules.specs.Machine.{more, run}
 use Rattle.rules.specs.Bits.{bitsOf}
 use Rattle.rules.specs.Rows.{Settings}
 use Rattle.rules.specs.Pages.{Kept, noneKept, pageStep, rowOf, strictIfExact, mostBytes}
-use Rattle.rules.specs.Standing.{AgreeTo, WasRead, KeepsEols, Sure, lastOr}
+use Rattle.rules.specs.Standing.{AgreeTo, SettledBy, KeepsEols, Sure, NoEols, lastOr}
 use Rattle.settings.specs.declared.DecodeSettings.{DecodeSettings}
 use Rattle.settings.specs.Settings.{settingsOf}
 use Rattle.promises.specs.Rooms.{Call, places, rowsOf, marksOf, Reading}
@@ -35,19 +35,19 @@ unfoldable pub AllStay : List RowCall → Type 0
 AllStay [] = Unit {0}
 AllStay (c ∷ cs) = EolsStay c × AllStay cs
 
--- Lenient Group 3: the last row was read, and no call gave EOLs up. Rows before the last may have been recovered.
-pub record ReadOn (given : List RowCall) (last : RowCall) : Type 0 where
-  pub read : WasRead (markOf last)
+-- Lenient Group 3: the last row is settled by the first p bits, and no call gave EOLs up. Rows before the last may have been recovered.
+pub record ReadOn (p : ℕ) (bytes : List ℕ) (given : List RowCall) (last : RowCall) : Type 0 where
+  pub settled : SettledBy p (bitsOf bytes) (markOf last) (last .step .state .at)
   pub stays : EolsStay last
   pub stay : AllStay given
 
--- The calls of a page, of which the last gave a row and handed back a state at bit p or before it, are, each with its row, its mark, its state and every entry of its arrays, the calls of a page in the
--- other data. (What `read_row` answers is settled by its contract: `ReadRowPinned`.)
+-- The calls of a page, of which the last gave a row and handed back a state at bit p or before it, are calls of a page in the other data too: each with its row, its mark, its state and every entry
+-- of its arrays. Any other call there that is handed the same answers the same (`ReadRowPinned`).
 abbrev pub DamageNeverReachesBack : Type 0
 DamageNeverReachesBack =
     (p : ℕ) (bytes bytes′ : List ℕ) (settings : DecodeSettings) → AgreeTo p bytes bytes′ → length bytes′ ≤ mostBytes
     → (first second : List ℕ) (given : List RowCall) (last : RowCall) → Page bytes settings first second given last
-    → numberOf last ≡ moreToCome → last .step .state .at ≤ p → SureFor settings ⊎ ReadOn given last
+    → numberOf last ≡ moreToCome → (SureFor settings × (last .step .state .at ≤ p)) ⊎ ReadOn p bytes given last
     → Page bytes′ settings first second given last
 
 -- The same of one call, from any state that the other data do not refuse, a forged one too.
@@ -55,7 +55,7 @@ abbrev pub CallNeverReachesBack : Type 0
 CallNeverReachesBack =
     (p : ℕ) (bytes bytes′ : List ℕ) (settings : DecodeSettings) → AgreeTo p bytes bytes′ → length bytes′ ≤ mostBytes
     → (c : RowCall) → RowReading bytes settings c → Sound bytes′ settings c
-    → numberOf c ≡ moreToCome → c .step .state .at ≤ p → SureFor settings ⊎ (WasRead (markOf c) × EolsStay c)
+    → numberOf c ≡ moreToCome → (SureFor settings × (c .step .state .at ≤ p)) ⊎ (SettledBy p (bitsOf bytes) (markOf c) (c .step .state .at) × EolsStay c)
     → RowReading bytes′ settings c
 
 -- ---- The page form
@@ -64,9 +64,9 @@ CallNeverReachesBack =
 abbrev pub Reaches : List ℕ → DecodeSettings → Call → ℕ → Kept → Type 0
 Reaches bytes settings c n k = run (pageStep (rowOf (readAs settings .encoding) (readAs settings) (bitsOf bytes)) (length (c .changes)) (places c)) n noneKept ≡ more k
 
--- Lenient Group 3: the last row so far was read, and EOLs are expected behind it if they were behind the first. The page form shows no state, so a caller of it does not see whether EOLs were given up.
-pub record ReadTo (bytes : List ℕ) (settings : DecodeSettings) (c : Call) (k : Kept) : Type 0 where
-  pub read : WasRead (lastOr 0 (k .marks))
+-- Lenient Group 3: the last row so far is settled by the first p bits, and EOLs are expected behind it if they were behind the first. The answer of `decode` does not show whether they are.
+pub record ReadTo (p : ℕ) (bytes : List ℕ) (settings : DecodeSettings) (c : Call) (k : Kept) : Type 0 where
+  pub settled : SettledBy p (bitsOf bytes) (lastOr 0 (k .marks)) (k .state .at)
   pub stays : (first : Kept) → Reaches bytes settings c 1 first → KeepsEols (first .state .eols) (k .state .eols)
 
 -- two calls of `decode` with as much room
@@ -81,18 +81,19 @@ pub record SameFirst (n : ℕ) (c d : Call) : Type 0 where
   pub rows : take n (rowsOf d) ≡ take n (rowsOf c)
   pub marks : take n (marksOf d) ≡ take n (marksOf c)
 
--- Rows of `decode` behind which the reader stands at bit p or before it are the first rows of both.
+-- The rows of `decode` behind which the reader stands at bit p or before it are the first rows of both.
 abbrev pub PageNeverReachesBack : Type 0
 PageNeverReachesBack =
     (p : ℕ) (bytes bytes′ : List ℕ) (settings : DecodeSettings) → settings .columns ≤ mostPixels → AgreeTo p bytes bytes′ → length bytes′ ≤ mostBytes
     → (c d : Call) → Reading bytes settings c → Reading bytes′ settings d → SameRoom c d
-    → (n : ℕ) → n ≤ c .answer .rows → (k : Kept) → Reaches bytes settings c n k → k .state .at ≤ p → SureFor settings ⊎ ReadTo bytes settings c k
+    → (n : ℕ) → n ≤ c .answer .rows → (k : Kept) → Reaches bytes settings c n k → (SureFor settings × (k .state .at ≤ p)) ⊎ ReadTo p bytes settings c k
     → SameFirst n c d
 
--- Where a page is answered with 1, 2 or 3, all rows kept before the place that is named are the first rows of any data that agree with these up to it.
+-- Where a page is answered with 1, 2 or 3, the rows kept are the first rows of any data that agree with these up to the place that is named: in Group 4, in Group 3 strict or exact, and in lenient Group 3
+-- where no EOLs are expected.
 abbrev pub RefusedRowsStand : Type 0
 RefusedRowsStand =
-    (bytes bytes′ : List ℕ) (settings : DecodeSettings) → settings .columns ≤ mostPixels → SureFor settings
+    (bytes bytes′ : List ℕ) (settings : DecodeSettings) → settings .columns ≤ mostPixels → SureFor settings ⊎ NoEols (settingsOf settings) (bitsOf bytes)
     → (c d : Call) → Reading bytes settings c → Reading bytes′ settings d → SameRoom c d
     → invalidCode ≤ c .answer .number → c .answer .number ≤ overflow → AgreeTo (c .answer .place) bytes bytes′ → length bytes′ ≤ mostBytes
     → SameFirst (c .answer .rows) c d

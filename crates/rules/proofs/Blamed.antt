@@ -2,6 +2,7 @@
 -- that agree with these up to it. Assumes nothing.
 use mathlib.Core.Path.{_≡_, refl, sym, ap, _∙_, subst}
 use mathlib.Core.Bool.{Bool, true, false, cond, not, _&&_, _||_}
+use mathlib.Core.Logic.{_⊎_, inl, ⊎-elim}
 use mathlib.Core.List.{List, [], _++_}
 use mathlib.Core.Option.{Option, none, some}
 use Prim.Native.Nat.{ℕ, zero, suc, _+_, _-_, _≤_, _<_}
@@ -19,7 +20,7 @@ use Rattle.rules.specs.Rows.{Encoding, group4, group3-1D, group3-2D, Set
 use Rattle.rules.specs.Group4.{eolsBefore, afterLine4, row4}
 use Rattle.rules.specs.Group3.{Tagging, untagged, tagged, eols3, Before, line-at, end-at, no-eol-at, judged, searched, missing, lacking, checked, before, taggedLine, lineOfTag, line3, kept, whitened, afterLine3, row3}
 use Rattle.rules.specs.Pages.{Answer, Kept, noneKept, endWith, entries, pageStep, rowsLeft, pageOf, rowOf, readPage, strictIfExact, unlessShort, mostBytes, decode}
-use Rattle.rules.specs.Standing.{Sure}
+use Rattle.rules.specs.Standing.{Sure, NoEols}
 use Rattle.rules.proofs.Machine.{ends-ind, ends-stops}
 use Rattle.rules.proofs.Runs.{Within, read-within}
 use Rattle.rules.proofs.Modes.{ModeAt, mode-at}
@@ -29,9 +30,9 @@ use Rattle.rules.proofs.Budget.{Bytes, whole-bytes, Sets, before-sets}
 use Rattle.rules.proofs.Answers.{short-cases, short-rows, short-marks, decode-reads}
 use Rattle.rules.proofs.Rows.{row4-cases, row3-cases, mended-cases}
 use Rattle.rules.proofs.Untouched.{align-up}
-use Rattle.rules.proofs.Agree.{Agree, agree-less}
+use Rattle.rules.proofs.Agree.{Agree}
 use Rattle.rules.proofs.Pages.{page-cases, page-falls, Held, held-start, held-next}
-use Rattle.rules.proofs.Standing.{Stands, stands-same, page-fronts, sure-stands}
+use Rattle.rules.proofs.Standing.{Stands, Read, stands-as, stands-over, page-fronts, sure-stands, bare-stands, bare-first}
 
 -- a failure with 1, 2 or 3 names a bit from here on
 abbrev pub From : ℕ → Went → Type 0
@@ -249,10 +250,10 @@ module _ (S : Settings) (bs : List Bool) (bytes : Bytes bs) (room : ℕ) (st : S
 
 module _ (enc : Encoding) (S : Settings) (wide : 0 < S .columns) (bs cs : List Bool) (bytes : Bytes bs) (store places : ℕ) where
   -- Every row before the place was read from bits before it: a page of which these rows were kept and that ended with 1, 2 or 3 gives them again, if they stand, over any other data that agree with these up to the place.
-  pub refused-stands : (k : Kept) (a : Answer) → Stands (rowOf enc S bs) store places noneKept k → Held enc S wide bs bytes store places k → pageStep (rowOf enc S bs) store places k ≡ done a
-      → 1 ≤ a .number → a .number ≤ 3 → Agree (a .place) bs cs → Stands (rowOf enc S cs) store places noneKept k
+  pub refused-stands : (k : Kept) (a : Answer) → Stands Read (rowOf enc S bs) store places noneKept k → Held enc S wide bs bytes store places k → pageStep (rowOf enc S bs) store places k ≡ done a
+      → 1 ≤ a .number → a .number ≤ 3 → Agree (a .place) bs cs → Stands (λ mark next. Unit {0}) (rowOf enc S cs) store places noneKept k
   refused-stands k a s h =
-      page-cases enc S wide bs bytes store places k (λ o. o ≡ done a → 1 ≤ a .number → a .number ≤ 3 → Agree (a .place) bs cs → Stands (rowOf enc S cs) store places noneKept k)
+      page-cases enc S wide bs bytes store places k (λ o. o ≡ done a → 1 ≤ a .number → a .number ≤ 3 → Agree (a .place) bs cs → Stands (λ mark next. Unit {0}) (rowOf enc S cs) store places noneKept k)
       (λ r mark next e l q. absurd (let z : _≡_ {A = ℕ} 0 1 = cc in omega arith))
       (λ r mark next e l q i j. absurd (let z : 5 ≡ a .number = cc in omega arith))
       (λ n p b loose e q i j g.
@@ -260,7 +261,7 @@ module _ (enc : Encoding) (S : Settings) (wide : 0 < S .columns) (bs cs : List B
       let x : p ≡ a .place = cc in
       let f = subst (Blames (k .state)) e (row-blames S bs bytes (store - entries (k .rows)) (k .state) enc (h .inside)) in
       let le : k .state .at ≤ p = f (omega arith) (omega arith) in
-      stands-same S wide bs cs bytes store places enc s (agree-less (k .state .at) (omega arith) g))
+      stands-over S wide bs cs bytes store places (a .place) g enc (stands-as (a .place) (λ mark next i w. inl (w, i)) (omega arith) s))
 
 module _ (S : Settings) (wide : 0 < S .columns) (bs : List Bool) (bytes : Bytes bs) (store places : ℕ) where
   abbrev step′ : Kept → Out Kept Answer
@@ -300,11 +301,11 @@ module _ (S : Settings) (wide : 0 < S .columns) (bs : List Bool) (bytes : Bytes 
       (λ r mark next e l q. let y : endWith k 5 0 0 r ≡ a = cc in (ap (λ (x : Answer). x .rows) (sym y), ap (λ (x : Answer). x .marks) (sym y)))
       (λ n p b loose e q. let y : endWith k n p b loose ≡ a = cc in (ap (λ (x : Answer). x .rows) (sym y), ap (λ (x : Answer). x .marks) (sym y)))
 
-  -- What a strict reader refused, or any of Group 4: all rows before the place are the first of every other data that agree with these up to it.
-  pub refused : Sure (S .encoding) S → (cs : List Bool) → Bytes cs → 1 ≤ readPage S bs store places .number → readPage S bs store places .number ≤ 3 → Agree (readPage S bs store places .place) bs cs
+  -- What was refused, where all rows stand: those before the place are the first of every other data that agree with these up to it.
+  pub refused : ((n : ℕ) (k : Kept) → run step′ (suc n) noneKept ≡ more k → Stands Read (rowOf (S .encoding) S bs) store places noneKept k) → (cs : List Bool) → Bytes cs → 1 ≤ readPage S bs store places .number → readPage S bs store places .number ≤ 3 → Agree (readPage S bs store places .place) bs cs
       → (rest : List (List ℕ)) × (readPage S cs store places .rows ≡ readPage S bs store places .rows ++ rest) × (later : List ℕ) × (readPage S cs store places .marks ≡ readPage S bs store places .marks ++ later)
   unfolding readPage ends
-  refused sure cs bytes′ =
+  refused all cs bytes′ =
       let p = ends-stops step′ (rowsLeft bs) (page-falls (S .encoding) S wide bs bytes store places) noneKept in
       subst (λ (o : Out Kept Answer). 1 ≤ pageOf o .number → pageOf o .number ≤ 3 → Agree (pageOf o .place) bs cs
       → (rest : List (List ℕ)) × (readPage S cs store places .rows ≡ pageOf o .rows ++ rest) × (later : List ℕ) × (readPage S cs store places .marks ≡ pageOf o .marks ++ later)) (sym (p .1))
@@ -328,16 +329,16 @@ module _ (S : Settings) (wide : 0 < S .columns) (bs : List Bool) (bytes : Bytes 
               let v : a .marks ≡ [] = same .1 ∙ ap (λ (x : Kept). x .marks) (sym y) in
               (readPage S cs store places .rows, ap (λ (l : List (List ℕ)). l ++ readPage S cs store places .rows) (sym u), readPage S cs store places .marks, ap (λ (l : List ℕ). l ++ readPage S cs store places .marks) (sym v))
           counts (suc n) q =
-              let s = sure-stands (S .encoding) S wide bs bytes store places sure n k q in
+              let s = all n k q in
               let t = refused-stands (S .encoding) S wide bs cs bytes store places k a s (l .held-then) (l .ended-it) i j g in
               let (rest, x, later, y) = page-fronts S wide store places cs bytes′ k t in
               (rest, x ∙ ap (λ (m : List (List ℕ)). m ++ rest) (sym (same .0)), later, y ∙ ap (λ (m : List ℕ). m ++ later) (sym (same .1)))
 
--- the same of the page in bytes
-pub decode-refused : (S : Settings) → 0 < S .columns → S .columns < 4294967295 → Sure (S .encoding) (strictIfExact S) → (bytes bytes′ : List ℕ) → length bytes ≤ mostBytes → length bytes′ ≤ mostBytes → (store places : ℕ)
+-- The same of the page in bytes: in Group 4, in what is read strictly, and where no EOLs are expected.
+pub decode-refused : (S : Settings) → 0 < S .columns → S .columns < 4294967295 → (bytes bytes′ : List ℕ) → length bytes ≤ mostBytes → length bytes′ ≤ mostBytes → Sure (S .encoding) (strictIfExact S) ⊎ NoEols S (bitsOf bytes) → (store places : ℕ)
     → 1 ≤ decode S bytes store places .number → decode S bytes store places .number ≤ 3 → Agree (decode S bytes store places .place) (bitsOf bytes) (bitsOf bytes′)
     → (rest : List (List ℕ)) × (decode S bytes′ store places .rows ≡ decode S bytes store places .rows ++ rest) × (later : List ℕ) × (decode S bytes′ store places .marks ≡ decode S bytes store places .marks ++ later)
-decode-refused S wide narrow sure bytes bytes′ small small′ store places =
+decode-refused S wide narrow bytes bytes′ small small′ firm store places =
     subst (λ (a : Answer). 1 ≤ a .number → a .number ≤ 3 → Agree (a .place) (bitsOf bytes) (bitsOf bytes′)
     → (rest : List (List ℕ)) × (decode S bytes′ store places .rows ≡ a .rows ++ rest) × (later : List ℕ) × (decode S bytes′ store places .marks ≡ a .marks ++ later))
     (sym (decode-reads S wide narrow bytes small store places))
@@ -345,7 +346,7 @@ decode-refused S wide narrow sure bytes bytes′ small small′ store places =
     → (rest : List (List ℕ)) × (decode S bytes′ store places .rows ≡ a .rows ++ rest) × (later : List ℕ) × (decode S bytes′ store places .marks ≡ a .marks ++ later))
     (λ l i j. absurd (omega arith))
     (λ n i j g.
-    let (rest, x, later, y) = refused (strictIfExact S) wide (bitsOf bytes) (whole-bytes bytes) store places sure (bitsOf bytes′) (whole-bytes bytes′) i j g in
+    let (rest, x, later, y) = refused (strictIfExact S) wide (bitsOf bytes) (whole-bytes bytes) store places all (bitsOf bytes′) (whole-bytes bytes′) i j g in
     (rest, ap (λ (a : Answer). a .rows) d ∙ short-rows S page′ ∙ x, later, ap (λ (a : Answer). a .marks) d ∙ short-marks S page′ ∙ y)))
   where
     page : Answer
@@ -356,3 +357,10 @@ decode-refused S wide narrow sure bytes bytes′ small small′ store places =
 
     d : decode S bytes′ store places ≡ unlessShort S page′
     d = decode-reads S wide narrow bytes′ small′ store places
+
+    all : (n : ℕ) (k : Kept) → run (pageStep (rowOf (S .encoding) (strictIfExact S) (bitsOf bytes)) store places) (suc n) noneKept ≡ more k
+        → Stands Read (rowOf (S .encoding) (strictIfExact S) (bitsOf bytes)) store places noneKept k
+    all n k q = ⊎-elim
+        (λ s. sure-stands (S .encoding) (strictIfExact S) wide (bitsOf bytes) (whole-bytes bytes) store places s n k q)
+        (λ b. bare-stands (S .encoding) (strictIfExact S) wide (bitsOf bytes) (whole-bytes bytes) store places
+        (bare-first (S .encoding) (strictIfExact S) wide (bitsOf bytes) (whole-bytes bytes) store places (record { none-leads = b .none-leads; not-asked = b .not-asked })) n k q) firm

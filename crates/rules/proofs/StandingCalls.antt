@@ -2,7 +2,7 @@
 -- the bit of its state. Assumes nothing.
 use mathlib.Core.Path.{_≡_, refl, sym, ap, _∙_, subst}
 use mathlib.Core.Bool.{Bool, true, false}
-use mathlib.Core.Logic.{_⊎_, ⊎-elim}
+use mathlib.Core.Logic.{_⊎_, inl, ⊎-elim}
 use mathlib.Core.List.{List, [], _∷_, _++_}
 use Prim.Native.Nat.{ℕ, zero, suc, _+_, _*_, _≤_, _<_}
 use native.Mathlib.Omega.{arith}
@@ -16,13 +16,13 @@ use Rattle.rules.specs.Group3.{untagged, tagged}
 use Rattle.rules.specs.Pages.{rowOf, strictIfExact, mostBytes, tooWide}
 use Rattle.rules.specs.Answers.{moreToCome}
 use Rattle.rules.specs.ByRow.{Arrays, unended, RowState, between, roomIn, referenceIn, RowStep, afterRow, sound, unlessFew, rowHere, unlessEnded, readRow, Caller, callerWith, Over, goesOn, callStep}
-use Rattle.rules.specs.Standing.{WasRead, KeepsEols, Sure, lastOr}
+use Rattle.rules.specs.Standing.{WasRead, SettledBy, KeepsEols, Sure, lastOr}
 use Rattle.rules.proofs.Bits.{length-bitsOf, both-true}
 use Rattle.rules.proofs.Agree.{Agree, agree-less}
 use Rattle.rules.proofs.Budget.{whole-bytes}
 use Rattle.rules.proofs.ByRow.{few-cases, call-cases, Bounded, row-bounded, Own, own-start, rowIn, given, between-given, own-next, tests-pass, own-reads, call-gives, call-ends}
-use Rattle.rules.proofs.Untouched.{Keeps, Settled, row4-same, row-same}
-use Rattle.rules.proofs.Standing.{row-ahead, followed3, Begun, row-settled, row-sure, last-snoc}
+use Rattle.rules.proofs.Untouched.{Keeps, row4-same, row-same}
+use Rattle.rules.proofs.Standing.{row-ahead, followed3, row-settles, Begun, row-settled, row-sure, last-snoc}
 
 -- the state that a call hands back expects EOLs if the state before did
 abbrev pub KeptEols : RowState → RowState → Type 0
@@ -31,32 +31,35 @@ KeptEols p q = KeepsEols (p .eols) (q .eols)
 -- ---- One call, with any state and any arrays
 
 module _ (S : Settings) (bytes bytes′ : List ℕ) (p : RowState) (xs : Arrays) (size : length bytes′ ≤ mostBytes) (sound′ : sound S bytes′ p xs ≡ true) where
-  abbrev Same : RowStep → Type 0
-  Same d =
-      d .said .number ≡ moreToCome → Sure (S .encoding) (strictIfExact S) ⊎ (WasRead (d .said .mark) × KeptEols p (d .state)) → Agree (d .state .at) (bitsOf bytes) (bitsOf bytes′)
-      → readRow S bytes′ p xs ≡ d
+  module _ (n : ℕ) (agree : Agree n (bitsOf bytes) (bitsOf bytes′)) where
+    abbrev Same : RowStep → Type 0
+    Same d =
+        d .said .number ≡ moreToCome
+        → (Sure (S .encoding) (strictIfExact S) × (d .state .at ≤ n)) ⊎ (SettledBy n (bitsOf bytes) (d .said .mark) (d .state .at) × KeptEols p (d .state))
+        → readRow S bytes′ p xs ≡ d
 
-  -- Damage never reaches back: a call that gives a row, in Group 4 or strictly; or one that was read, with EOLs still expected if they were.
-  pub call-same : Same (readRow S bytes p xs)
-  unfolding readRow sound
-  call-same = call-cases S bytes p xs Same
-      (λ n place b loose e h k a. rw (e, readRow))
-      (λ u e h. absurd (omega arith))
-      (λ u e f h. absurd (omega arith))
-      (λ u e f g h. absurd (omega arith))
-      (λ u e f g c h. absurd (omega arith))
-      (λ u e f g c o q. rows u e f g c o q)
-    where
-      rows : p .end ≡ unended → tooWide (S .columns) ≡ false → length bytes ≤ mostBytes → sound S bytes p xs ≡ true → 0 < S .columns → (o : RowOut) → rowHere S bytes p xs ≡ o → Same (afterRow p xs (unlessFew S bytes p xs o))
-      rows u e f g c (row r mark next) q = λ h k a.
-          let settled : Settled (between p xs) mark next
-          = ⊎-elim (λ s. row-settled (strictIfExact S) c (bitsOf bytes) (roomIn p xs) (between p xs) r mark next (S .encoding) s q) (λ w. (w .0, λ z. w .1)) k in
-          let s = row-same (strictIfExact S) c (bitsOf bytes) (bitsOf bytes′) (roomIn p xs) (between p xs) r mark next a (S .encoding) settled q in
-          ap (unlessEnded S bytes′ p xs) u ∙ tests-pass S c bytes′ e size p xs sound′ ∙ ap (λ (o : RowOut). afterRow p xs (unlessFew S bytes′ p xs o)) s
-      rows u e f g c (stop n place b loose) q =
-          let i : p .at ≤ length (bitsOf bytes) = omega (arith, leb-true (p .at) (8 * length bytes) (both-true (leb (p .at) (8 * length bytes)) _ g .0), length-bitsOf bytes) in
-          let m = subst (Bounded (bitsOf bytes)) q (row-bounded (strictIfExact S) c (bitsOf bytes) (whole-bytes bytes) (roomIn p xs) (between p xs) i (S .encoding)) in
-          few-cases S bytes p xs n place b loose (λ w. Same (afterRow p xs w)) (λ h. absurd (omega arith)) (λ h. absurd (omega (arith, m)))
+    -- Damage never reaches back: a call that gives a row, in Group 4 or strictly; or one that hangs on the first n bits, with EOLs still expected if they were.
+    pub call-same : Same (readRow S bytes p xs)
+    unfolding readRow sound
+    call-same = call-cases S bytes p xs Same
+        (λ n place b loose e h k. rw (e, readRow))
+        (λ u e h. absurd (omega arith))
+        (λ u e f h. absurd (omega arith))
+        (λ u e f g h. absurd (omega arith))
+        (λ u e f g c h. absurd (omega arith))
+        (λ u e f g c o q. rows u e f g c o q)
+      where
+        rows : p .end ≡ unended → tooWide (S .columns) ≡ false → length bytes ≤ mostBytes → sound S bytes p xs ≡ true → 0 < S .columns → (o : RowOut) → rowHere S bytes p xs ≡ o → Same (afterRow p xs (unlessFew S bytes p xs o))
+        rows u e f g c (row r mark next) q = λ h k.
+            let s : rowHere S bytes′ p xs ≡ row r mark next = ⊎-elim
+            (λ s. row-same (strictIfExact S) c (bitsOf bytes) (bitsOf bytes′) (roomIn p xs) (between p xs) r mark next (agree-less (next .at) (s .1) agree) (S .encoding)
+            (row-settled (strictIfExact S) c (bitsOf bytes) (roomIn p xs) (between p xs) r mark next (S .encoding) (s .0) q) q)
+            (λ w. row-settles (strictIfExact S) c (bitsOf bytes) (bitsOf bytes′) (whole-bytes bytes) 0 0 n agree (S .encoding) (roomIn p xs) (between p xs) r mark next (w .0) (w .1) q) k in
+            ap (unlessEnded S bytes′ p xs) u ∙ tests-pass S c bytes′ e size p xs sound′ ∙ ap (λ (o : RowOut). afterRow p xs (unlessFew S bytes′ p xs o)) s
+        rows u e f g c (stop m place b loose) q =
+            let i : p .at ≤ length (bitsOf bytes) = omega (arith, leb-true (p .at) (8 * length bytes) (both-true (leb (p .at) (8 * length bytes)) _ g .0), length-bitsOf bytes) in
+            let l = subst (Bounded (bitsOf bytes)) q (row-bounded (strictIfExact S) c (bitsOf bytes) (whole-bytes bytes) (roomIn p xs) (between p xs) i (S .encoding)) in
+            few-cases S bytes p xs m place b loose (λ w. Same (afterRow p xs w)) (λ h. absurd (omega arith)) (λ h. absurd (omega (arith, l)))
 
 -- ---- Calls, one after another
 
@@ -144,15 +147,15 @@ module _ (S : Settings) (wide : 0 < S .columns) (narrow : tooWide (S .columns) �
         subst (Own S wide bytes′) (g .is) (own-next S wide bytes′ c o′ (g .r) (g .mark) (g .next) e),
       )
 
-      -- one whose row was read
-      pub last-same : (c d : Caller) → Own S wide bytes c → Own S wide bytes′ c → callStep S bytes c ≡ more d → KeptEols (c .state) (d .state) → WasRead (lastOr 0 (d .marks)) → Agree (d .state .at) (bitsOf bytes) cs
-          → SameCall c × Own S wide bytes′ d
-      last-same c d o o′ q k w a =
+      -- one whose row hangs on the first n bits
+      pub last-same : (c d : Caller) → Own S wide bytes c → Own S wide bytes′ c → callStep S bytes c ≡ more d → KeptEols (c .state) (d .state)
+          → (n : ℕ) → SettledBy n (bitsOf bytes) (lastOr 0 (d .marks)) (d .state .at) → Agree n (bitsOf bytes) cs → SameCall c × Own S wide bytes′ d
+      last-same c d o o′ q k n w a =
           let g = gave c d o q in
           let l : lastOr 0 (d .marks) ≡ g .mark = ap (λ (x : Caller). lastOr 0 (x .marks)) (sym (g .is)) ∙ last-snoc 0 (c .marks) (g .mark) in
-          let s = row-same (strictIfExact S) wide (bitsOf bytes) cs (roomIn (c .state) (c .arrays)) (between (c .state) (c .arrays)) (g .r) (g .mark) (g .next)
-          (subst (λ (x : Caller). Agree (x .state .at) (bitsOf bytes) cs) (sym (g .is)) a) (S .encoding)
-          (subst WasRead l w, λ z. subst (λ (x : Caller). KeptEols (c .state) (x .state)) (sym (g .is)) k) (g .read) in
+          let s = row-settles (strictIfExact S) wide (bitsOf bytes) cs (whole-bytes bytes) 0 0 n a (S .encoding) (roomIn (c .state) (c .arrays)) (between (c .state) (c .arrays)) (g .r) (g .mark) (g .next)
+          (subst (λ (x : Caller). SettledBy n (bitsOf bytes) (g .mark) (x .state .at)) (sym (g .is)) (subst (λ (m : ℕ). SettledBy n (bitsOf bytes) m (d .state .at)) l w))
+          (subst (λ (x : Caller). KeptEols (c .state) (x .state)) (sym (g .is)) k) (g .read) in
           call-over c d o o′ g s
 
       -- one that another follows
@@ -173,7 +176,7 @@ module _ (S : Settings) (wide : 0 < S .columns) (narrow : tooWide (S .columns) �
 
       -- Damage never reaches back: calls that stand, over other data that agree with these up to the bit of the last state.
       pub calls-same : {c e : Caller} → CallsStand S bytes c e → Own S wide bytes c → Own S wide bytes′ c → Agree (e .state .at) (bitsOf bytes) cs → CallsStand S bytes′ c e
-      calls-same {c} {e} (last-call q k w) o o′ a = last-call (same-step c (last-same c e o o′ q k w a .0) ∙ q) k w
+      calls-same {c} {e} (last-call q k w) o o′ a = last-call (same-step c (last-same c e o o′ q k (e .state .at) (inl (w, omega arith)) a .0) ∙ q) k w
       calls-same {c} {e} (call-then {d = d} q k s) o o′ a =
           let od = own-gave c d o (gave c d o q) in
           let f = first-call s od in

@@ -1,12 +1,14 @@
--- Rows that stand whatever becomes of the data behind them: what two data share, and which of the rows that were read hang on the bits before the reader's alone. That
--- they do is proved (proofs/Standing.antt, StandingCalls.antt), and why no more rows do (proofs/StandingSheets.antt).
+-- Rows that stand whatever becomes of the data behind them: what two data share, and which rows hang on the bits before the reader's alone.
+-- That they do is proved (proofs/Standing.antt, StandingCalls.antt), and why no more rows do (proofs/StandingSheets.antt).
 use mathlib.Core.Path.{_≡_}
-use mathlib.Core.Bool.{Bool, true}
+use mathlib.Core.Bool.{Bool, true, false}
 use mathlib.Core.Logic.{_⊎_}
 use mathlib.Core.List.{List, [], _∷_}
-use Prim.Native.Nat.{ℕ, _*_, _≤_}
+use mathlib.Core.Option.{some}
+use Prim.Native.Nat.{ℕ, _+_, _*_, _≤_}
 use lib.ListN.{length, take}
 use Rattle.rules.specs.Bits.{bitsOf}
+use Rattle.rules.specs.Eols.{allEols, skipToEol}
 use Rattle.rules.specs.Rows.{Encoding, group4, Settings, recoveredMark}
 
 -- two data agree in their first p bits, which both have; behind them they may differ, in their length too
@@ -19,13 +21,22 @@ pub record AgreeTo (p : ℕ) (bytes bytes′ : List ℕ) : Type 0 where
 abbrev pub WasRead : ℕ → Type 0
 WasRead mark = mark ≡ recoveredMark → ⊥
 
+-- A row with this mark, behind which the reader stands at a bit, hangs on the first p bits alone: it was read, and ends by then; or, read or recovered, the eleven zeros of the next EOL do.
+abbrev pub SettledBy : ℕ → List Bool → ℕ → ℕ → Type 0
+SettledBy p bits mark at = (WasRead mark × (at ≤ p)) ⊎ ((eol : ℕ) × (skipToEol bits at ≡ some eol) × (eol + 11 ≤ p))
+
 -- EOLs that were expected before a row are expected behind it. A lenient reader gives them up where none is left, and that is told by all of the data.
 abbrev pub KeepsEols : Bool → Bool → Type 0
 KeepsEols before behind = before ≡ true → behind ≡ true
 
--- Group 4, and what is read strictly: neither is known there.
+-- Group 4, and what is read strictly: no row is recovered there, and EOLs are not given up.
 abbrev pub Sure : Encoding → Settings → Type 0
 Sure enc S = (enc ≡ group4) ⊎ (S .strict ≡ true)
+
+-- No EOLs are expected: "leading EOLs are read; finding any, or end_of_line, means EOLs are expected"
+pub record NoEols (S : Settings) (bits : List Bool) : Type 0 where
+  pub none-leads : allEols bits 0 .count ≡ 0
+  pub not-asked : S .endOfLine ≡ false
 
 -- the last of these numbers, or m where there is none
 unfoldable pub lastOr : ℕ → List ℕ → ℕ
