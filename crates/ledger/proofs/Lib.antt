@@ -6,5 +6,6 @@ pub mod Reasons
 pub mod Whole
 pub mod Entering
 pub mod Balance
+pub mod Lacking
 pub mod Quiet
 mod Sheets

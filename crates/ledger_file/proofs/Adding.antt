@@ -10,7 +10,9 @@ use lib.ListN.{length, take, drop, take-append-drop, length-drop}
 use lib.Seq.{length-take-le, drop-drop}
 use borrow.Author.Tests.{eq-eqb, ne-eqb}
 use Rattle.rules.specs.Pages.{overlaid}
-use Rattle.listing_text.specs.Lines.{onto, pieces, linesOf, linesBehind, LineTo}
+use Rattle.listing_text.specs.Text.{newline}
+use Rattle.listing_text.specs.Lines.{linesOf, linesBehind, LineTo}
+use Rattle.listing_text.proofs.Piecing.{pieces-some}
 use Rattle.ledger.specs.Balance.{opened}
 use Rattle.ledger.specs.declared.Ledger.{Ledger}
 use Rattle.ledger_file.specs.Sums.{Sum, Went, on, wrong, taken, Added, lastFault, ended, adding, addedUp, AddsUp}
@@ -63,17 +65,6 @@ going-start text lent quota = record {
 over : (n : ℕ) (starts lent : List ℕ) → n ≤ length starts → drop n starts ≡ drop n lent → starts ≡ overlaid (take n starts) lent
 unfolding overlaid
 over n starts lent h e = sym (rw (length-take-le n starts h) (ap (λ (l : List ℕ). take n starts ++ l) (sym e) ∙ take-append-drop n starts))
-
--- a text has a line at least
-pub lines-some : (xs : List ℕ) → 0 < length (linesOf xs)
-unfolding pieces
-lines-some [] = omega arith
-lines-some (b ∷ bs) = by (eqb b 10) (linesOf bs)
-  where
-    by : (t : Bool) (ps : List (List ℕ)) → 0 < length {A = List ℕ} (elim t as (λ (_ : Bool). List (List ℕ)) [ true ↦ [] ∷ ps | false ↦ onto b ps ])
-    by true ps = omega arith
-    by false [] = omega arith
-    by false (p ∷ ps) = omega arith
 
 -- what a line leads to, with the lines behind it
 abbrev pub after : List ℕ → ℕ → ℕ → Sum → List ℕ → List (List ℕ) → Went → Added
@@ -133,7 +124,7 @@ module _ (quota : ℤ) {text : List ℕ} {lent : List ℕ} {t : Tally} {starts :
         let n : linesBehind text end ≡ rest = rw (linesBehind, ne-eqb end (length text) ne) in
         sym (g .rest)
         ∙ ap (adding text (length lent) at (sumIn t starts)) (l .lines ∙ ap (λ (ls : List (List ℕ)). line ∷ ls) n)
-        ∙ adding-more text (length lent) at (sumIn t starts) line rest (lines-some (drop (end + 1) text))
+        ∙ adding-more text (length lent) at (sumIn t starts) line rest (pieces-some newline (drop (end + 1) text))
         ∙ ap (λ (m : ℕ). after text (length lent) at (sumIn t starts) line rest (taken text m at line (sumIn t starts))) (sym (g .long))
 
     pub going-stops : (number other : ℕ) (starts′ : List ℕ) → Stopped (taken text (length starts) at line (sumIn t starts)) starts number other starts′

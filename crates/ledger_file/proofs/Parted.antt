@@ -11,6 +11,7 @@ use lib.Seq.{getD-drop, drop-drop, drop-append-add, getD-append-add}
 use borrow.Author.Tests.{lt-ltb, le-ltb, ltb-true, ltb-false, eq-eqb}
 use Rattle.listing_text.specs.Text.{newline, tab}
 use Rattle.listing_text.specs.Lines.{pieces, linesOf}
+use Rattle.listing_text.proofs.Piecing.{pieces-some}
 use Rattle.form_file.specs.First.{firstOf}
 use Rattle.form_file.specs.Words.{same, none}
 use Rattle.form_file.proofs.Firsts.{first-high, first-passes}
@@ -20,7 +21,8 @@ use Rattle.ledger.specs.Books.{isCounted, booked, hasRoom, bookedAll}
 use Rattle.ledger.specs.Lines.{Paged, bareLine, ledgerText}
 use Rattle.ledger.specs.Said.{shown, noVerdict, numbers, totalAt, pageLine, totalLine}
 use Rattle.ledger.proofs.Balance.{sums, books-balance}
-use Rattle.ledger.proofs.Quiet.{line-then, bare-quiet, bare-line, phrase-quiet}
+use Rattle.ledger.proofs.Lacking.{piece-then}
+use Rattle.ledger.proofs.Quiet.{bare-quiet, bare-line, phrase-quiet}
 use Rattle.ledger.specs.declared.Ledger.{Ledger}
 use Rattle.ledger.specs.declared.Verdict.{Verdict}
 use Rattle.ledger_file.specs.Fields.{field, numberIn}
@@ -30,11 +32,11 @@ use Rattle.ledger_file.specs.Resume.{verdictOf, verdictIn}
 use Rattle.ledger_file.specs.Sums.{Sum, Went, on, wrong, nameAt, namesake, pageTaken, totalTaken, Added, adding, ended, addedUp}
 use Rattle.ledger_file.specs.Total.{isTotalWords, totalPages}
 use Rattle.ledger_file.specs.declared.PageLine.{PageLine}
-use Rattle.ledger_file.proofs.Adding.{lines-some, after, adding-more}
+use Rattle.ledger_file.proofs.Adding.{after, adding-more}
 use Rattle.ledger_file.proofs.Fitting.{looked-few, booked-append, Holds, holds-first, holds-front, holds-behind}
 use Rattle.ledger_file.proofs.Rereading.{fielded, headsRead, reread}
 use Rattle.ledger_file.proofs.Resuming.{booked-read}
-use Rattle.ledger_file.proofs.Tabless.{field-then, shown-tabless}
+use Rattle.ledger_file.proofs.Tabless.{shown-tabless}
 use Rattle.ledger_file.proofs.Tallies.{takes-total, takes-page}
 use Rattle.ledger_file.proofs.TotalLines.{totalBare, totalled}
 use Rattle.ledger_file.proofs.Totalling.{total-wordless}
@@ -110,7 +112,7 @@ module _ (text : List ℕ) (room : ℕ) (all : List (List ℕ)) (different : All
         ap (field 0) e
         ∙ ap (λ (l : List ℕ). field 0 (l ++ newline ∷ rest)) (f .is)
         ∙ ap (field 0) (append-assoc (shown name) (tab ∷ (f .others)) (newline ∷ rest))
-        ∙ ap (λ (fs : List (List ℕ)). getD fs 0 []) (field-then (shown name) (f .others ++ newline ∷ rest) (shown-tabless name))
+        ∙ ap (λ (fs : List (List ℕ)). getD fs 0 []) (piece-then tab (shown name) (f .others ++ newline ∷ rest) (shown-tabless name))
 
     alone : namesake text at (s .starts) ≡ length (s .starts)
     alone = first-none (λ k. same (nameAt text (getD (s .starts) k 0)) (nameAt text at)) (length (s .starts)) each
@@ -170,8 +172,8 @@ module _ (text : List ℕ) (room : ℕ) (all : List (List ℕ)) (different : All
         let f = fielded v b name in
         let w : pageLineOf line .good ≡ true = ap (λ (q : PageLine). q .good) p in
         let no : field 4 line ≡ f .words-are = ap (λ (fs : List (List ℕ)). getD fs 4 []) (f .fields) in
-        ap (adding text room at s) (ap linesOf e ∙ line-then line rest (bare-quiet name v b))
-        ∙ adding-more text room at s line (linesOf rest) (lines-some rest)
+        ap (adding text room at s) (ap linesOf e ∙ piece-then newline line rest (bare-quiet name v b))
+        ∙ adding-more text room at s line (linesOf rest) (pieces-some newline rest)
         ∙ ap (after text room at s line (linesOf rest)) (takes-page text room at line s (total-wordless line (ap isTotalWords no ∙ f .not-total)) refl w refl ∙ ap (λ (x : PageLine). pageTaken text room at (verdictIn x) s) p ∙ took l h)
 
   -- a total's line
@@ -187,8 +189,8 @@ module _ (text : List ℕ) (room : ℕ) (all : List (List ℕ)) (different : All
 
       total-step : adding text room at s (linesOf (drop at text)) ≡ adding text room (at + length (totalBare b) + 1) closed-now (linesOf rest)
       total-step =
-          ap (adding text room at s) (ap linesOf e ∙ line-then (totalBare b) rest (phrase-quiet (numbers noVerdict b) (totalAt b)))
-          ∙ adding-more text room at s (totalBare b) (linesOf rest) (lines-some rest)
+          ap (adding text room at s) (ap linesOf e ∙ piece-then newline (totalBare b) rest (phrase-quiet (numbers noVerdict b) (totalAt b)))
+          ∙ adding-more text room at s (totalBare b) (linesOf rest) (pieces-some newline rest)
           ∙ ap (after text room at s (totalBare b) (linesOf rest)) (takes-total text room at (totalBare b) s (totalled b hl hh hp .is-total) ∙ total-took)
 
   -- ---- The pages of a part

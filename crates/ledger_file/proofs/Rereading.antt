@@ -14,6 +14,7 @@ use Rattle.ledger.specs.Books.{isCounted, left, isBelow, size}
 use Rattle.ledger.specs.Phrases.{words, phrase, one, plainAt, missingAt, isUnits, isOfOneNumber, isOfNoLine, reasonAt}
 use Rattle.ledger.specs.Said.{fill, numbers, shown, reasonWith}
 use Rattle.ledger.specs.Lines.{bareLine}
+use Rattle.ledger.proofs.Lacking.{lacks, lacks-append, piece-then, piece-alone}
 use Rattle.ledger.proofs.Whole.{length-shown}
 use Rattle.ledger.specs.declared.Ledger.{Ledger}
 use Rattle.ledger.specs.declared.Verdict.{Verdict}
@@ -25,7 +26,7 @@ use Rattle.form_file.specs.Steps.{ahead}
 use Rattle.ledger_file.proofs.Numerals.{number-decimal}
 use Rattle.ledger_file.proofs.TotalWords.{reason-words}
 use Rattle.ledger_file.proofs.Paging.{refused-so, counted-so}
-use Rattle.ledger_file.proofs.Tabless.{tabless, tabless-append, field-then, field-last-is, decimal-tabless, shown-tabless, phrase-tabless}
+use Rattle.ledger_file.proofs.Tabless.{tabless, decimal-tabless, shown-tabless, phrase-tabless}
 
 -- ---- The reason has no tab
 
@@ -66,7 +67,7 @@ reason-high v h =
     (either (isOfOneNumber v) _ _ (omega arith) (either (isOfNoLine v) _ _ (omega arith) (plain-high (v .number) h)))))))
 
 reason-tabless : (v : Verdict) (ns : List ℕ) → tabless (reasonWith v ns) ≡ true
-unfolding tabless
+unfolding lacks
 reason-tabless v ns = by (isCounted v) refl
   where
     by : (t : Bool) → isCounted v ≡ t → tabless (elim t [ true ↦ [] | false ↦ fill ns (phrase (reasonAt v)) ]) ≡ true
@@ -94,29 +95,29 @@ module _ (v : Verdict) (b : Ledger) where
         words-are
 
   fronted : (s t : Bool) → Fronted s t
-  unfolding fill words ascii tabless isTotalWords ahead
+  unfolding fill words ascii lacks isTotalWords ahead
   fronted true false = record { words-are = ascii "counted"; words-tabless = refl; not-total = λ r. refl; is = refl }
   fronted true true = record {
     words-are = ascii "over by " ++ (decimal (size (left b)) ++ []);
-    words-tabless = tabless-append (decimal (size (left b))) [] (decimal-tabless (size (left b))) refl;
+    words-tabless = lacks-append tab (decimal (size (left b))) [] (decimal-tabless (size (left b))) refl;
     not-total = λ r. refl;
     is = refl;
   }
   fronted false false = record {
     words-are = decimal (v .number) ++ ascii ": ";
-    words-tabless = tabless-append (decimal (v .number)) (ascii ": ") (decimal-tabless (v .number)) refl;
+    words-tabless = lacks-append tab (decimal (v .number)) (ascii ": ") (decimal-tabless (v .number)) refl;
     not-total = λ r. ap isTotalWords (append-assoc (decimal (v .number)) (ascii ": ") r) ∙ reason-words (v .number) (32 ∷ r);
     is = refl;
   }
   fronted false true = record {
     words-are = decimal (v .number) ++ ascii ": ";
-    words-tabless = tabless-append (decimal (v .number)) (ascii ": ") (decimal-tabless (v .number)) refl;
+    words-tabless = lacks-append tab (decimal (v .number)) (ascii ": ") (decimal-tabless (v .number)) refl;
     not-total = λ r. ap isTotalWords (append-assoc (decimal (v .number)) (ascii ": ") r) ∙ reason-words (v .number) (32 ∷ r);
     is = refl;
   }
 
   heads-tabless : tabless (headsText v) ≡ true
-  unfolding tabless
+  unfolding lacks
   heads-tabless = by (isCounted v)
     where
       by : (t : Bool) → tabless (elim t [ true ↦ decimal (v .heads) | false ↦ 45 ∷ [] ]) ≡ true
@@ -124,7 +125,7 @@ module _ (v : Verdict) (b : Ledger) where
       by false = refl
 
   pub left-tabless : tabless (leftText b) ≡ true
-  unfolding tabless
+  unfolding lacks
   left-tabless = by (isBelow (left b))
     where
       by : (t : Bool) → tabless (elim t [ true ↦ 45 ∷ decimal (size (left b)) | false ↦ decimal (size (left b)) ]) ≡ true
@@ -157,14 +158,14 @@ module _ (v : Verdict) (b : Ledger) where
         is = i;
         fields =
             ap fieldsOf i
-            ∙ field-then (shown name) o (shown-tabless name)
+            ∙ piece-then tab (shown name) o (shown-tabless name)
             ∙ ap (λ (fs : List (List ℕ)). shown name ∷ fs)
-            (field-then n (h ++ tab ∷ (q ++ tab ∷ (w ++ r))) (decimal-tabless (v .number))
+            (piece-then tab n (h ++ tab ∷ (q ++ tab ∷ (w ++ r))) (decimal-tabless (v .number))
             ∙ ap (λ (fs : List (List ℕ)). n ∷ fs)
-            (field-then h (q ++ tab ∷ (w ++ r)) heads-tabless
+            (piece-then tab h (q ++ tab ∷ (w ++ r)) heads-tabless
             ∙ ap (λ (fs : List (List ℕ)). h ∷ fs)
-            (field-then q (w ++ r) left-tabless
-            ∙ ap (λ (fs : List (List ℕ)). q ∷ fs) (field-last-is (w ++ r) (tabless-append w r (f .words-tabless) (reason-tabless v (numbers v b)))))));
+            (piece-then tab q (w ++ r) left-tabless
+            ∙ ap (λ (fs : List (List ℕ)). q ∷ fs) (piece-alone tab (w ++ r) (lacks-append tab w r (f .words-tabless) (reason-tabless v (numbers v b)))))));
       }
 
 -- ---- What is read of it

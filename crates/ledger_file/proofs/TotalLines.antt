@@ -13,13 +13,14 @@ use Rattle.form_file.proofs.Wording.{same-self}
 use Rattle.ledger.specs.Books.{left, isBelow, size}
 use Rattle.ledger.specs.Phrases.{words, phrase, one}
 use Rattle.ledger.specs.Said.{fill, numbers, noVerdict, filledWith, totalAt}
+use Rattle.ledger.proofs.Lacking.{lacks, lacks-append, piece-then, piece-alone}
 use Rattle.ledger.specs.declared.Ledger.{Ledger}
 use Rattle.ledger_file.specs.Fields.{fieldsOf, field, numberIn}
 use Rattle.ledger_file.specs.Resume.{leftText}
 use Rattle.ledger_file.specs.Total.{isTotalWords, isTotal, numberAhead, totalPages}
 use Rattle.ledger_file.proofs.Numerals.{number-decimal}
 use Rattle.ledger_file.proofs.Rereading.{left-tabless}
-use Rattle.ledger_file.proofs.Tabless.{tabless, tabless-append, field-then, field-last-is, decimal-tabless}
+use Rattle.ledger_file.proofs.Tabless.{tabless, decimal-tabless}
 use Rattle.ledger_file.proofs.Totalling.{total-so}
 use Rattle.ledger_file.proofs.TotalWords.{total-words-so, number-ahead-so}
 
@@ -41,16 +42,16 @@ module _ (b : Ledger) where
   behind-over = counted ++ (ascii " counted, " ++ (looked ++ (ascii " to be looked at; over by " ++ (sized ++ []))))
 
   behind-tabless : tabless behind ≡ true
-  unfolding tabless ascii
+  unfolding lacks ascii
   behind-tabless =
-      tabless-append counted (ascii " counted, " ++ (looked ++ ascii " to be looked at")) (decimal-tabless (b .pages - b .looked))
-      (tabless-append looked (ascii " to be looked at") (decimal-tabless (b .looked)) refl)
+      lacks-append tab counted (ascii " counted, " ++ (looked ++ ascii " to be looked at")) (decimal-tabless (b .pages - b .looked))
+      (lacks-append tab looked (ascii " to be looked at") (decimal-tabless (b .looked)) refl)
 
   over-tabless : tabless behind-over ≡ true
-  unfolding tabless ascii
+  unfolding lacks ascii
   over-tabless =
-      tabless-append counted (ascii " counted, " ++ (looked ++ (ascii " to be looked at; over by " ++ (sized ++ [])))) (decimal-tabless (b .pages - b .looked))
-      (tabless-append looked (ascii " to be looked at; over by " ++ (sized ++ [])) (decimal-tabless (b .looked)) (tabless-append sized [] (decimal-tabless (size (left b))) refl))
+      lacks-append tab counted (ascii " counted, " ++ (looked ++ (ascii " to be looked at; over by " ++ (sized ++ [])))) (decimal-tabless (b .pages - b .looked))
+      (lacks-append tab looked (ascii " to be looked at; over by " ++ (sized ++ [])) (decimal-tabless (b .looked)) (lacks-append tab sized [] (decimal-tabless (size (left b))) refl))
 
   record Fronted (x y : Bool) : Type 0 where
     words-are : List ℕ
@@ -62,17 +63,17 @@ module _ (b : Ledger) where
         ≡ ascii "total" ++ tab ∷ (looked ++ tab ∷ (decimal (b .heads) ++ tab ∷ (elim y [ true ↦ 45 ∷ sized | false ↦ sized ] ++ tab ∷ words-are)))
 
   fronted : (x y : Bool) → Fronted x y
-  unfolding fill words ascii tabless isTotalWords ahead same valueFrom
+  unfolding fill words ascii lacks isTotalWords ahead same valueFrom
   fronted false false = record {
     words-are = decimal (b .pages) ++ (ascii " pages, " ++ behind);
-    words-tabless = tabless-append (decimal (b .pages)) (ascii " pages, " ++ behind) (decimal-tabless (b .pages)) behind-tabless;
+    words-tabless = lacks-append tab (decimal (b .pages)) (ascii " pages, " ++ behind) (decimal-tabless (b .pages)) behind-tabless;
     of-total = total-words-so (b .pages) (ascii "s, " ++ behind);
     of-pages = number-ahead-so (b .pages) (ascii "pages, " ++ behind);
     is = refl;
   }
   fronted false true = record {
     words-are = decimal (b .pages) ++ (ascii " pages, " ++ behind-over);
-    words-tabless = tabless-append (decimal (b .pages)) (ascii " pages, " ++ behind-over) (decimal-tabless (b .pages)) over-tabless;
+    words-tabless = lacks-append tab (decimal (b .pages)) (ascii " pages, " ++ behind-over) (decimal-tabless (b .pages)) over-tabless;
     of-total = total-words-so (b .pages) (ascii "s, " ++ behind-over);
     of-pages = number-ahead-so (b .pages) (ascii "pages, " ++ behind-over);
     is = refl;
@@ -90,19 +91,19 @@ module _ (b : Ledger) where
     pub pages-is : totalPages totalBare ≡ b .pages
 
   fields-are : fieldsOf totalBare ≡ ascii "total" ∷ looked ∷ decimal (b .heads) ∷ leftText b ∷ fronted (eqb (b .pages) 1) (isBelow (left b)) .words-are ∷ []
-  unfolding tabless ascii
+  unfolding lacks ascii
   fields-are =
       let f = fronted (eqb (b .pages) 1) (isBelow (left b)) in
       let h = decimal (b .heads) in
       let q = leftText b in
       let w = f .words-are in
       ap fieldsOf (f .is)
-      ∙ field-then (ascii "total") (looked ++ tab ∷ (h ++ tab ∷ (q ++ tab ∷ w))) refl
+      ∙ piece-then tab (ascii "total") (looked ++ tab ∷ (h ++ tab ∷ (q ++ tab ∷ w))) refl
       ∙ ap (λ (fs : List (List ℕ)). ascii "total" ∷ fs)
-      (field-then looked (h ++ tab ∷ (q ++ tab ∷ w)) (decimal-tabless (b .looked))
+      (piece-then tab looked (h ++ tab ∷ (q ++ tab ∷ w)) (decimal-tabless (b .looked))
       ∙ ap (λ (fs : List (List ℕ)). looked ∷ fs)
-      (field-then h (q ++ tab ∷ w) (decimal-tabless (b .heads))
-      ∙ ap (λ (fs : List (List ℕ)). h ∷ fs) (field-then q w (left-tabless noVerdict b) ∙ ap (λ (fs : List (List ℕ)). q ∷ fs) (field-last-is w (f .words-tabless)))))
+      (piece-then tab h (q ++ tab ∷ w) (decimal-tabless (b .heads))
+      ∙ ap (λ (fs : List (List ℕ)). h ∷ fs) (piece-then tab q w (left-tabless noVerdict b) ∙ ap (λ (fs : List (List ℕ)). q ∷ fs) (piece-alone tab w (f .words-tabless)))))
 
   -- `1 page` is said of one
   one-said : elim (eqb (b .pages) 1) [ true ↦ 1 | false ↦ b .pages ] ≡ b .pages

@@ -10,4 +10,5 @@ pub mod Lengths
 pub mod Whole
 pub mod Stored
 pub mod Wall
+pub mod Piecing
 pub mod Lining

@@ -1,32 +1,27 @@
--- `ledger::lines::line_end` meets its contract. The invariant: no line feed stands in what was passed. Assumes nothing.
-use mathlib.Core.Path.{_≡_, refl}
-use Prim.Native.Nat.{ℕ, _-_, _≤_, _<_}
+-- `listing_text::text_lines::line_end` meets its contract. The invariant: no line feed stands in what was passed. Assumes nothing.
+use Prim.Native.Nat.{_-_}
 use native.Mathlib.Omega.{arith}
-use lib.ListN.{length, getD}
-use borrow.Author.Count.{below-more}
-use denote.Ref.{now}
-use Rattle.listing_text.proofs.Lining.{NoneFrom, line-last, line-ends}
+use lib.ListN.{length}
+use Rattle.listing_text.specs.Text.{newline}
+use Rattle.listing_text.proofs.Piecing.{Passed, passed-none, passed-next, piece-last, piece-ends}
+use Rattle.listing_text.proofs.Lining.{line-to}
 use Rattle.listing_text.proofs.text_lines.line_end.Statement.{statement}
 use Rattle.listing_text.proofs.text_lines.line_end.Tie as tie
-use Rattle.listing_text.proofs.text_lines.line_end.Reads as reads
-use Rattle.listing_text.proofs.text_lines.line_end.Lts as lts
 
 abbrev Inv-loop : tie.InvT-loop
-Inv-loop text at i₀ i = (at ≤ i) × (i ≤ length text) × NoneFrom text at i
+Inv-loop text at i₀ i = Passed newline text at i
 
 abbrev μ-loop : tie.MeasureT-loop
 μ-loop text at i₀ i = length text - i
 
 loop-holds : tie.Need-loop-holds Inv-loop μ-loop
-loop-holds c = (omega arith, omega arith, λ k l h e. omega arith)
+loop-holds c = passed-none _ _ _ (c .pre)
 
 shared-slice-read-if1 : tie.Need-shared-slice-read-if1 Inv-loop μ-loop
 shared-slice-read-if1 c = omega arith
 
 returns : tie.Need-returns Inv-loop μ-loop
-returns c =
-    let l = c .before .before .before in
-    line-ends (now (l .before .args .text)) (l .before .args .at) (l .loop .i) (l .loop .inv .0) (l .loop .inv .1) (l .loop .inv .2) (c .before .before .loop-test .taken) (c .if1 .taken)
+returns c = line-to (piece-ends (c .before .before .before .loop .inv) (c .before .before .loop-test .taken) (c .if1 .taken))
 
 add-i : tie.Need-add-i Inv-loop μ-loop
 add-i c = omega arith
@@ -35,14 +30,10 @@ loop-less : tie.Need-loop-less Inv-loop μ-loop
 loop-less c = omega arith
 
 loop-again : tie.Need-loop-again Inv-loop μ-loop
-loop-again c =
-    let l = c .before .before .before in
-    (omega arith, omega arith, below-more _ _ (l .loop .inv .2) (λ h. c .if1 .left))
+loop-again c = passed-next (c .before .before .before .loop .inv) (c .before .before .loop-test .taken) (c .if1 .left)
 
 returns-2 : tie.Need-returns-2 Inv-loop μ-loop
-returns-2 c =
-    let l = c .before in
-    line-last (now (l .before .args .text)) (l .before .args .at) (l .loop .i) (l .loop .inv .0) (l .loop .inv .1) (l .loop .inv .2) (omega arith)
+returns-2 c = line-to (piece-last (c .before .loop .inv) (c .loop-test .left))
 
 pub line-end-spec : {M : Type 1} → statement M
 line-end-spec =
