@@ -1,11 +1,11 @@
 -- Laws of the fields of a line by their places: those of pieces (Piecing of listing_text) that a tab parts. Assumes nothing.
-use mathlib.Core.Path.{_≡_, refl, sym, ap, _∙_}
+use mathlib.Core.Path.{_≡_, refl, ap}
 use mathlib.Core.List.{List, [], _∷_}
 use Prim.Native.Nat.{ℕ, suc, _+_, _-_, _≤_, _<_}
 use native.Mathlib.Numerals.{add-one}
 use native.Mathlib.Omega.{arith}
-use lib.ListN.{length, getD, take, drop, length-drop, drop-of-length-le}
-use lib.Seq.{drop-cons, length-take-le}
+use lib.ListN.{length, getD, take, drop, drop-of-length-le}
+use lib.Seq.{drop-cons}
 use borrow.Author.Tests.{eq-eqb, ne-eqb}
 use Rattle.listing_text.specs.Text.{tab}
 use Rattle.listing_text.specs.Lines.{onto, pieces}
@@ -30,10 +30,6 @@ from-field l = record { inside = l .inside; piece = l .is }
 -- the bytes of a field, by its places
 pub field-is : {line : List ℕ} {k from end : ℕ} → FieldFrom line k from → FieldTo line from end → field k line ≡ take (end - from) (drop from line)
 field-is f t = piece-is (from-field f) (to-field t)
-
-pub field-long : {line : List ℕ} {k from end : ℕ} → FieldFrom line k from → FieldTo line from end → end - from ≡ length (field k line)
-field-long {line} {k} {from} {end} f t =
-    sym (ap length (field-is f t) ∙ length-take-le (end - from) (drop from line) (omega (arith, length-drop from line, t .inside, t .behind)))
 
 -- ---- How many fields
 

@@ -37,7 +37,7 @@ pub(crate) fn field_end(line: &[u8], at: usize) -> usize
 }
 
 // Where the field of a number begins; the end of the line where it has no such field.
-pub(crate) fn field_start(line: &[u8], k: usize) -> usize
+fn field_start(line: &[u8], k: usize) -> usize
     ensures { λ r. ⌜ FieldFrom (now (line .entry)) k r ⌝ }
 {
     let mut at = 0;
@@ -53,13 +53,20 @@ pub(crate) fn field_start(line: &[u8], k: usize) -> usize
     at
 }
 
+// The bytes of a field; none where the line has no such field.
+pub(crate) fn field_of(line: &[u8], k: usize) -> &[u8]
+    ensures { λ r. ⌜ now r ≡ field k (now (line .entry)) ⌝ }
+{
+    let from = field_start(line, k);
+    let end = field_end(line, from);
+    &line[from..end]
+}
+
 // Whether a field has these bytes.
 pub(crate) fn is_field(line: &[u8], k: usize, word: &[u8]) -> bool
     ensures { λ r. ⌜ r ≡ Words.same (field k (now (line .entry))) (now (word .entry)) ⌝ }
 {
-    let from = field_start(line, k);
-    let end = field_end(line, from);
-    words::same(&line[from..end], word)
+    words::same(field_of(line, k), word)
 }
 
 // The number that a word says; NONE where it says none that 32 bits hold, or has no digit.
@@ -75,16 +82,13 @@ pub(crate) fn number_in(word: &[u8]) -> u64
 pub(crate) fn number_of(line: &[u8], k: usize) -> u64
     ensures { λ r. ⌜ r ≡ numberIn (field k (now (line .entry))) ⌝ }
 {
-    let from = field_start(line, k);
-    let end = field_end(line, from);
-    number_in(&line[from..end])
+    number_in(field_of(line, k))
 }
 
 // How long a field is.
 pub(crate) fn length_of(line: &[u8], k: usize) -> usize
     ensures { λ r. ⌜ r ≡ length (field k (now (line .entry))) ⌝ }
 {
-    let from = field_start(line, k);
-    let end = field_end(line, from);
-    end - from
+    let word = field_of(line, k);
+    word.len()
 }

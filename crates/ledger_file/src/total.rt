@@ -1,7 +1,6 @@
 // A total's line.
 use crate::fields::count;
-use crate::fields::field_end;
-use crate::fields::field_start;
+use crate::fields::field_of;
 use crate::fields::is_field;
 use crate::fields::number_in;
 use form_file::words;
@@ -54,9 +53,7 @@ fn is_total_words(word: &[u8]) -> bool
 fn has_total_words(line: &[u8]) -> bool
     ensures { λ r. ⌜ r ≡ isTotalWords (field 4 (now (line .entry))) ⌝ }
 {
-    let from = field_start(line, 4);
-    let end = field_end(line, from);
-    is_total_words(&line[from..end])
+    is_total_words(field_of(line, 4))
 }
 
 // Whether a line is a total's.
@@ -84,7 +81,5 @@ fn number_ahead(word: &[u8]) -> u64
 pub(crate) fn total_pages(line: &[u8]) -> u64
     ensures { λ r. ⌜ r ≡ totalPages (now (line .entry)) ⌝ }
 {
-    let from = field_start(line, 4);
-    let end = field_end(line, from);
-    number_ahead(&line[from..end])
+    number_ahead(field_of(line, 4))
 }
