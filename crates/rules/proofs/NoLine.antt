@@ -1,5 +1,5 @@
 -- Where no line is read, and none is found: in zeros to the end of the data there is no code, so no 1D line; and where no EOL stands, the search finds none. Assumes nothing.
-use mathlib.Core.Path.{_≡_, refl, sym, ap, _∙_, subst}
+use mathlib.Core.Path.{_≡_, refl, sym, ap, _∙_}
 use mathlib.Core.Bool.{Bool, true, false}
 use mathlib.Core.List.{List, [], _∷_, _++_, append-nil}
 use mathlib.Core.Option.{none}
@@ -8,16 +8,16 @@ use native.Mathlib.Omega.{arith}
 use lib.Dec.{ltb}
 use lib.ListN.{length, drop, replicate}
 use borrow.Author.Tests.{lt-ltb}
-use Rattle.rules.specs.Machine.{more, done, ends}
+use Rattle.rules.specs.Machine.{done, ends}
 use Rattle.rules.specs.Codes.{Colour, white, Code, codeBits}
 use Rattle.rules.specs.Runs.{Res, ok, fault, Sum, sum, runStep, bitsAfter, answer, readRun}
 use Rattle.rules.specs.Lines.{Rules, Line, newLine, went, afterRun, pushRun, one, readLine}
 use Rattle.rules.specs.Eols.{zeroRun, skip, skipToEol}
 use Rattle.rules.specs.Damage.{noEol}
 use Rattle.rules.proofs.Bits.{both-true}
-use Rattle.rules.proofs.Machine.{ends-ind, ends-stops}
+use Rattle.rules.proofs.Machine.{ends-stops}
 use Rattle.rules.proofs.Codes.{shape}
-use Rattle.rules.proofs.Runs.{Takes, run-cases, run-falls}
+use Rattle.rules.proofs.Runs.{Takes, First, run-first, run-falls}
 use Rattle.rules.proofs.Lines.{moves, line-failed}
 use Rattle.rules.proofs.Group3Back.{word-zeros}
 use Rattle.rules.proofs.EolChains.{Quiet, soon-quiet, none-quiet}
@@ -32,39 +32,14 @@ module _ (bs : List Bool) where
       let z : _≡_ {A = ℕ} 0 1 = cc (sym e ∙ ap zeroRun (t .there) ∙ word-zeros (codeBits c) (drop (s .at + c .size) bs) (shape colour c (t .member) .has-one)) in
       omega arith
 
-  abbrev Fails : Sum → Res Sum → Type 0
-  Fails s (ok r) = zeroRun (drop (s .at) bs) ≡ none → ⊥
-  Fails s (fault n place) = Unit {0}
-
-  run-fails : (colour : Colour) (s : Sum) (r : Res Sum) → ends (runStep colour bs) (bitsAfter bs) s ≡ done r → Fails s r
-  run-fails colour s r e = ends-ind (runStep colour bs) Fails base goes (bitsAfter bs) s r e
-    where
-      taken : (s : Sum) (c : Code) → Takes colour bs s c → (r : Res Sum) → Fails s r
-      taken s c k (ok r) = no-code colour s c k
-      taken s c k (fault n place) = tt
-
-      base : (s : Sum) (r : Res Sum) → runStep colour bs s ≡ done r → Fails s r
-      base s r =
-          run-cases colour bs s (λ o. o ≡ done r → Fails s r)
-          (λ c k l e. taken s c k r)
-          (λ c k l e. taken s c k r)
-          (λ n i j e. subst (Fails s) (let q : fault n (s .at) ≡ r = cc in q) tt)
-
-      goes : (s t : Sum) (r : Res Sum) → runStep colour bs s ≡ more t → Fails t r → Fails s r
-      goes s t r =
-          run-cases colour bs s (λ o. o ≡ more t → Fails t r → Fails s r)
-          (λ c k l e. absurd (let z : _≡_ {A = ℕ} 0 1 = cc in omega arith))
-          (λ c k l e f. taken s c k r)
-          (λ n i j e. absurd (let z : _≡_ {A = ℕ} 0 1 = cc in omega arith))
-
   no-run : (colour : Colour) (at : ℕ) → zeroRun (drop at bs) ≡ none → (n : ℕ) × (place : ℕ) × (readRun colour bs at ≡ fault n place)
   unfolding readRun
   no-run colour at e =
       let s = ends-stops (runStep colour bs) (bitsAfter bs) (run-falls colour bs) (sum at 0) in
-      cases (s .0) (s .1) (run-fails colour (sum at 0) (s .0) (s .1))
+      cases (s .0) (s .1) (run-first bs colour (sum at 0) (s .0) (s .1))
     where
-      cases : (r : Res Sum) → ends (runStep colour bs) (bitsAfter bs) (sum at 0) ≡ done r → Fails (sum at 0) r → (n : ℕ) × (place : ℕ) × (readRun colour bs at ≡ fault n place)
-      cases (ok r) q f = absurd (f e)
+      cases : (r : Res Sum) → ends (runStep colour bs) (bitsAfter bs) (sum at 0) ≡ done r → First bs colour (sum at 0) r → (n : ℕ) × (place : ℕ) × (readRun colour bs at ≡ fault n place)
+      cases (ok r) q f = absurd (no-code colour (sum at 0) (f .0) (f .1) e)
       cases (fault n place) q f = (n, place, ap answer q)
 
   pub no-line-in-zeros : (R : Rules) → 0 < R .width → (at : ℕ) → zeroRun (drop at bs) ≡ none → (l : Line) → readLine R one bs at ≡ went l → ⊥

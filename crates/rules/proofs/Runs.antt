@@ -208,3 +208,31 @@ module _ (colour : Colour) (bs cs : List Bool) where
       let p = ends-stops (runStep colour bs) (bitsAfter bs) (run-falls colour bs) (sum at 0) in
       let q : p .0 ≡ ok r = sym (ap answer (p .1)) ∙ e in
       ap answer (subst (Same (sum at 0)) q (run-same (sum at 0) (p .0) (p .1)) .1 a)
+
+-- ---- A run that is read begins with a code
+
+module _ (bs : List Bool) (colour : Colour) where
+  abbrev pub First : Sum → Res Sum → Type 0
+  First s (ok r) = (c : Code) × Takes colour bs s c
+  First s (fault n place) = Unit {0}
+
+  pub run-first : (s : Sum) (r : Res Sum) → ends (runStep colour bs) (bitsAfter bs) s ≡ done r → First s r
+  run-first s r e = ends-ind (runStep colour bs) First base goes (bitsAfter bs) s r e
+    where
+      taken : (s : Sum) (c : Code) → Takes colour bs s c → (r : Res Sum) → First s r
+      taken s c k (ok r) = (c, k)
+      taken s c k (fault n place) = tt
+
+      base : (s : Sum) (r : Res Sum) → runStep colour bs s ≡ done r → First s r
+      base s r =
+          run-cases colour bs s (λ o. o ≡ done r → First s r)
+          (λ c k l e. taken s c k r)
+          (λ c k l e. taken s c k r)
+          (λ n i j e. subst (First s) (let q : fault n (s .at) ≡ r = cc in q) tt)
+
+      goes : (s t : Sum) (r : Res Sum) → runStep colour bs s ≡ more t → First t r → First s r
+      goes s t r =
+          run-cases colour bs s (λ o. o ≡ more t → First t r → First s r)
+          (λ c k l e. absurd (let z : _≡_ {A = ℕ} 0 1 = cc in omega arith))
+          (λ c k l e f. taken s c k r)
+          (λ n i j e. absurd (let z : _≡_ {A = ℕ} 0 1 = cc in omega arith))

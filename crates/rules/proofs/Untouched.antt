@@ -9,7 +9,6 @@ use native.Mathlib.Omega.{arith}
 use lib.Dec.{T, eqb, leb, ltb}
 use lib.ListN.{length, take, drop, replicate, length-append, length-replicate, length-drop}
 use borrow.Author.Tests.{ltb-false, ltb-true, lt-ltb, leb-false, lt-leb, eqb-true, eqb-false}
-use Rattle.rules.specs.Machine.{more, done, ends}
 use Rattle.rules.specs.Bits.{firstBit}
 use Rattle.rules.specs.Codes.{Colour, Code, codeBits}
 use Rattle.rules.specs.Runs.{Res, ok, fault, Sum, sum, runStep, bitsAfter, answer, readRun}
@@ -22,10 +21,10 @@ use Rattle.rules.specs.Group3.{Tagging, untagged, tagged, betweenTags, e
 use Rattle.rules.specs.Pages.{rowOf}
 use Rattle.rules.specs.Standing.{KeepsEols, WasRead}
 use Rattle.rules.proofs.Bits.{both-true}
-use Rattle.rules.proofs.Machine.{ends-ind, ends-stops}
+use Rattle.rules.proofs.Machine.{ends-stops}
 use Rattle.rules.proofs.Agree.{Agree, agree-less, agree-word}
 use Rattle.rules.proofs.Codes.{both, hasOne, spread, soon, shape}
-use Rattle.rules.proofs.Runs.{Takes, run-cases, run-falls}
+use Rattle.rules.proofs.Runs.{Takes, First, run-first, run-falls}
 use Rattle.rules.proofs.Modes.{Modes, ModeAt, mode-at, coded-soon}
 use Rattle.rules.proofs.Lines.{moves, line-failed, read-whole}
 use Rattle.rules.proofs.PageBack.{Soon}
@@ -55,36 +54,12 @@ module _ (bs : List Bool) where
   code-soon : (colour : Colour) (s : Sum) (c : Code) → Takes colour bs s c → Soon 7 (drop (s .at) bs)
   code-soon colour s c t = subst (Soon 7) (sym (t .there)) (word-soon (codeBits c) (drop (s .at + c .size) bs) (shape colour c (t .member) .one-soon))
 
-  abbrev Begins : Sum → Res Sum → Type 0
-  Begins s (ok r) = Soon 7 (drop (s .at) bs)
-  Begins s (fault n place) = Unit {0}
-
-  run-begins : (colour : Colour) (s : Sum) (r : Res Sum) → ends (runStep colour bs) (bitsAfter bs) s ≡ done r → Begins s r
-  run-begins colour s r e = ends-ind (runStep colour bs) Begins base goes (bitsAfter bs) s r e
-    where
-      taken : (s : Sum) (c : Code) → Takes colour bs s c → (r : Res Sum) → Begins s r
-      taken s c k (ok r) = code-soon colour s c k
-      taken s c k (fault n place) = tt
-
-      base : (s : Sum) (r : Res Sum) → runStep colour bs s ≡ done r → Begins s r
-      base s r =
-          run-cases colour bs s (λ o. o ≡ done r → Begins s r)
-          (λ c k l e. taken s c k r)
-          (λ c k l e. taken s c k r)
-          (λ n i j e. subst (Begins s) (let q : fault n (s .at) ≡ r = cc in q) tt)
-
-      goes : (s t : Sum) (r : Res Sum) → runStep colour bs s ≡ more t → Begins t r → Begins s r
-      goes s t r =
-          run-cases colour bs s (λ o. o ≡ more t → Begins t r → Begins s r)
-          (λ c k l e. absurd (let z : _≡_ {A = ℕ} 0 1 = cc in omega arith))
-          (λ c k l e f. taken s c k r)
-          (λ n i j e. absurd (let z : _≡_ {A = ℕ} 0 1 = cc in omega arith))
-
   run-soon : (colour : Colour) (at : ℕ) (r : Sum) → readRun colour bs at ≡ ok r → Soon 7 (drop at bs)
   unfolding readRun
   run-soon colour at r e =
       let s = ends-stops (runStep colour bs) (bitsAfter bs) (run-falls colour bs) (sum at 0) in
-      subst (Begins (sum at 0)) (sym (ap answer (s .1)) ∙ e) (run-begins colour (sum at 0) (s .0) (s .1))
+      let f = subst (First bs colour (sum at 0)) (sym (ap answer (s .1)) ∙ e) (run-first bs colour (sum at 0) (s .0) (s .1)) in
+      code-soon colour (sum at 0) (f .0) (f .1)
 
   module _ (R : Rules) where
     first-soon : (k : Kind) (s t : Line) → codeOf R k bs s ≡ went t → Soon 7 (drop (s .at) bs)
