@@ -17,7 +17,8 @@ use Rattle.listing_text.specs.Sheet.{badInput, listingText}
 use Rattle.listing_text.specs.Listed.{Listing, listingOf, Prints}
 use Rattle.listing_text.specs.declared.settings_line.Parsed.the-variants.{Settings as found, Bad}
 use Rattle.listing_text.proofs.Standing.{begins-once, begins-short}
-use Rattle.listing_text.proofs.Stored.{Holds, decode-held, rows-stored, marks-kept, can-list}
+use Rattle.rules.proofs.Stored.{Holds, decode-held, rows-stored, marks-kept}
+use Rattle.listing_text.proofs.Stored.{can-list}
 use Rattle.io.specs.Counts.{Counts}
 use Rattle.listing.specs.Program.{mostData, mostInput, listed, pageText, room, Asks, Answers, AnswersRead}
 

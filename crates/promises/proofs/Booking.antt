@@ -29,7 +29,7 @@ use Rattle.booking.specs.Verdict.{verdictOf, verdictOn}
 use Rattle.booking.specs.Booked.{Given, formRead, boxesAfter, placesAfter, pageSettings, pageRead, unsound, isSound, verdictFrom}
 use Rattle.booking.proofs.Findings.{rows-fit, is-whole}
 use Rattle.booking.proofs.Means as Means
-use Rattle.booking.proofs.Stored.{decode-modest}
+use Rattle.rules.proofs.Stored.{decode-modest}
 use Rattle.promises.specs.Booking.{formOf, Ticked, Counted, CountedLine, CountedMeans, Arrived, WrittenFormIsCounted}
 use Rattle.promises.proofs.Demand3.{page-is-whole, written-page-reads-back}
 use Rattle.promises.proofs.Ledgers.{entered}

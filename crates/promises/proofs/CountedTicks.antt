@@ -22,9 +22,8 @@ use Rattle.heads.specs.declared.HeadsAnswer.{HeadsAnswer}
 use Rattle.heads.proofs.Answering.{heads-on}
 use Rattle.heads.proofs.Marks as Mark
 use Rattle.heads.proofs.Numbered.{form-at}
-use Rattle.listing_text.proofs.Stored.{ends-rise}
+use Rattle.rules.proofs.Stored.{ends-rise, decode-modest, rows-ascend}
 use Rattle.form_file.specs.FormFile as Form
-use Rattle.booking.proofs.Stored.{decode-modest, rows-ascend}
 use Rattle.promises.specs.Heads.{Asked, Answers, isSound, boxAt, OneTick}
 use Rattle.promises.proofs.Heads.{heads-are-ticked, only-clean-rows, form-shaped}
 

@@ -31,7 +31,7 @@ use Rattle.rules.proofs.Marks.{came-as-many}
 use Rattle.answer.specs.declared.Answer.{Answer}
 use Rattle.settings.specs.declared.DecodeSettings.{DecodeSettings}
 use Rattle.settings.specs.Settings.{settingsOf}
-use Rattle.listing_text.proofs.Stored.{ends-rise}
+use Rattle.rules.proofs.Stored.{ends-rise}
 use Rattle.row_store.specs.Store.{goodRows}
 use Rattle.writer.specs.Outcome as Writer
 use Rattle.heads.specs.Form.{Page, pixel, marked, sound}

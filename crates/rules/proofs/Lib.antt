@@ -35,6 +35,7 @@ pub mod Clean
 pub mod Marks
 pub mod ExactPages
 pub mod Store
+pub mod Stored
 pub mod Within
 pub mod LessRoom
 pub mod Thrift
