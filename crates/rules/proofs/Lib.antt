@@ -78,3 +78,4 @@ pub mod StandingCalls
 pub mod StandingSheets
 pub mod Blamed
 pub mod Proper
+pub mod ProperRead
