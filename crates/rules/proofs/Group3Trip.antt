@@ -173,7 +173,7 @@ pub record Told1D (S : Settings) (eols : Bool) (n : ℕ) : Type 0 where
   pub unaligned : S .aligned ≡ false
   pub counted : (S .rows ≡ n) ⊎ ((S .rows ≡ 0) × (eols ≡ true))
 
-told-1D : (S : Settings) (eols : Bool) (fill n : ℕ) → Told1D S eols n → Told S n (layout1D eols fill)
+pub told-1D : (S : Settings) (eols : Bool) (fill n : ℕ) → Told1D S eols n → Told S n (layout1D eols fill)
 told-1D S true fill n t = record { encoded = t .encoded; wide = t .wide; narrow = t .narrow; says = (t .blocked, counts (t .counted)) }
   where
     counts : (S .rows ≡ n) ⊎ ((S .rows ≡ 0) × (true ≡ true)) → (S .rows ≡ 0) ⊎ (S .rows ≡ n)
@@ -196,7 +196,7 @@ pub record Told2D (S : Settings) (n : ℕ) : Type 0 where
   pub unaligned : S .aligned ≡ false
   pub counted : (S .rows ≡ 0) ⊎ (S .rows ≡ n)
 
-told-2D : (S : Settings) (k n : ℕ) → Told2D S n → Told S n (mixed k)
+pub told-2D : (S : Settings) (k n : ℕ) → Told2D S n → Told S n (mixed k)
 told-2D S k n t = record { encoded = t .encoded; wide = t .wide; narrow = t .narrow; says = (t .blocked, t .counted) }
 
 -- ---- Both

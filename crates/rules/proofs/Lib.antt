@@ -79,3 +79,4 @@ pub mod StandingSheets
 pub mod Blamed
 pub mod Proper
 pub mod ProperRead
+pub mod ProperWritten
