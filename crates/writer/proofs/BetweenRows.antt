@@ -5,23 +5,18 @@ use mathlib.Core.List.{List, [], _++_}
 use Prim.Native.Nat.{ℕ, _+_, _*_, _^_, _≤_, _<_}
 use native.Mathlib.Omega.{arith}
 use lib.Dec.{leb}
-use lib.ListN.{length, getD, drop, length-append}
+use lib.ListN.{length, getD, length-append}
 use borrow.Author.Tests.{leb-true, leb-false}
 use Rattle.rules.specs.Bits.{bitsOf}
 use Rattle.rules.specs.Write.{toByte, writtenAt}
-use Rattle.rules.specs.Rising.{Rising, none}
 use Rattle.writer.specs.Putting.{inked, Cleared, Room, Puts}
-use Rattle.row_store.specs.Store.{goodRows}
 use Rattle.writer.specs.Paging.{Sheet, Pages}
 use Rattle.writer.proofs.Owing.{Owes, owes-all, owes-put, puts-zeros}
-use Rattle.row_store.proofs.GoodRows.{rowTo, Good, good}
+use Rattle.writer.proofs.AtRows.{AtRow, first-row, next-row}
 
 -- the rows from the k-th on are left, under the row from `from` to `base`, and `todo` is what is left of the page's bits
 pub record Between (write : Bool) (width : ℕ) (changes ends start : List ℕ) (all : List Bool) (next from base k : ℕ) (todo : List Bool) (out : List ℕ) : Type 0 where
-  pub order : from ≤ base
-  pub within : base ≤ length changes
-  pub rest : goodRows width changes base (drop k ends) ≡ true
-  pub rises : Rising width 0 (rowTo changes from base)
+  pub rows : AtRow width changes ends from base k
   pub inside : next ≤ 8 * length start
   pub owes : Owes write next todo out 0 all start
   pub zeros : Cleared write next out
@@ -36,10 +31,7 @@ zeros-first false bs = refl
 pub before-rows : {write : Bool} {width : ℕ} {changes ends : List ℕ} {all : List Bool} {bytes : ℕ} (out : List ℕ) → Sheet write width changes ends all bytes
     → Between write width changes ends out all 0 0 0 0 all out
 before-rows {write} {all = all} out s = record {
-  order = omega arith;
-  within = omega arith;
-  rest = s .good;
-  rises = none;
+  rows = first-row (s .good);
   inside = omega arith;
   owes = owes-all write 0 all out;
   zeros = zeros-first write (bitsOf out);
@@ -50,10 +42,6 @@ module _ {write : Bool} {width : ℕ} {changes ends start : List ℕ} {all : Lis
   -- ---- A row
 
   module _ (h : k < length ends) where
-    -- it passed the test
-    pub tested : Good width changes base ends k h
-    tested = good width changes base ends k h (g .rest)
-
     -- where its bits come first of what is left,
     module _ (this others : List Bool) (e : todo ≡ this ++ others) where
       -- they can be put,
@@ -76,10 +64,7 @@ module _ {write : Bool} {width : ℕ} {changes ends start : List ℕ} {all : Lis
         -- or the others are left
         pub row-behind : r ≤ 8 * length out′ → Between write width changes ends start all r base (getD ends k 0) (k + 1) others out′
         row-behind l = record {
-          order = tested .low;
-          within = tested .high;
-          rest = tested .rest;
-          rises = tested .rises;
+          rows = next-row (g .rows) h;
           inside = omega (arith, p .size, g .owes .size);
           owes = owes-put (g .owes) this others e (λ w. omega (arith, s .inside w)) p;
           zeros = puts-zeros (λ w. omega (arith, s .inside w, g .owes .count, g .owes .size, ap length e ∙ length-append this others)) p;

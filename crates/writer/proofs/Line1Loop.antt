@@ -15,7 +15,7 @@ use Rattle.tables.specs.Tables.{colourOf}
 use Rattle.writer.specs.Putting.{Room, Puts}
 use Rattle.writer.specs.Coding.{line1Of, Rowed}
 use Rattle.writer.proofs.Owing.{Owes, owes-all, first-room, owes-put, last-room, owes-last}
-use Rattle.writer.proofs.LineLoop.{colour-turns}
+use Rattle.writer.proofs.AlongLine.{colour-turns}
 
 -- the runs to the changes from `place` on, and to the width, are left
 pub record Going1 (write : Bool) (width : ℕ) (row : List ℕ) (from : ℕ) (start : List ℕ) (next position colour place : ℕ) (out : List ℕ) : Type 0 where

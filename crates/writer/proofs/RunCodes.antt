@@ -107,30 +107,39 @@ pub run-few : (colour : Colour) (n : ℕ) → length (runBits colour n) ≤ 13 +
 unfolding runBits
 run-few colour n = codes-few (made-run colour n)
 
+-- ---- The code that comes next
+
+module _ (colour : Colour) (left : ℕ) {code : Code} where
+  -- a make-up code
+  module _ (h : 64 ≤ left) (m : ℕ) (e : m ≡ largest left) (s : SameBits code (makeup colour m)) where
+    pub makeup-spells : Spells code (codeBits (makeup colour m))
+    makeup-spells = let l = largest-held left h in code-spells (makeup-for colour m (rw e (l .some-64s)) (rw e (l .in-table))) s
+
+    pub makeup-first : runBits colour left ≡ codeBits (makeup colour m) ++ runBits colour (left - 64 * m)
+    makeup-first = rw e (run-more colour left h)
+
+  -- the terminating code
+  pub terminating-spells : left < 64 → SameBits code (terminating colour left) → Spells code (codeBits (terminating colour left))
+  terminating-spells h s = code-spells (terminating-for colour left h) s
+
 -- ---- A run of which so much is left to put
 
 module _ {write : Bool} (colour : Colour) {at : ℕ} (run : ℕ) {start : List ℕ} (room : Room write at (length (runBits colour run)) (length start))
     {p : ℕ} (left : ℕ) {out : List ℕ} (owes : Owes write p (runBits colour left) out at (runBits colour run) start) {code : Code} where
   -- a make-up code
   module _ (h : 64 ≤ left) (m : ℕ) (e : m ≡ largest left) (s : SameBits code (makeup colour m)) where
-    spells : Spells code (codeBits (makeup colour m))
-    spells = let l = largest-held left h in code-spells (makeup-for colour m (rw e (l .some-64s)) (rw e (l .in-table))) s
-
-    rest-is : runBits colour left ≡ codeBits (makeup colour m) ++ runBits colour (left - 64 * m)
-    rest-is = rw e (run-more colour left h)
-
     pub makeup-room : Room write p (code .size) (length out) × Sound code
-    makeup-room = first-code owes spells _ rest-is room
+    makeup-room = first-code owes (makeup-spells colour left h m e s) _ (makeup-first colour left h m e s) room
 
     pub makeup-put : {r : ℕ} {out′ : List ℕ} → Puts write p (bitsFor (code .size) (code .word)) out r out′
         → Owes write r (runBits colour (left - 64 * m)) out′ at (runBits colour run) start
-    makeup-put = owes-code owes spells _ rest-is (room .inside)
+    makeup-put = owes-code owes (makeup-spells colour left h m e s) _ (makeup-first colour left h m e s) (room .inside)
 
   -- the terminating code
   module _ (h : left < 64) (s : SameBits code (terminating colour left)) where
     pub terminating-room : Room write p (code .size) (length out) × Sound code
-    terminating-room = last-code owes (code-spells (terminating-for colour left h) s) (run-last colour left h) room
+    terminating-room = last-code owes (terminating-spells colour left h s) (run-last colour left h) room
 
     pub terminating-put : {r : ℕ} {out′ : List ℕ} → Puts write p (bitsFor (code .size) (code .word)) out r out′
         → Puts write at (runBits colour run) start r out′
-    terminating-put = puts-all owes (code-spells (terminating-for colour left h) s) (run-last colour left h)
+    terminating-put = puts-all owes (terminating-spells colour left h s) (run-last colour left h)

@@ -5,3 +5,4 @@ pub mod Paging
 pub mod Paging3
 pub mod Outcome
 pub mod Bounds
+pub mod Meeting

@@ -6,7 +6,8 @@ use borrow.Author.Needs.{needs}
 use Rattle.rules.specs.Codes.{opposite}
 use Rattle.rules.specs.Write.{runBits}
 use Rattle.tables.specs.Tables.{colourOf}
-use Rattle.writer.proofs.LineLoop.{colour-turns, across-room, across-put}
+use Rattle.writer.proofs.AlongLine.{colour-turns}
+use Rattle.writer.proofs.LineLoop.{across-room, across-put}
 use Rattle.writer.proofs.Owing.{first-room, owes-put, last-room, owes-last}
 use Rattle.writer.proofs.line.put_horizontal.Statement.{statement}
 use Rattle.writer.proofs.line.put_horizontal.Tie as tie

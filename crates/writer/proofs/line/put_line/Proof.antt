@@ -1,12 +1,12 @@
 -- `writer::line::put_line` meets its contract. The loop's invariant, `Going`: the codes that are left come to the line. What is left of the line falls.
 -- Assumes nothing.
 use mathlib.Core.Path.{refl}
-use Prim.Native.Nat.{_+_, _-_}
+use Prim.Native.Nat.{_+_}
 use native.Mathlib.Omega.{arith}
 use lib.ListN.{drop}
 use borrow.Author.Needs.{needs}
-use Rattle.rules.proofs.Ascending.{rises-length}
-use Rattle.writer.proofs.LineLoop.{Going, begin, ended, turn-room, turn-code, turn-put, a1-low, a2-low, passes, verticals, horizontals}
+use Rattle.writer.proofs.LineLoop.{Going, begin, ended, turn-room, turn-code, turn-put}
+use Rattle.writer.proofs.AlongLine.{place-few, searches, a1-low, a2-low, passes, verticals, horizontals}
 use Rattle.writer.proofs.Owing.{code-puts}
 use Rattle.rules.proofs.Ahead.{leftOver}
 use Rattle.writer.proofs.line.put_line.Statement.{statement}
@@ -26,14 +26,7 @@ loop-holds c = begin _ (c .before .before .before .pre .1)
 find-requires : tie.Need-find-requires Inv-loop μ-loop
 find-requires c κs =
     let k = c .before .before .before .before .before in
-    record {
-      rising =
-          k .pre .1 .rises;
-      passed =
-          c .before .loop .inv .passed;
-      narrow = omega (arith, k .pre .1 .narrow, c .loop-test .taken);
-      two-colours = c .before .loop .inv .coloured;
-    }
+    searches (c .before .loop .inv .along) (k .pre .1 .rises) (omega (arith, k .pre .1 .narrow, c .loop-test .taken))
 
 change-or-requires : tie.Need-change-or-requires Inv-loop μ-loop
 change-or-requires c κs = search needs
@@ -46,7 +39,7 @@ put-requires c κs =
     let k1 = c .before .before .before .before in
     let k2 = k1 .before .before .before .before .before .before .before in
     turn-code (k1 .before .before .before .loop .inv) (k2 .pre .1) (k1 .before .before .before .loop .place)
-    (passes (k1 .before .before .before .loop .inv) (k2 .pre .1) (k1 .before .before .loop-test .taken) (k1 .before .find .ensures) (k1 .change-or .ensures)
+    (passes (k1 .before .before .before .loop .inv .along) (k2 .pre .1 .rises) (k1 .before .before .loop-test .taken) (k1 .before .find .ensures) (k1 .change-or .ensures)
     (c .before .before .if1 .taken)) (c .pass .ensures)
 
 loop-less : tie.Need-loop-less Inv-loop μ-loop
@@ -54,7 +47,7 @@ loop-less c =
     let k1 = c .before .before .before .before .before in
     let k2 = k1 .before .before .before .before in
     let k3 = k2 .before .before .before .before .before in
-    passes (k2 .before .loop .inv) (k3 .pre .1) (k2 .loop-test .taken) (k1 .before .before .before .find .ensures) (k1 .before .before .change-or .ensures)
+    passes (k2 .before .loop .inv .along) (k3 .pre .1 .rises) (k2 .loop-test .taken) (k1 .before .before .before .find .ensures) (k1 .before .before .change-or .ensures)
     (k1 .if1 .taken) .less
 
 loop-again : tie.Need-loop-again Inv-loop μ-loop
@@ -62,8 +55,8 @@ loop-again c =
     let k1 = c .before .before .before .before .before in
     let k2 = k1 .before .before .before .before in
     let k3 = k2 .before .before .before .before .before in
-    turn-put (k2 .before .loop .inv) (k3 .pre .1) _ (passes (k2 .before .loop .inv) (k3 .pre .1) (k2 .loop-test .taken)
-    (k1 .before .before .before .find .ensures) (k1 .before .before .change-or .ensures) (k1 .if1 .taken)) refl (k2 .before .loop .inv .coloured)
+    turn-put (k2 .before .loop .inv) (k3 .pre .1) _ (passes (k2 .before .loop .inv .along) (k3 .pre .1 .rises) (k2 .loop-test .taken)
+    (k1 .before .before .before .find .ensures) (k1 .before .before .change-or .ensures) (k1 .if1 .taken)) refl (k2 .before .loop .inv .along .coloured)
     (omega arith) (k1 .before .before .before .find .ensures .passed) (code-puts (c .before .before .before .pass .ensures) (c .before .before .put .ensures))
 
 distance-requires : tie.Need-distance-requires Inv-loop μ-loop
@@ -79,19 +72,19 @@ put-requires-2 c κs =
     let k3 = k2 .before .before .before .before .before in
     let near = rw (c .before .before .before .distance .ensures) at (c .before .before .if2 .taken) in
     turn-code (k2 .before .loop .inv) (k3 .pre .1) (k2 .before .loop .place + 1)
-    (verticals (k2 .before .loop .inv) (k3 .pre .1) (k2 .loop-test .taken) (k1 .before .before .before .find .ensures)
+    (verticals (k2 .before .loop .inv .along) (k3 .pre .1 .rises) (k2 .loop-test .taken) (k1 .before .before .before .find .ensures)
     (k1 .before .before .change-or .ensures) (k1 .if1 .left) near) (c .vertical .ensures)
 
 sub-colour : tie.Need-sub-colour Inv-loop μ-loop
 sub-colour c =
     let k = c .before .before .before .before .before .before .before .before .before .before .before .before in
-    k .loop .inv .coloured
+    k .loop .inv .along .coloured
 
 add-place : tie.Need-add-place Inv-loop μ-loop
 add-place c =
     let k1 = c .before .before .before .before .before .before .before .before .before .before .before .before in
     let k2 = k1 .before .before .before .before in
-    omega (arith, k1 .loop .inv .slow, k1 .loop .inv .enough, k2 .pre .1 .narrow, rises-length (omega arith) (k2 .pre .1 .rises′))
+    omega (arith, place-few (k1 .loop .inv .along) (k2 .pre .1 .narrow) (k2 .pre .1 .rises′))
 
 loop-less-2 : tie.Need-loop-less-2 Inv-loop μ-loop
 loop-less-2 c =
@@ -99,7 +92,7 @@ loop-less-2 c =
     let k2 = k1 .before .before .before .before in
     let k3 = k2 .before .before .before .before .before .before .before in
     let near = rw (k1 .before .distance .ensures) at (k1 .if2 .taken) in
-    verticals (k2 .before .before .before .loop .inv) (k3 .pre .1) (k2 .before .before .loop-test .taken) (k2 .before .find .ensures)
+    verticals (k2 .before .before .before .loop .inv .along) (k3 .pre .1 .rises) (k2 .before .before .loop-test .taken) (k2 .before .find .ensures)
     (k2 .change-or .ensures) (k1 .before .before .if1 .left) near .less
 
 loop-again-2 : tie.Need-loop-again-2 Inv-loop μ-loop
@@ -109,7 +102,7 @@ loop-again-2 c =
     let k3 = k2 .before .before .before .before .before .before .before in
     let near = rw (k1 .before .distance .ensures) at (k1 .if2 .taken) in
     turn-put (k2 .before .before .before .loop .inv) (k3 .pre .1) _
-    (verticals (k2 .before .before .before .loop .inv) (k3 .pre .1) (k2 .before .before .loop-test .taken) (k2 .before .find .ensures)
+    (verticals (k2 .before .before .before .loop .inv .along) (k3 .pre .1 .rises) (k2 .before .before .loop-test .taken) (k2 .before .find .ensures)
     (k2 .change-or .ensures) (k1 .before .before .if1 .left) near) refl (omega arith) (omega arith) (k2 .before .find .ensures .passed) (code-puts
     (c .before .before .before .vertical .ensures) (c .before .before .put2 .ensures))
 
@@ -117,7 +110,7 @@ add-change-or : tie.Need-add-change-or Inv-loop μ-loop
 add-change-or c =
     let k1 = c .before .before .before .before .before .before .before in
     let k2 = k1 .before .before .before .before in
-    omega (arith, k1 .loop .inv .slow, k1 .loop .inv .enough, k2 .pre .1 .narrow, rises-length (omega arith) (k2 .pre .1 .rises′))
+    omega (arith, place-few (k1 .loop .inv .along) (k2 .pre .1 .narrow) (k2 .pre .1 .rises′))
 
 change-or-requires-2 : tie.Need-change-or-requires-2 Inv-loop μ-loop
 change-or-requires-2 c κs = search needs
@@ -126,14 +119,14 @@ sub-first : tie.Need-sub-first Inv-loop μ-loop
 sub-first c =
     let k1 = c .before .before .before .before .before in
     let k2 = k1 .before .before .before .before .before .before .before in
-    a1-low (k1 .before .before .before .loop .inv) (k2 .pre .1) (k1 .before .before .loop-test .taken) (k1 .before .find .ensures) (k1 .change-or .ensures)
+    a1-low (k1 .before .before .before .loop .inv .along) (k2 .pre .1 .rises) (k1 .before .before .loop-test .taken) (k1 .before .find .ensures) (k1 .change-or .ensures)
 
 sub-second : tie.Need-sub-second Inv-loop μ-loop
 sub-second c =
     let k1 = c .before .before .before .before .before in
     let k2 = k1 .before .before .before .before .before .before .before in
     let far = rw (c .before .before .distance .ensures) at (c .before .if2 .left) in
-    a2-low (k1 .before .before .before .loop .inv) (k2 .pre .1) (k1 .before .before .loop-test .taken) (k1 .before .find .ensures) (k1 .change-or .ensures)
+    a2-low (k1 .before .before .before .loop .inv .along) (k2 .pre .1 .rises) (k1 .before .before .loop-test .taken) (k1 .before .find .ensures) (k1 .change-or .ensures)
     (c .before .before .before .if1 .left) far (c .change-or2 .ensures)
 
 put-horizontal-requires : tie.Need-put-horizontal-requires Inv-loop μ-loop
@@ -142,15 +135,15 @@ put-horizontal-requires c κs =
     let k2 = k1 .before .before .before .before in
     let k3 = k2 .before .before .before .before .before in
     let far = rw (c .before .before .before .distance .ensures) at (c .before .before .if2 .left) in
-    let turn = horizontals (k2 .before .loop .inv) (k3 .pre .1) (k2 .loop-test .taken) (k1 .before .before .before .find .ensures)
+    let turn = horizontals (k2 .before .loop .inv .along) (k3 .pre .1 .rises) (k2 .loop-test .taken) (k1 .before .before .before .find .ensures)
     (k1 .before .before .change-or .ensures) (k1 .if1 .left) far (c .before .change-or2 .ensures) in
-    (k3 .pre .0, k2 .before .loop .inv .coloured, turn-room (k2 .before .loop .inv) (k3 .pre .1) (k2 .before .loop .place + 2) turn)
+    (k3 .pre .0, k2 .before .loop .inv .along .coloured, turn-room (k2 .before .loop .inv) (k3 .pre .1) (k2 .before .loop .place + 2) turn)
 
 add-place-2 : tie.Need-add-place-2 Inv-loop μ-loop
 add-place-2 c =
     let k1 = c .before .before .before .before .before .before .before .before .before .before .before .before in
     let k2 = k1 .before .before .before .before in
-    omega (arith, k1 .loop .inv .slow, k1 .loop .inv .enough, k2 .pre .1 .narrow, rises-length (omega arith) (k2 .pre .1 .rises′))
+    omega (arith, place-few (k1 .loop .inv .along) (k2 .pre .1 .narrow) (k2 .pre .1 .rises′))
 
 loop-less-3 : tie.Need-loop-less-3 Inv-loop μ-loop
 loop-less-3 c =
@@ -158,7 +151,7 @@ loop-less-3 c =
     let k2 = k1 .before .before .before .before .before in
     let k3 = k2 .before .before .before .before .before .before .before in
     let far = rw (k1 .before .before .distance .ensures) at (k1 .before .if2 .left) in
-    horizontals (k2 .before .before .before .loop .inv) (k3 .pre .1) (k2 .before .before .loop-test .taken) (k2 .before .find .ensures)
+    horizontals (k2 .before .before .before .loop .inv .along) (k3 .pre .1 .rises) (k2 .before .before .loop-test .taken) (k2 .before .find .ensures)
     (k2 .change-or .ensures) (k1 .before .before .before .if1 .left) far (k1 .change-or2 .ensures) .less
 
 loop-again-3 : tie.Need-loop-again-3 Inv-loop μ-loop
@@ -167,10 +160,10 @@ loop-again-3 c =
     let k2 = k1 .before .before .before .before .before in
     let k3 = k2 .before .before .before .before .before .before .before in
     let far = rw (k1 .before .before .distance .ensures) at (k1 .before .if2 .left) in
-    let turn = horizontals (k2 .before .before .before .loop .inv) (k3 .pre .1) (k2 .before .before .loop-test .taken) (k2 .before .find .ensures)
+    let turn = horizontals (k2 .before .before .before .loop .inv .along) (k3 .pre .1 .rises) (k2 .before .before .loop-test .taken) (k2 .before .find .ensures)
     (k2 .change-or .ensures) (k1 .before .before .before .if1 .left) far (k1 .change-or2 .ensures) in
     turn-put (k2 .before .before .before .loop .inv) (k3 .pre .1) (k2 .before .before .before .loop .place + 2) turn refl
-    (k2 .before .before .before .loop .inv .coloured) (omega arith) (k2 .before .find .ensures .passed) (c .before .before .put-horizontal .ensures)
+    (k2 .before .before .before .loop .inv .along .coloured) (omega arith) (k2 .before .find .ensures .passed) (c .before .before .put-horizontal .ensures)
 
 same-length : tie.Need-same-length Inv-loop μ-loop
 same-length c = c .before .loop .inv .owes .size

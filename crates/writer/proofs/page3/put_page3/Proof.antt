@@ -6,7 +6,7 @@ use native.Mathlib.Omega.{arith}
 use lib.ListN.{length}
 use borrow.Author.Needs.{needs}
 use Rattle.writer.specs.Paging3.{layoutOf}
-use Rattle.writer.proofs.BetweenRows.{tested}
+use Rattle.writer.proofs.AtRows.{tested}
 use Rattle.writer.proofs.Page3Loop.{Paging3, begin3, row-room, row-over, row-next, end-room, ended}
 use Rattle.writer.proofs.page3.put_page3.Statement.{statement}
 use Rattle.writer.proofs.page3.put_page3.Tie as tie
@@ -35,33 +35,30 @@ mul-above : tie.Need-mul-above Inv-loop μ-loop
 mul-above c = omega arith
 
 sub-above : tie.Need-sub-above Inv-loop μ-loop
-sub-above c = c .before .before .loop .inv .order
+sub-above c = c .before .before .loop .inv .rows .order
 
 part-above-start : tie.Need-part-above-start Inv-loop μ-loop
-part-above-start c = omega (arith, c .before .before .loop .inv .order, c .before .before .loop .inv .within)
+part-above-start c = omega (arith, c .before .before .loop .inv .rows .order, c .before .before .loop .inv .rows .within)
 
 part-above-end : tie.Need-part-above-end Inv-loop μ-loop
-part-above-end c = omega (arith, c .before .before .loop .inv .order, c .before .before .loop .inv .within)
+part-above-end c = omega (arith, c .before .before .loop .inv .rows .order, c .before .before .loop .inv .rows .within)
 
 mul-row : tie.Need-mul-row Inv-loop μ-loop
-mul-row c = omega (arith, c .before .before .before .loop .inv .within)
+mul-row c = omega (arith, c .before .before .before .loop .inv .rows .within)
 
 sub-row : tie.Need-sub-row Inv-loop μ-loop
 sub-row c =
-    let k = c .before .before .before .before .before .before .before in
-    let t = tested (c .before .before .before .loop .inv) (k .pre .2) (c .before .before .loop-test .taken) in
+    let t = tested (c .before .before .before .loop .inv .rows) (c .before .before .loop-test .taken) in
     t .low
 
 part-row-start : tie.Need-part-row-start Inv-loop μ-loop
 part-row-start c =
-    let k = c .before .before .before .before .before .before .before in
-    let t = tested (c .before .before .before .loop .inv) (k .pre .2) (c .before .before .loop-test .taken) in
+    let t = tested (c .before .before .before .loop .inv .rows) (c .before .before .loop-test .taken) in
     omega (arith, t .low, t .high)
 
 part-row-end : tie.Need-part-row-end Inv-loop μ-loop
 part-row-end c =
-    let k = c .before .before .before .before .before .before .before in
-    let t = tested (c .before .before .before .loop .inv) (k .pre .2) (c .before .before .loop-test .taken) in
+    let t = tested (c .before .before .before .loop .inv .rows) (c .before .before .loop-test .taken) in
     omega (arith, t .low, t .high)
 
 put-row-requires : tie.Need-put-row-requires Inv-loop μ-loop
