@@ -42,31 +42,42 @@ zeros-split : (n m : ℕ) (rest : List Bool) → replicate (n + m) false ++ rest
 zeros-split zero m rest = ap (λ (i : ℕ). replicate i false ++ rest) (let q : 0 + m ≡ m = omega arith in q)
 zeros-split (suc n) m rest = ap (λ (i : ℕ). replicate i false ++ rest) (let q : suc n + m ≡ suc (n + m) = omega arith in q) ∙ ap (λ (l : List Bool). false ∷ l) (zeros-split n m rest)
 
+-- some of the zeros before an EOL come first, and behind the last one the EOL
+pub zeros-first : (left size : ℕ) → size ≤ left → replicate left false ++ eolBits ≡ replicate size false ++ (replicate (left - size) false ++ eolBits)
+zeros-first left size l = ap (λ (i : ℕ). replicate i false ++ eolBits) (let q : left ≡ size + (left - size) = omega arith in q) ∙ zeros-split size (left - size) eolBits
+
+pub zeros-last : (left : ℕ) → left ≡ 0 → replicate left false ++ eolBits ≡ eolBits
+zeros-last left h = ap (λ (i : ℕ). replicate i false ++ eolBits) h
+
 -- zeros before an EOL, of which `left` are left
 module _ {write : Bool} {at : ℕ} {out : List ℕ} {from : ℕ} {start : List ℕ} (fill left : ℕ)
     (owes : Owes write at (replicate left false ++ eolBits) out from (replicate fill false ++ eolBits) start)
     (room : Room write from (length (replicate fill false ++ eolBits)) (length start)) where
   module _ (size : ℕ) (h : 1 ≤ size) (k : size ≤ 13) (l : size ≤ left) where
-    parts : replicate left false ++ eolBits ≡ replicate size false ++ (replicate (left - size) false ++ eolBits)
-    parts = ap (λ (i : ℕ). replicate i false ++ eolBits) (let q : left ≡ size + (left - size) = omega arith in q) ∙ zeros-split size (left - size) eolBits
-
     pub zeros-room : Room write at size (length out) × Sound (code size 0)
-    zeros-room = first-code owes (zeros-spell size h k) _ parts room
+    zeros-room = first-code owes (zeros-spell size h k) _ (zeros-first left size l) room
 
     pub zeros-next : {r : ℕ} {out′ : List ℕ} → Puts write at (bitsFor size 0) out r out′ → Owes write r (replicate (left - size) false ++ eolBits) out′ from (replicate fill false ++ eolBits) start
-    zeros-next p = owes-code owes (zeros-spell size h k) _ parts (room .inside) p
+    zeros-next p = owes-code owes (zeros-spell size h k) _ (zeros-first left size l) (room .inside) p
 
   module _ (h : left ≡ 0) {c : Code} (s : Spells c eolBits) where
-    none-left : replicate left false ++ eolBits ≡ eolBits
-    none-left = ap (λ (i : ℕ). replicate i false ++ eolBits) h
-
     pub eol-room : Room write at (c .size) (length out) × Sound c
-    eol-room = last-code owes s none-left room
+    eol-room = last-code owes s (zeros-last left h) room
 
     pub eol-ends : {r : ℕ} {out′ : List ℕ} → Puts write at (bitsFor (c .size) (c .word)) out r out′ → Puts write from (replicate fill false ++ eolBits) start r out′
-    eol-ends p = puts-all owes s none-left p
+    eol-ends p = puts-all owes s (zeros-last left h) p
 
--- ---- A code that is put several times
+-- ---- A code that comes several times
+
+module _ (xs : List Bool) where
+  pub times-first : (m : ℕ) → 1 ≤ m → times m xs ≡ xs ++ times (m - 1) xs
+  unfolding times
+  times-first zero h = absurd (omega arith)
+  times-first (suc m) h = ap (λ (i : ℕ). xs ++ times i xs) (let q : m ≡ suc m - 1 = omega arith in q)
+
+  pub times-last : (m : ℕ) → 1 ≤ m → m ≤ 1 → times m xs ≡ xs
+  unfolding times
+  times-last m h l = ap (λ (i : ℕ). times i xs) (let q : m ≡ 1 = omega arith in q) ∙ append-nil xs
 
 module _ (c : Code) (sound : Sound c) where
   abbrev ours : List Bool
@@ -75,24 +86,18 @@ module _ (c : Code) (sound : Sound c) where
   spells : Spells c ours
   spells = record { sound = sound; bits = refl }
 
-  once : (m : ℕ) → 1 ≤ m → times m ours ≡ ours ++ times (m - 1) ours
-  unfolding times
-  once zero h = absurd (omega arith)
-  once (suc m) h = ap (λ (i : ℕ). ours ++ times i ours) (let q : m ≡ suc m - 1 = omega arith in q)
-
   -- n times, of which `left` are left
   module _ {write : Bool} {at : ℕ} {out : List ℕ} {from : ℕ} {start : List ℕ} (n left : ℕ)
       (owes : Owes write at (times left ours) out from (times n ours) start) (room : Room write from (length (times n ours)) (length start)) (some-left : 1 ≤ left) where
     -- it can be put,
     pub times-room : Room write at (c .size) (length out) × Sound c
-    times-room = first-code owes spells (times (left - 1) ours) (once left some-left) room
+    times-room = first-code owes spells (times (left - 1) ours) (times-first ours left some-left) room
 
     module _ {r : ℕ} {out′ : List ℕ} (p : Puts write at ours out r out′) where
       -- and then one less is left,
       pub times-less : Owes write r (times (left - 1) ours) out′ from (times n ours) start
-      times-less = owes-code owes spells (times (left - 1) ours) (once left some-left) (room .inside) p
+      times-less = owes-code owes spells (times (left - 1) ours) (times-first ours left some-left) (room .inside) p
 
       -- or all are put
       pub times-put : left ≤ 1 → Puts write from (times n ours) start r out′
-      unfolding times
-      times-put h = owes-last owes ours (ap (λ (i : ℕ). times i ours) (let q : left ≡ 1 = omega arith in q) ∙ append-nil ours) p
+      times-put h = owes-last owes ours (times-last ours left some-left h) p

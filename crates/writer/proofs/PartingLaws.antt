@@ -1,18 +1,21 @@
 -- What is answered of data that was held against a page: zeros to a byte, the end of the data, and the tests that come first. Assumes nothing.
 use mathlib.Core.Path.{_≡_, refl, sym, ap, ap₂, _∙_}
-use mathlib.Core.Bool.{Bool, true, false, _&&_}
+use mathlib.Core.Bool.{Bool, true, false, cond, _&&_}
 use mathlib.Core.List.{List, _++_}
-use Prim.Native.Nat.{ℕ, _+_, _-_, _*_, _≤_}
+use mathlib.Core.Option.{Option, none, some}
+use Prim.Native.Nat.{min, ℕ, _+_, _-_, _*_, _≤_}
 use native.Mathlib.Omega.{arith}
 use lib.Dec.{eqb, ltb}
 use lib.ListN.{length, drop, replicate}
 use Rattle.rules.specs.Bits.{bitsFor, bitsOf}
 use Rattle.rules.specs.Lookup.{shared}
-use Rattle.rules.specs.Rows.{Encoding, group4, bytesTo}
+use Rattle.rules.specs.Rows.{Encoding, group4, group3-1D, group3-2D, bytesTo}
 use Rattle.rules.specs.Pages.{noLine, mostBytes}
 use Rattle.rules.specs.Write.{toByte, rowsIn}
-use Rattle.rules.specs.Proper.{writesRows, writerBits, padded, writerIn, notAsked, partsFrom}
-use Rattle.rules.proofs.Bits.{length-bitsOf}
+use Rattle.rules.specs.WriteGroup3.{Layout, bare, filled, mixed, someGood}
+use Rattle.rules.specs.Eols.{zeroRun}
+use Rattle.rules.specs.Proper.{mostFill, writesRows, writerBits, padded, layoutBy, layoutIn, writerIn, notAsked, partsFrom}
+use Rattle.rules.proofs.Bits.{both-true, length-bitsOf}
 use Rattle.bit_reader.specs.Loaded.{Loading}
 use Rattle.row_store.specs.Store.{goodRows}
 use Rattle.writer.specs.declared.met.Met.{Met}
@@ -21,7 +24,9 @@ use Rattle.writer.specs.Putting.{Sound}
 use Rattle.writer.specs.Paging.{pageOf}
 use Rattle.writer.specs.Outcome.{firstTests}
 use Rattle.writer.specs.Meeting.{Meets, Facings, partingOf, partingFrom}
-use Rattle.writer.proofs.Answering.{First}
+use Rattle.writer.specs.Paging3.{page3Of}
+use Rattle.writer.specs.Meeting3.{allTests, foundIn, foundPage}
+use Rattle.writer.proofs.Answering.{First, first-passed}
 use Rattle.writer.proofs.EolCodes.{zeros-spell}
 use Rattle.writer.proofs.Leaving.{begins-shared, shared-all, left-all, left-none, left-last, left-parts, left-on, meets-as}
 
@@ -128,3 +133,87 @@ module _ (columns : ℕ) (changes ends bytes : List ℕ) (first : First columns 
   pub page-said-4 : goodRows columns changes 0 ends ≡ true → partingFrom (pageOf columns changes ends) bytes ≡ told group4 columns changes ends bytes
   unfolding writesRows writerBits writerIn
   page-said-4 e = page-said group4 columns changes ends bytes first e
+
+-- ---- A Group 3 page
+
+-- a layout that is found in the first zeros is that of 1D lines
+same-layout : (width : ℕ) (bits : List Bool) (rows : List (List ℕ)) (layout : Layout) → layout ≡ layoutIn bits → foundIn layout width bits rows ≡ layoutIn bits
+unfolding layoutIn
+same-layout width bits rows layout e = ap (λ (l : Layout). foundIn l width bits rows) e ∙ zeros (zeroRun bits)
+  where
+    zeros : (o : Option ℕ) → foundIn (layoutBy o) width bits rows ≡ layoutBy o
+    zeros none = refl
+    zeros (some z) = elim (ltb z 11) as (λ b. foundIn (cond b bare (filled (min (z - 11) mostFill))) width bits rows ≡ cond b bare (filled (min (z - 11) mostFill))) [ true ↦ refl | false ↦ refl ]
+
+module _ (columns : ℕ) (changes ends : List ℕ) (bytes : ℕ) where
+  -- 6 and 7
+  pub tests-first : (n : ℕ) → n ≡ firstTests columns bytes → (n ≡ 0 → ⊥) → n ≡ allTests columns changes ends bytes
+  tests-first n e h = e ∙ tests (noLine columns) refl (ltb mostBytes bytes) refl
+    where
+      tests : (a : Bool) → noLine columns ≡ a → (b : Bool) → ltb mostBytes bytes ≡ b → firstTests columns bytes ≡ allTests columns changes ends bytes
+      tests true i b j = rw i
+      tests false i true j = rw (i, j)
+      tests false i false j = absurd (h (e ∙ rw (i, j)))
+
+  module _ (first : First columns bytes) where
+    -- 8, and 0
+    pub tests-bad : someGood columns changes ends ≡ false → 8 ≡ allTests columns changes ends bytes
+    tests-bad e = rw (first .line, first .output, e)
+
+    pub tests-good : someGood columns changes ends ≡ true → 0 ≡ allTests columns changes ends bytes
+    tests-good e = rw (first .line, first .output, e)
+
+  -- what is known where they give 0
+  pub record Passed3 : Type 0 where
+    pub first : First columns bytes
+    pub good : someGood columns changes ends ≡ true
+
+  pub passed3 : allTests columns changes ends bytes ≡ 0 → Passed3
+  passed3 h = tests (noLine columns) refl (ltb mostBytes bytes) refl (someGood columns changes ends) refl
+    where
+      tests : (a : Bool) → noLine columns ≡ a → (b : Bool) → ltb mostBytes bytes ≡ b → (d : Bool) → someGood columns changes ends ≡ d → Passed3
+      tests true i b j d k = absurd (let y : 6 ≡ 0 = rw i at h in omega arith)
+      tests false i true j d k = absurd (let y : 7 ≡ 0 = rw (i, j) at h in omega arith)
+      tests false i false j true k = record { first = first-passed columns bytes (rw (i, j)); good = k }
+      tests false i false j false k = absurd (let y : 8 ≡ 0 = rw (i, j, k) at h in omega arith)
+
+module _ (columns : ℕ) (changes ends bytes : List ℕ) where
+  abbrev Group3 : Encoding → Type 0
+  Group3 enc = (n : ℕ) → writesRows enc n ≡ ltb 0 n
+
+  -- a refusal,
+  refused3 : (enc : Encoding) → Group3 enc → (n : ℕ) → n ≡ allTests columns changes ends (length bytes) → (n ≡ 0 → ⊥) → partingOf (notAsked n) ≡ told enc columns changes ends bytes
+  refused3 enc w n e h = ap (λ (k : ℕ). partingOf (notAsked k)) e ∙ tests (noLine columns) refl (ltb mostBytes (length bytes)) refl (someGood columns changes ends) refl
+    where
+      tests : (a : Bool) → noLine columns ≡ a → (b : Bool) → ltb mostBytes (length bytes) ≡ b → (d : Bool) → someGood columns changes ends ≡ d
+          → partingOf (notAsked (allTests columns changes ends (length bytes))) ≡ told enc columns changes ends bytes
+      tests true i b j d k = rw i (first-said enc columns changes ends bytes 6 (rw i) (λ z. omega arith))
+      tests false i true j d k = rw (i, j) (first-said enc columns changes ends bytes 7 (rw (i, j)) (λ z. omega arith))
+      tests false i false j false k = rw (i, j, k) (rows-said enc columns changes ends bytes (first-passed columns (length bytes) (rw (i, j))) (ap (λ (b : Bool). b && goodRows columns changes 0 ends) (w (length ends)) ∙ k))
+      tests false i false j true k = absurd (h (e ∙ rw (i, j, k)))
+
+  -- or what is told of the page
+  module _ (p : Passed3 columns changes ends (length bytes)) where
+    pub faced3 : columns ≤ 4294967295 → Facings columns changes ends bytes
+    faced3 h = faced (p .first) h changes ends (both-true (ltb 0 (length ends)) (goodRows columns changes 0 ends) (p .good) .1)
+
+    rowed3 : (enc : Encoding) → Group3 enc → (writesRows enc (length ends) && goodRows columns changes 0 ends) ≡ true
+    rowed3 enc w = ap (λ (b : Bool). b && goodRows columns changes 0 ends) (w (length ends)) ∙ p .good
+
+    pub said-1D : (layout : Layout) → layout ≡ layoutIn (bitsOf bytes) → partingFrom (foundPage layout columns changes ends bytes) bytes ≡ told group3-1D columns changes ends bytes
+    unfolding writesRows writerBits writerIn
+    said-1D layout e =
+        ap (λ (l : Layout). partingFrom (page3Of l columns changes ends) bytes) (same-layout columns (bitsOf bytes) (rowsIn 0 changes ends) layout e)
+        ∙ page-said group3-1D columns changes ends bytes (p .first) (rowed3 group3-1D (λ _. refl))
+
+    pub said-2D : partingFrom (foundPage (mixed 0) columns changes ends bytes) bytes ≡ told group3-2D columns changes ends bytes
+    unfolding writesRows writerBits writerIn
+    said-2D = page-said group3-2D columns changes ends bytes (p .first) (rowed3 group3-2D (λ _. refl))
+
+  pub refused-1D : (n : ℕ) → n ≡ allTests columns changes ends (length bytes) → (n ≡ 0 → ⊥) → partingOf (notAsked n) ≡ told group3-1D columns changes ends bytes
+  unfolding writesRows
+  refused-1D = refused3 group3-1D (λ _. refl)
+
+  pub refused-2D : (n : ℕ) → n ≡ allTests columns changes ends (length bytes) → (n ≡ 0 → ⊥) → partingOf (notAsked n) ≡ told group3-2D columns changes ends bytes
+  unfolding writesRows
+  refused-2D = refused3 group3-2D (λ _. refl)

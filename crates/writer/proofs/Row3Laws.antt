@@ -83,18 +83,19 @@ module _ (width : ℕ) (above row : List ℕ) where
 
 -- ---- Both
 
+-- what stands before the line comes first
+pub ahead-first : (layout : Layout) (width : ℕ) (single : Bool) (above row : List ℕ) → row3Of layout width single above row ≡ ahead layout (kindFrom single []) ++ lineFrom width single above row
+ahead-first layout width single above row = ap (λ (l : List Bool). l ++ lineFrom width single above row) (sym (same-ahead layout single above))
+
 module _ {write : Bool} {at : ℕ} (start : List ℕ) (layout : Layout) (width : ℕ) (single : Bool) (above row : List ℕ)
     (d : Rowed write width above row (row3Of layout width single above row) at (length start)) where
-  parts : row3Of layout width single above row ≡ ahead layout (kindFrom single []) ++ lineFrom width single above row
-  parts = ap (λ (l : List Bool). l ++ lineFrom width single above row) (sym (same-ahead layout single above))
-
   -- what stands before the line can be put,
   pub ahead-room : Room write at (length (ahead layout (kindFrom single []))) (length start)
-  ahead-room = first-room (owes-all write at (row3Of layout width single above row) start) (ahead layout (kindFrom single [])) (lineFrom width single above row) parts (d .room)
+  ahead-room = first-room (owes-all write at (row3Of layout width single above row) start) (ahead layout (kindFrom single [])) (lineFrom width single above row) (ahead-first layout width single above row) (d .room)
 
   module _ {next : ℕ} {out : List ℕ} (p : Puts write at (ahead layout (kindFrom single [])) start next out) where
     left : Owes write next (lineFrom width single above row) out at (row3Of layout width single above row) start
-    left = owes-put (owes-all write at (row3Of layout width single above row) start) (ahead layout (kindFrom single [])) (lineFrom width single above row) parts (d .room .inside) p
+    left = owes-put (owes-all write at (row3Of layout width single above row) start) (ahead layout (kindFrom single [])) (lineFrom width single above row) (ahead-first layout width single above row) (d .room .inside) p
 
     -- then the line,
     pub line-room : Rowed write width above row (lineFrom width single above row) next (length out)

@@ -6,3 +6,4 @@ pub mod Paging3
 pub mod Outcome
 pub mod Bounds
 pub mod Meeting
+pub mod Meeting3
