@@ -3,7 +3,7 @@ use mathlib.Core.Path.{_≡_, refl, sym, ap, _∙_, subst}
 use mathlib.Core.Bool.{Bool, true, false, _||_, true≢false}
 use mathlib.Core.List.{List, [], _∷_}
 use mathlib.Core.Option.{Option, none, some}
-use Prim.Native.Nat.{ℕ, zero, suc, _+_, _-_, _*_, _≤_, _<_, min}
+use Prim.Native.Nat.{ℕ, suc, _+_, _-_, _*_, _≤_, _<_, min}
 use native.Mathlib.Omega.{arith}
 use native.Mathlib.Nat.{min-eq-left, min-eq-right, le-min}
 use lib.Dec.{eqb}
@@ -18,6 +18,7 @@ use Rattle.rules.specs.WriteGroup3.{Layout, bare, filled, mixed, leftNext}
 use Rattle.rules.specs.Proper.{mostFill, mostK, layoutBy, layoutIn, zerosFirst, kBy}
 use Rattle.writer.specs.declared.kinds.Turned.{Turned}
 use Rattle.writer.specs.Meeting3.{openTurn, knownTurn, turnOf}
+use Rattle.writer.proofs.Row3Laws.{left-less, left-anew}
 
 -- ---- A page of 1D and 2D lines
 
@@ -34,14 +35,6 @@ pub data Knows (K : ℕ) (tags : List Bool) (every left m : ℕ) : Type 0 where
 pub record Turns (K : ℕ) (tags : List Bool) (t : Turned) (m : ℕ) : Type 0 where
   pub single : t .single ≡ eqb m 0
   pub next : Knows K tags (t .every) (t .left) (leftNext K m)
-
-next-less : (K m : ℕ) → 1 ≤ m → leftNext K m ≡ m - 1
-next-less K zero h = absurd (omega arith)
-next-less K (suc m) h = let q : m ≡ suc m - 1 = omega arith in q
-
-next-anew : (K m : ℕ) → m ≡ 0 → leftNext K m ≡ K - 1
-next-anew K zero h = refl
-next-anew K (suc m) h = absurd (omega arith)
 
 -- without a tag bit of 1, the number of lines tells
 pub tag-alone : (tag b : Bool) → tag ≡ false → b ≡ (tag || b)
@@ -101,7 +94,7 @@ module _ (K : ℕ) (tag : Bool) (tags : List Bool) (every left m : ℕ) where
   turn-knows (first e f g h) =
       by (open-first tag left f ∙ turn-open tag every left e) (record {
         single = sym (eq-eqb m 0 g);
-        next = unsettled refl (omega arith) (omega arith) (h ∙ ap (λ (n : ℕ). min n mostK) (let q : suc (zerosFirst tags) ≡ 1 + zerosFirst tags = omega arith in q)) (next-anew K m g);
+        next = unsettled refl (omega arith) (omega arith) (h ∙ ap (λ (n : ℕ). min n mostK) (let q : suc (zerosFirst tags) ≡ 1 + zerosFirst tags = omega arith in q)) (sym (left-anew K m (K - 1) g refl));
       })
   turn-knows (unsettled e f g h i) = cases (tag || eqb left mostK) refl
     where
@@ -109,13 +102,13 @@ module _ (K : ℕ) (tag : Bool) (tags : List Bool) (every left m : ℕ) where
       cases true q =
           let z = k-is f g h q in
           let y : m ≡ 0 = omega (arith, i, z) in
-          by (open-settles tag left (λ z. omega arith) q ∙ turn-open tag every left e) (record { single = sym (eq-eqb m 0 y); next = known (sym z) (omega (arith, z)) (sym (next-anew K m y ∙ ap (λ (n : ℕ). n - 1) z)) })
+          by (open-settles tag left (λ z. omega arith) q ∙ turn-open tag every left e) (record { single = sym (eq-eqb m 0 y); next = known (sym z) (omega (arith, z)) (sym (sym (left-anew K m (K - 1) y refl) ∙ ap (λ (n : ℕ). n - 1) z)) })
       cases false q =
           let z = k-later g h q in
           let y : 1 ≤ m = omega (arith, i, z .1) in
           by (open-goes tag left (λ z. omega arith) q ∙ turn-open tag every left e) (record {
             single = sym (ne-eqb m 0 (λ n. omega arith));
-            next = unsettled refl (omega arith) (z .2) (z .0) (next-less K m y ∙ (let w : m - 1 ≡ K - (left + 1) = omega (arith, i) in w));
+            next = unsettled refl (omega arith) (z .2) (z .0) (sym (left-less K m (λ n. omega arith)) ∙ (let w : m - 1 ≡ K - (left + 1) = omega (arith, i) in w));
           })
   turn-knows (known e f g) = cases (eqb left 0) refl
     where
@@ -123,11 +116,11 @@ module _ (K : ℕ) (tag : Bool) (tags : List Bool) (every left m : ℕ) where
       cases true q =
           let z = eqb-true left 0 q in
           let y : m ≡ 0 = sym g ∙ z in
-          by (known-anew every left z ∙ turn-known tag every left (λ n. omega (arith, e))) (record { single = sym (eq-eqb m 0 y); next = known e f (sym (next-anew K m y ∙ ap (λ (n : ℕ). n - 1) (sym e))) })
+          by (known-anew every left z ∙ turn-known tag every left (λ n. omega (arith, e))) (record { single = sym (eq-eqb m 0 y); next = known e f (sym (sym (left-anew K m (K - 1) y refl) ∙ ap (λ (n : ℕ). n - 1) (sym e))) })
       cases false q =
           let z : 1 ≤ left = omega (arith, eqb-false left 0 q) in
           let y : 1 ≤ m = omega (arith, g) in
-          by (known-less every left (λ n. omega arith) ∙ turn-known tag every left (λ n. omega (arith, e))) (record { single = sym (ne-eqb m 0 (λ n. omega arith)); next = known e f (sym (next-less K m y ∙ ap (λ (n : ℕ). n - 1) (sym g))) })
+          by (known-less every left (λ n. omega arith) ∙ turn-known tag every left (λ n. omega (arith, e))) (record { single = sym (ne-eqb m 0 (λ n. omega arith)); next = known e f (sym (sym (left-less K m (λ n. omega arith)) ∙ ap (λ (n : ℕ). n - 1) (sym g))) })
 
 -- ---- A page of any layout
 
@@ -160,7 +153,7 @@ all-single : (every left m : ℕ) → (every ≡ 1) × (left ≡ 0) × (m ≡ 0)
 all-single every left m (e, f, g) tag =
     let t = sym (known-anew every left f ∙ turn-known tag every left (λ n. omega arith)) in (
       ap (λ (t : Turned). t .single) t ∙ sym (eq-eqb m 0 g),
-      (ap (λ (t : Turned). t .every) t ∙ e, ap (λ (t : Turned). t .left) t ∙ ap (λ (n : ℕ). n - 1) e, next-anew 1 m g),
+      (ap (λ (t : Turned). t .every) t ∙ e, ap (λ (t : Turned). t .left) t ∙ ap (λ (n : ℕ). n - 1) e, sym (left-anew 1 m (1 - 1) g refl)),
     )
 
 pub turns-to : (layout : Layout) (K : ℕ) (tag : Bool) (tags : List Bool) (every left m : ℕ) → Kinds layout K (tag ∷ tags) every left m

@@ -22,8 +22,8 @@ use Rattle.writer.specs.declared.met.Met.{Met}
 use Rattle.writer.specs.declared.Parting.{Parting}
 use Rattle.writer.specs.Putting.{Sound}
 use Rattle.writer.specs.Paging.{pageOf}
-use Rattle.writer.specs.Outcome.{firstTests}
-use Rattle.writer.specs.Meeting.{Meets, Facings, partingOf, partingFrom}
+use Rattle.writer.specs.Outcome.{firstTests, partingOf}
+use Rattle.writer.specs.Meeting.{Meets, Facings, partingFrom}
 use Rattle.writer.specs.Paging3.{page3Of}
 use Rattle.writer.specs.Meeting3.{allTests, foundIn, foundPage}
 use Rattle.writer.proofs.Answering.{First, first-passed}

@@ -9,7 +9,6 @@ use Rattle.rules.specs.Lookup.{begins, shared}
 use Rattle.rules.specs.Pages.{mostBytes}
 use Rattle.rules.specs.Rising.{Rising}
 use Rattle.rules.specs.Answers.{complete}
-use Rattle.rules.specs.Proper as Rule
 use Rattle.rules.specs.Proper.{padded, partsAt, partsNowhere}
 use Rattle.row_store.specs.Store.{goodRows}
 use Rattle.writer.specs.declared.met.Met.{Met}
@@ -33,10 +32,6 @@ pub record Facings (width : ℕ) (changes ends bytes : List ℕ) : Type 0 where
   pub narrow : width < 4294967295
   pub good : goodRows width changes 0 ends ≡ true
   pub small : length bytes ≤ mostBytes
-
--- the answer of a definition, as an answer of the source
-abbrev pub partingOf : Rule.Parting → Parting
-partingOf p = record { number = p .number; same = p .same; place = p .place }
 
 -- what is answered of data and a page of these bits, with zeros to a byte
 abbrev pub partingFrom : List Bool → List ℕ → Parting

@@ -6,11 +6,12 @@ use Prim.Native.Nat.{ℕ}
 use lib.Dec.{ltb}
 use lib.ListN.{length}
 use Rattle.rules.specs.Bits.{bitsOf}
-use Rattle.rules.specs.Pages as Page
 use Rattle.rules.specs.Pages.{mostBytes, noLine}
 use Rattle.rules.specs.Write.{Written}
+use Rattle.rules.specs.Proper as Rule
 use Rattle.answer.specs.Answer.{answerOf}
 use Rattle.answer.specs.declared.Answer.{Answer}
+use Rattle.writer.specs.declared.Parting.{Parting}
 
 -- 6 and 7 in this order; 0 where both are passed
 abbrev pub firstTests : ℕ → ℕ → ℕ
@@ -29,3 +30,7 @@ pub record Answers (w : Written) (out : List ℕ) (r : Answer) (out′ : List �
   pub bits : bitsOf out′ ≡ w .bits
   pub size : length out′ ≡ length out
   pub kept : (w .number ≡ 0 → ⊥) → out′ ≡ out
+
+-- What is answered of bytes that are held against a page (rules: Proper), as an answer of the source.
+abbrev pub partingOf : Rule.Parting → Parting
+partingOf p = record { number = p .number; same = p .same; place = p .place }
