@@ -1,7 +1,7 @@
 -- One turn of the page loop is one step of the page machine: where the store and its ends stand between rows, and what each turn makes of them.
 -- Assumes nothing.
 use mathlib.Core.Path.{_≡_, refl, sym, ap, ap₂, _∙_, subst, subst₂}
-use mathlib.Core.Bool.{Bool, true, false, cond}
+use mathlib.Core.Bool.{Bool, true, false, cond, not, _&&_, _||_}
 use mathlib.Core.List.{List, [], _∷_, _++_, append-assoc}
 use Prim.Native.Nat.{ℕ, suc, _+_, _*_, _-_, _≤_, _<_}
 use native.Mathlib.Omega.{arith}
@@ -21,6 +21,9 @@ use Rattle.rules.proofs.Machine.{ends-more, ends-done}
 use Rattle.rules.proofs.Bits.{length-bitsOf}
 use Rattle.rules.specs.Rising.{Rising}
 use Rattle.rules.proofs.Budget.{Bytes}
+use Rattle.rules.specs.Standing.{givesUp, gaveUp}
+use Rattle.rules.proofs.GivenUp.{SeenIn, seen-start, seen-next, seen-end}
+use Rattle.rules.proofs.Answers.{short-rows}
 use Rattle.rules.proofs.Pages.{Onward, Moved, Goes, Does, row-goes, row-does, step, roomFor, page-kept, page-full, page-stopped, page-falls, Held, held-start, held-next, held-entries}
 use Rattle.rules.proofs.Marks.{RowMarked, row-marked}
 use Rattle.rules.proofs.Store.{length-overlaid, overlaid-nothing, overlaid-behind, overlaid-one, length-joined, joined-snoc, length-ends, ends-snoc}
@@ -38,7 +41,8 @@ use Rattle.settings.specs.declared.EncodingMode.{EncodingMode}
 use Rattle.settings.specs.declared.EncodingMode.the-variants.{Group4, «Group3_1D», «Group3_2D»}
 use Rattle.settings.specs.Settings.{encodingOf, settingsOf, strictFor}
 use Rattle.settings.specs.Between.{stateOf, rowFor, changesIn, RowFrom, RowGives, Rowed}
-use Rattle.ccitt.specs.Decode.{counted, behindRow, Behind, PageFrom, Gives, Reads, shortFor}
+use Rattle.ccitt.specs.declared.Watched.{Watched}
+use Rattle.ccitt.specs.Decode.{counted, behindRow, Behind, PageFrom, Gives, Reads, Sees, shortFor, refusedWith, Watches}
 
 -- ---- What an answer of the code says of the outcome
 
@@ -108,6 +112,10 @@ module _ (bytes : List ℕ) (settings : DecodeSettings) (size : length bytes ≤
     pub as-many : length (kept .marks) ≡ length (kept .rows)
     pub marks : ns ≡ overlaid (kept .marks) ms
 
+  -- whether EOLs were given up in its rows, as far as they go
+  abbrev pub Seen : Page.Kept → Bool → Type 0
+  Seen k gave = SeenIn (rowOf enc S bs) (length xs) k gave
+
   pub going-start : Going xs es ms (record { at = 0; rows = 0; reference = Reference.Kept 0; base = 0; eols = false })
   unfolding entries joined endsFrom
   going-start = record {
@@ -169,18 +177,21 @@ module _ (bytes : List ℕ) (settings : DecodeSettings) (size : length bytes ≤
     answers a e = ap pageOf (sym (g .same) ∙ ends-done stepped (rowsLeft bs) (page-falls enc S wide bs data-bytes (length xs) (placesIn es ms)) (g .kept) a e)
 
     -- an answer that was reached, with the arrays as they stand
-    given : (n p b m : ℕ) (loose zs : List ℕ) → length loose ≡ m → zs ≡ take (st .base) ys ++ overlaid loose (drop (st .base) ys)
+    given : (gave : Bool) → Seen (g .kept) gave → (n p b m : ℕ) (loose zs : List ℕ) → length loose ≡ m → zs ≡ take (st .base) ys ++ overlaid loose (drop (st .base) ys)
         → stepped (g .kept) ≡ done (endWith (g .kept) n p b loose)
-        → Reads bytes settings xs es ms (counted n p (st .rows) (st .base) m b) zs fs ns
+        → Sees bytes settings xs es ms (record { answer = counted n p (st .rows) (st .base) m b; «gave_up» = gave }) zs fs ns
     unfolding changesAfter endsAfter marksAfter
-    given n p b m loose zs l e q =
-        subst (λ (a : Page.Answer). Gives a xs es ms (counted n p (st .rows) (st .base) m b) zs fs ns) (sym (answers _ q))
-        (record {
-          answer = λ i. counted n p (rows-is i) (g .base i) (sym l i) b;
-          changes = behind zs loose e;
-          ends = g .row-ends;
-          marks = g .marks;
-        })
+    given gave seen n p b m loose zs l e q = record {
+      reads =
+          subst (λ (a : Page.Answer). Gives a xs es ms (counted n p (st .rows) (st .base) m b) zs fs ns) (sym (answers _ q))
+          (record {
+            answer = λ i. counted n p (rows-is i) (g .base i) (sym l i) b;
+            changes = behind zs loose e;
+            ends = g .row-ends;
+            marks = g .marks;
+          });
+      gave-up = sym (ap (λ (a : Page.Answer). givesUp (rowOf enc S bs) (length (a .rows)) (length xs) Rule.pageStart) (answers _ q) ∙ seen-end (rowOf enc S bs) (length xs) (g .kept) gave seen);
+    }
 
     module _ (r : Row) (zs : List ℕ) (o : Rowed bytes [] ys settings st r zs) where
       -- the page has ended
@@ -191,10 +202,10 @@ module _ (bytes : List ℕ) (settings : DecodeSettings) (size : length bytes ≤
         stops : rowOf enc S bs (roomFor enc S wide bs data-bytes (length xs) (placesIn es ms) (g .kept)) (g .kept .state) ≡ stop n p b (s .loose)
         stops = sym outcome ∙ s .is
 
-        pub stopped-gives : Reads bytes settings xs es ms (counted n p (st .rows) (st .base) m b) zs fs ns
+        pub stopped-gives : (gave : Bool) → Seen (g .kept) gave → Sees bytes settings xs es ms (record { answer = counted n p (st .rows) (st .base) m b; «gave_up» = gave }) zs fs ns
         unfolding s
-        stopped-gives =
-            given n p b m (s .loose) zs (s .size) (o .store ∙ ap (λ (w : RowOut). take (st .base) ys ++ overlaid (changesIn w) (drop (st .base) ys)) (s .is))
+        stopped-gives gave seen =
+            given gave seen n p b m (s .loose) zs (s .size) (o .store ∙ ap (λ (w : RowOut). take (st .base) ys ++ overlaid (changesIn w) (drop (st .base) ys)) (s .is))
             (page-stopped enc S wide bs data-bytes (length xs) (placesIn es ms) (g .kept) n p b (s .loose) stops)
 
       -- a row
@@ -216,10 +227,11 @@ module _ (bytes : List ℕ) (settings : DecodeSettings) (size : length bytes ≤
         marked = subst RowMarked reads (row-marked S bs _ (g .kept .state) enc)
 
         -- no place is left
-        pub full-gives : placesIn es ms ≤ st .rows → Reads bytes settings xs es ms (counted 5 0 (st .rows) (st .base) count 0) zs fs ns
+        pub full-gives : placesIn es ms ≤ st .rows → (gave : Bool) → Seen (g .kept) gave
+            → Sees bytes settings xs es ms (record { answer = counted 5 0 (st .rows) (st .base) count 0; «gave_up» = gave }) zs fs ns
         unfolding t
-        full-gives h =
-            given 5 0 0 count (t .changes) zs (t .size) (o .store ∙ ap (λ (w : RowOut). take (st .base) ys ++ overlaid (changesIn w) (drop (st .base) ys)) (t .is))
+        full-gives h gave seen =
+            given gave seen 5 0 0 count (t .changes) zs (t .size) (o .store ∙ ap (λ (w : RowOut). take (st .base) ys ++ overlaid (changesIn w) (drop (st .base) ys)) (t .is))
             (page-full enc S wide bs data-bytes (length xs) (placesIn es ms) (g .kept) (t .changes) mark (t .next) reads (omega (arith, rows-is)))
 
         module _ (place : st .rows < placesIn es ms) where
@@ -287,6 +299,13 @@ module _ (bytes : List ℕ) (settings : DecodeSettings) (size : length bytes ≤
                   ∙ overlaid-one (endsFrom 0 (g .kept .rows)) es (st .base + count) (st .rows) (length-ends 0 (g .kept .rows) ∙ sym rows-is) (omega arith)
                   ∙ ap (λ (l : List ℕ). overlaid l es) (ap (λ (n : ℕ). endsFrom 0 (g .kept .rows) ++ n ∷ []) (let q : st .base + count ≡ 0 + entries (g .kept .rows) + length (t .changes) = omega (arith, g .base, t .size) in q) ∙ sym (ends-snoc 0 (g .kept .rows) (t .changes)))
 
+          -- what is seen with it
+          pub going-seen : (gave : Bool) → Seen (g .kept) gave → Seen (going-next .kept) (gave || (st .eols && not eols))
+          unfolding going-next next t
+          going-seen gave seen =
+              subst (λ (b : Bool). Seen next b) (λ i. gave || (sym (g .state) i .eols && not (t .eols-is i)))
+              (seen-next (rowOf enc S bs) (length xs) (g .kept) gave seen (t .changes) mark (t .next) reads)
+
           -- what falls with each row
           pub going-falls : length bs - at + cond (eqb (st .rows + 1) 0) 1 0 < length bs - st .at + cond (eqb (st .rows) 0) 1 0
           unfolding next t
@@ -299,11 +318,12 @@ module _ (bytes : List ℕ) (settings : DecodeSettings) (size : length bytes ≤
 -- ---- The loop's invariant
 
 -- the tests were passed, and the machine goes on
-pub record Turn (bytes : List ℕ) (settings : DecodeSettings) (xs es ms ys fs ns : List ℕ) (st : State) : Type 0 where
+pub record Turn (bytes : List ℕ) (settings : DecodeSettings) (xs es ms ys fs ns : List ℕ) (st : State) (gave : Bool) : Type 0 where
   pub size : length bytes ≤ mostBytes
   pub wide : 0 < settings .columns
   pub narrow : settings .columns < 4294967295
   pub going : Going bytes settings size wide narrow xs es ms ys fs ns st
+  pub seen : Seen bytes settings size wide narrow xs es ms (going .kept) gave
   pub same-changes : length ys ≡ length xs
   pub same-ends : length fs ≡ length es
   pub same-marks : length ns ≡ length ms
@@ -313,35 +333,37 @@ abbrev pub turnsLeft : List ℕ → State → ℕ
 turnsLeft bytes st = length (bitsOf bytes) - st .at + cond (eqb (st .rows) 0) 1 0
 
 pub turn-start : {w b : List ℕ} (bytes : List ℕ) (settings : DecodeSettings) (xs es ms : List ℕ) → PageFrom w b bytes settings
-    → Turn bytes settings xs es ms xs es ms (record { at = 0; rows = 0; reference = Reference.Kept 0; base = 0; eols = false })
-turn-start bytes settings xs es ms p = record { size = p .size; wide = p .wide; narrow = p .narrow; going = going-start bytes settings (p .size) (p .wide) (p .narrow) xs es ms; same-changes = refl; same-ends = refl; same-marks = refl }
+    → Turn bytes settings xs es ms xs es ms (record { at = 0; rows = 0; reference = Reference.Kept 0; base = 0; eols = false }) false
+unfolding going-start
+turn-start bytes settings xs es ms p = record { size = p .size; wide = p .wide; narrow = p .narrow; going = going-start bytes settings (p .size) (p .wide) (p .narrow) xs es ms; seen = seen-start _ (length xs); same-changes = refl; same-ends = refl; same-marks = refl }
 
-module _ {bytes : List ℕ} {settings : DecodeSettings} {xs es ms ys fs ns : List ℕ} {st : State} (t : Turn bytes settings xs es ms ys fs ns st) where
+module _ {bytes : List ℕ} {settings : DecodeSettings} {xs es ms ys fs ns : List ℕ} {st : State} {gave : Bool} (t : Turn bytes settings xs es ms ys fs ns st gave) where
   pub turn-asked : {w b : List ℕ} → Lookups w b → RowFrom w b bytes [] ys settings st
   turn-asked l = row-asked bytes settings (t .size) (t .wide) (t .narrow) xs es ms ys fs ns st (t .going) l
 
   module _ {r : Row} {zs : List ℕ} (o : Rowed bytes [] ys settings st r zs) where
-    pub turn-stopped : {n p b m : ℕ} → r ≡ Stop n p b m → Reads bytes settings xs es ms (counted n p (st .rows) (st .base) m b) zs fs ns
+    pub turn-stopped : {n p b m : ℕ} → r ≡ Stop n p b m → Sees bytes settings xs es ms (record { answer = counted n p (st .rows) (st .base) m b; «gave_up» = gave }) zs fs ns
     turn-stopped {n} {p} {b} {m} e =
-        stopped-gives bytes settings (t .size) (t .wide) (t .narrow) xs es ms ys fs ns st (t .going) r zs o n p b m e
+        stopped-gives bytes settings (t .size) (t .wide) (t .narrow) xs es ms ys fs ns st (t .going) r zs o n p b m e gave (t .seen)
 
     module _ {count mark at : ℕ} {eols : Bool} (e : r ≡ Kept count mark at eols) where
       pub turn-marked : mark ≤ 2
       turn-marked = marked bytes settings (t .size) (t .wide) (t .narrow) xs es ms ys fs ns st (t .going) r zs o count mark at eols e
 
-      pub turn-full : placesIn es ms ≤ st .rows → Reads bytes settings xs es ms (counted 5 0 (st .rows) (st .base) count 0) zs fs ns
-      turn-full h = full-gives bytes settings (t .size) (t .wide) (t .narrow) xs es ms ys fs ns st (t .going) r zs o count mark at eols e h
+      pub turn-full : placesIn es ms ≤ st .rows → Sees bytes settings xs es ms (record { answer = counted 5 0 (st .rows) (st .base) count 0; «gave_up» = gave }) zs fs ns
+      turn-full h = full-gives bytes settings (t .size) (t .wide) (t .narrow) xs es ms ys fs ns st (t .going) r zs o count mark at eols e h gave (t .seen)
 
       module _ (place : st .rows < placesIn es ms) where
         pub turn-behind : Behind st count
         turn-behind = behind-asked bytes settings (t .size) (t .wide) (t .narrow) xs es ms ys fs ns st (t .going) r zs o count mark at eols e place
 
-        pub turn-next : length zs ≡ length ys → Turn bytes settings xs es ms zs (set fs (st .rows) (st .base + count)) (set ns (st .rows) mark) (behindRow st count at eols)
+        pub turn-next : length zs ≡ length ys → Turn bytes settings xs es ms zs (set fs (st .rows) (st .base + count)) (set ns (st .rows) mark) (behindRow st count at eols) (gave || (st .eols && not eols))
         turn-next q = record {
           size = t .size;
           wide = t .wide;
           narrow = t .narrow;
           going = going-next bytes settings (t .size) (t .wide) (t .narrow) xs es ms ys fs ns st (t .going) r zs o count mark at eols e place;
+          seen = going-seen bytes settings (t .size) (t .wide) (t .narrow) xs es ms ys fs ns st (t .going) r zs o count mark at eols e place gave (t .seen);
           same-changes = q ∙ t .same-changes;
           same-ends = length-set fs (st .rows) (st .base + count) ∙ t .same-ends;
           same-marks = length-set ns (st .rows) mark ∙ t .same-marks;
@@ -356,12 +378,15 @@ module _ (bytes : List ℕ) (settings : DecodeSettings) (xs es ms : List ℕ) wh
   abbrev said : Page.Answer
   said = decode (settingsOf settings) bytes (length xs) (placesIn es ms)
 
-  -- a refusal leaves everything as found
-  refused : (n : ℕ) → said ≡ Page.refusal n → Gives said xs es ms (answerOf (Page.refusal n)) xs es ms
-  unfolding changesAfter endsAfter marksAfter joined endsFrom
-  refused n e =
-      subst (λ (a : Page.Answer). Gives a xs es ms (answerOf (Page.refusal n)) xs es ms) (sym e)
-      (record { answer = refl; changes = sym (overlaid-nothing xs); ends = sym (overlaid-nothing es); marks = sym (overlaid-nothing ms) })
+  -- a refusal leaves everything as found, and keeps no row
+  refused : (n : ℕ) → said ≡ Page.refusal n → Watches bytes settings xs es ms (refusedWith n) xs es ms
+  unfolding changesAfter endsAfter marksAfter joined endsFrom givesUp gaveUp
+  refused n e = record {
+    decodes =
+        subst (λ (a : Page.Answer). Gives a xs es ms (answerOf (Page.refusal n)) xs es ms) (sym e)
+        (record { answer = refl; changes = sym (overlaid-nothing xs); ends = sym (overlaid-nothing es); marks = sym (overlaid-nothing ms) });
+    gave-up = sym (ap (λ (a : Page.Answer). givesUp (rowOf (settingsOf settings .encoding) (Page.strictIfExact (settingsOf settings)) (bitsOf bytes)) (length (a .rows)) (length xs) Rule.pageStart) e);
+  }
 
   -- an answer that is short of rows keeps the arrays
   short-gives : (a : Page.Answer) {r : Answer} {ys fs ns : List ℕ} → Gives a xs es ms r ys fs ns → Gives (unlessShort (settingsOf settings) a) xs es ms (shortFor settings r) ys fs ns
@@ -372,23 +397,30 @@ module _ (bytes : List ℕ) (settings : DecodeSettings) (xs es ms : List ℕ) wh
       tests true = record { answer = refl; changes = g .changes; ends = g .ends; marks = g .marks }
       tests false = record { answer = refl; changes = g .changes; ends = g .ends; marks = g .marks }
 
-  pub refused-6 : settings .columns ≡ 4294967295 → Gives said xs es ms (answerOf (Page.refusal 6)) xs es ms
+  pub refused-6 : settings .columns ≡ 4294967295 → Watches bytes settings xs es ms (refusedWith 6) xs es ms
   unfolding decode
   refused-6 e = refused 6 (rw (eq-eqb _ _ e, decode))
 
   module _ (narrow : settings .columns ≡ 4294967295 → ⊥) where
-    pub refused-7 : mostBytes < length bytes → Gives said xs es ms (answerOf (Page.refusal 7)) xs es ms
+    pub refused-7 : mostBytes < length bytes → Watches bytes settings xs es ms (refusedWith 7) xs es ms
     unfolding decode
     refused-7 h = refused 7 (rw (ne-eqb _ _ narrow, lt-ltb _ _ h, decode))
 
     module _ (size : length bytes ≤ mostBytes) where
-      pub no-columns : settings .columns ≡ 0 → Gives said xs es ms (answerOf (Page.refusal 0)) xs es ms
+      pub no-columns : settings .columns ≡ 0 → Watches bytes settings xs es ms (refusedWith 0) xs es ms
       unfolding decode
       no-columns e = refused 0 (rw (ne-eqb _ _ narrow, le-ltb _ _ size, eq-eqb _ _ e, decode))
 
-      pub page-read : (settings .columns ≡ 0 → ⊥) → {r : Answer} {ys fs ns : List ℕ} → Reads bytes (strictFor settings) xs es ms r ys fs ns → Gives said xs es ms (shortFor settings r) ys fs ns
-      unfolding decode
-      page-read ne {r} {ys} {fs} {ns} g = subst (λ (a : Page.Answer). Gives a xs es ms (shortFor settings r) ys fs ns) (sym reads) (short-gives page g)
+      pub page-read : (settings .columns ≡ 0 → ⊥) → {r : Watched} {ys fs ns : List ℕ} → Sees bytes (strictFor settings) xs es ms r ys fs ns
+          → Watches bytes settings xs es ms (record { answer = shortFor settings (r .answer); «gave_up» = r .«gave_up» }) ys fs ns
+      unfolding decode gaveUp
+      page-read ne {r} {ys} {fs} {ns} g = record {
+        decodes = subst (λ (a : Page.Answer). Gives a xs es ms (shortFor settings (r .answer)) ys fs ns) (sym reads) (short-gives page (g .reads));
+        gave-up =
+            g .gave-up
+            ∙ ap (λ (rows : List (List ℕ)). givesUp (rowOf (settingsOf settings .encoding) (settingsOf (strictFor settings)) (bitsOf bytes)) (length rows) (length xs) Rule.pageStart)
+            (sym (ap (λ (a : Page.Answer). a .rows) reads ∙ short-rows (settingsOf settings) page));
+      }
         where
           page : Page.Answer
           page = readPage (settingsOf (strictFor settings)) (bitsOf bytes) (length xs) (placesIn es ms)

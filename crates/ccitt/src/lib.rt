@@ -5,11 +5,19 @@ use settings::DecodeSettings;
 use settings::Row;
 use settings::State;
 ghost use mathlib.Core.Path.{_≡_};
+ghost use mathlib.Core.Bool.{not, _&&_, _||_};
 ghost use mathlib.Core.List.{[]};
 ghost use Prim.Native.Nat.{min};
 ghost use Rattle.tables.specs.Pairs.{pairTable};
 ghost use Rattle.settings.specs.Between.{RowFrom, Rowed};
-ghost use Rattle.ccitt.specs.Decode.{counted, behindRow, Behind, PageFrom, Reads, shortFor, Decodes};
+ghost use Rattle.ccitt.specs.Decode.{counted, behindRow, Behind, PageFrom, Sees, shortFor, refusedWith, Decodes, Watches};
+
+// A page's answer, and whether EOLs were given up in one of the rows that it keeps. From there on its rows hang on all of the data.
+#[repr(C)]
+pub struct Watched {
+    pub answer: Answer,
+    pub gave_up: bool,
+}
 
 // What one row does, by the encoding. The reference lies in the store, so none is lent. Each call has no other of its kind, and is
 // so compiled in place.
@@ -75,6 +83,13 @@ fn places(ends: usize, marks: usize) -> usize
     if ends < marks { ends } else { marks }
 }
 
+// Whether EOLs were given up so far: they were expected before the row, and are not behind it.
+fn seen(earlier: bool, before: bool, behind: bool) -> bool
+    ensures { λ r. ⌜ r ≡ (earlier || (before && not behind)) ⌝ }
+{
+    earlier || (before && !behind)
+}
+
 fn page<'a>(
     white: &'a [u16; 8192],
     black: &'a [u16; 8192],
@@ -84,9 +99,9 @@ fn page<'a>(
     changes: &mut [u32],
     ends: &mut [u64],
     marks: &mut [u8],
-) -> Answer
+) -> Watched
     requires { ⌜ PageFrom (now white) (now black) (now src) settings × (now both ≡ pairTable) ⌝ }
-    ensures { λ r. ⌜ Reads (now (src .entry)) settings (now (changes .entry)) (now (ends .entry)) (now (marks .entry)) r (now (changes .exit)) (now (ends .exit)) (now (marks .exit)) ⌝ }
+    ensures { λ r. ⌜ Sees (now (src .entry)) settings (now (changes .entry)) (now (ends .entry)) (now (marks .entry)) r (now (changes .exit)) (now (ends .exit)) (now (marks .exit)) ⌝ }
 {
     let places = places(ends.len(), marks.len());
     let mut state = State {
@@ -96,18 +111,26 @@ fn page<'a>(
         base: 0,
         eols: false,
     };
+    let mut gave_up = false;
     loop {
         match row(white, black, both, src, settings, changes, state) {
             Row::Stop(number, place, bytes, loose) => {
-                return counts(number, place, state.rows, state.base, loose, bytes);
+                return Watched {
+                    answer: counts(number, place, state.rows, state.base, loose, bytes),
+                    gave_up: gave_up,
+                };
             }
             Row::Kept(count, mark, at, eols) => {
                 let rows = state.rows;
                 if places <= rows {
-                    return counts(answer::NO_ROW_END, 0, rows, state.base, count, 0);
+                    return Watched {
+                        answer: counts(answer::NO_ROW_END, 0, rows, state.base, count, 0),
+                        gave_up: gave_up,
+                    };
                 }
                 ends[rows] = settings::row_end(state.base + count);
                 marks[rows] = mark as u8;
+                gave_up = seen(gave_up, state.eols, eols);
                 state = behind(state, count, at, eols);
             }
         }
@@ -132,7 +155,47 @@ fn unless_short(settings: DecodeSettings, answer: Answer) -> Answer
     }
 }
 
-// A page into lent arrays. The lookup tables are made once, here: a constant is built anew wherever it is used.
+// A refusal: no row was read.
+fn refused(number: u32) -> Watched
+    ensures { λ r. ⌜ r ≡ refusedWith number ⌝ }
+{
+    Watched {
+        answer: answer::refusal(number),
+        gave_up: false,
+    }
+}
+
+// A page into lent arrays, and whether EOLs were given up in it. The lookup tables are made once, here: a constant is built anew wherever it is used.
+pub fn decode_watched(
+    src: &[u8],
+    settings: DecodeSettings,
+    changes: &mut [u32],
+    ends: &mut [u64],
+    marks: &mut [u8],
+) -> Watched
+    ensures { λ r. ⌜ Watches (now (src .entry)) settings (now (changes .entry)) (now (ends .entry)) (now (marks .entry)) r (now (changes .exit)) (now (ends .exit)) (now (marks .exit)) ⌝ }
+{
+    if settings.columns == answer::MOST_PIXELS {
+        return refused(answer::BAD_WIDTH);
+    }
+    if answer::MOST_BYTES < src.len() {
+        return refused(answer::TOO_LONG);
+    }
+    if settings.columns == 0 {
+        return refused(answer::COMPLETE);
+    }
+    let white = lookups::white_lookup();
+    let black = lookups::black_lookup();
+    let both = tables::pair_lookup();
+    let reading = settings::strict_if_exact(settings);
+    let watched = page(&white, &black, &both, src, reading, changes, ends, marks);
+    Watched {
+        answer: unless_short(settings, watched.answer),
+        gave_up: watched.gave_up,
+    }
+}
+
+// A page into lent arrays.
 pub fn decode(
     src: &[u8],
     settings: DecodeSettings,
@@ -142,19 +205,6 @@ pub fn decode(
 ) -> Answer
     ensures { λ r. ⌜ Decodes (now (src .entry)) settings (now (changes .entry)) (now (ends .entry)) (now (marks .entry)) r (now (changes .exit)) (now (ends .exit)) (now (marks .exit)) ⌝ }
 {
-    if settings.columns == answer::MOST_PIXELS {
-        return answer::refusal(answer::BAD_WIDTH);
-    }
-    if answer::MOST_BYTES < src.len() {
-        return answer::refusal(answer::TOO_LONG);
-    }
-    if settings.columns == 0 {
-        return answer::refusal(answer::COMPLETE);
-    }
-    let white = lookups::white_lookup();
-    let black = lookups::black_lookup();
-    let both = tables::pair_lookup();
-    let reading = settings::strict_if_exact(settings);
-    let answer = page(&white, &black, &both, src, reading, changes, ends, marks);
-    unless_short(settings, answer)
+    let watched = decode_watched(src, settings, changes, ends, marks);
+    watched.answer
 }

@@ -74,6 +74,7 @@ pub mod Broken
 pub mod Untouched
 pub mod UntouchedMended
 pub mod Standing
+pub mod GivenUp
 pub mod StandingCalls
 pub mod StandingSheets
 pub mod Blamed

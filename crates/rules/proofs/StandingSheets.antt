@@ -5,7 +5,7 @@ use mathlib.Core.Bool.{Bool, true, false}
 use mathlib.Core.List.{List, [], _∷_}
 use Prim.Native.Nat.{ℕ}
 use Rattle.rules.specs.Machine.{run, ends}
-use Rattle.rules.specs.Bits.{bit, bitsFor, window}
+use Rattle.rules.specs.Bits.{bit, bitsFor, bitsOf, window}
 use Rattle.rules.specs.Codes.{codeBits, whiteTerminating, whiteMakeup, blackTerminating, blackMakeup, commonMakeup, terminatingOf, makeupOf, codesOf}
 use Rattle.rules.specs.Lookup.{begins, shared, codeIn, longestShared, lookup}
 use Rattle.rules.specs.Runs.{runTake, runStep, readRun}
@@ -15,7 +15,8 @@ use Rattle.rules.specs.Eols.{zeroRun, readEols, skip}
 use Rattle.rules.specs.Rows.{Encoding, group4, group3-1D, group3-2D, Settings, State, pageStart, RowOut, row, stop}
 use Rattle.rules.specs.Group4.{row4}
 use Rattle.rules.specs.Group3.{betweenTags, row3}
-use Rattle.rules.specs.Pages.{rowOf}
+use Rattle.rules.specs.Pages.{entries, pageStep, rowOf, readPage, decode}
+use Rattle.rules.specs.Standing.{givesUp, gaveUp}
 
 abbrev read : Encoding → Bool → ℕ → Settings
 read enc strict columns = record { columns = columns; rows = 0; endOfBlock = true; endOfLine = true; aligned = false; encoding = enc; strict = strict; exact = false }
@@ -72,3 +73,8 @@ given-up-bytes :
     × (nextRow (read group3-1D false 3) (bitsFor 24 0x88005E) (after 4 [] 1 true) ≡ row (2 ∷ []) 1 (after 24 (2 ∷ []) 2 true))
 unfolding run ends bit bitsFor window codeBits whiteTerminating whiteMakeup blackTerminating blackMakeup commonMakeup terminatingOf makeupOf codesOf begins shared codeIn longestShared lookup runTake runStep readRun modeBits modes modeAmong modeByTable modeTake readMode lastColour recorded add push pushRun rightOfA0 fromB1 vertical apply code2D lineStep lineEnd readLine zeroRun readEols skip betweenTags row3 rowOf
 given-up-bytes = (refl, refl, refl, refl)
+
+-- And what is said of the two 2D pages: in the first EOLs were given up, in the second they were not.
+said-of-both : (gaveUp (read group3-2D false 1) (0x0A ∷ []) 9 9 ≡ true) × (gaveUp (read group3-2D false 1) (0x0A ∷ 0x00 ∷ 0x25 ∷ []) 9 9 ≡ false)
+unfolding run ends bit bitsFor bitsOf window codeBits whiteTerminating whiteMakeup blackTerminating blackMakeup commonMakeup terminatingOf makeupOf codesOf begins shared codeIn longestShared lookup runTake runStep readRun modeBits modes modeAmong modeByTable modeTake readMode lastColour recorded add push pushRun rightOfA0 fromB1 vertical apply code2D lineStep lineEnd readLine zeroRun readEols skip betweenTags row3 rowOf entries pageStep readPage decode givesUp gaveUp
+said-of-both = (refl, refl)

@@ -1,4 +1,4 @@
--- `ccitt::page` meets its contract. The invariant: the machine stands where the arrays say, and `places` is the shorter of the two. Assumes nothing.
+-- `ccitt::page` meets its contract. The invariant: the machine stands where the arrays say, `gave_up` says what was seen in its rows, and `places` is the shorter of the two. Assumes nothing.
 use mathlib.Core.Path.{_≡_}
 use Rattle.rules.specs.Pages.{placesIn}
 use Rattle.ccitt.proofs.Paging.{Turn, turnsLeft, turn-start, turn-asked, turn-stopped, turn-full, turn-marked, turn-behind, turn-next, turn-falls}
@@ -9,11 +9,11 @@ use Rattle.ccitt.proofs.page.Statement.{statement}
 use Rattle.ccitt.proofs.page.Tie as tie
 
 abbrev Inv-loop : tie.InvT-loop
-Inv-loop white black both src settings changes₀ ends₀ marks₀ places state₀ changes ends marks state =
-    (places ≡ placesIn ends₀ marks₀) × Turn src settings changes₀ ends₀ marks₀ changes ends marks state
+Inv-loop white black both src settings changes₀ ends₀ marks₀ places state₀ gave-up₀ changes ends marks state gave-up =
+    (places ≡ placesIn ends₀ marks₀) × Turn src settings changes₀ ends₀ marks₀ changes ends marks state gave-up
 
 abbrev μ-loop : tie.MeasureT-loop
-μ-loop white black both src settings changes₀ ends₀ marks₀ places state₀ changes ends marks state = turnsLeft src state
+μ-loop white black both src settings changes₀ ends₀ marks₀ places state₀ gave-up₀ changes ends marks state gave-up = turnsLeft src state
 
 places-requires : tie.Need-places-requires Inv-loop μ-loop
 places-requires c κs = search needs
@@ -78,14 +78,17 @@ cast-marks c = record { fits = omega (arith, turn-marked (c .before .before .bef
 slice-write-marks : tie.Need-slice-write-marks Inv-loop μ-loop
 slice-write-marks c = omega (arith, c .before .before .if1 .left, c .before .before .before .before .before .before .before .before .before .before .loop .inv .0, c .before .before .before .before .before .before .before .before .before .before .loop .inv .1 .same-marks)
 
+seen-requires : tie.Need-seen-requires Inv-loop μ-loop
+seen-requires c κs = search needs
+
 behind-requires : tie.Need-behind-requires Inv-loop μ-loop
-behind-requires c κs = turn-behind (c .before .before .before .before .before .before .before .before .before .before .loop .inv .1) (c .before .before .before .before .before .before .before .before .row .ensures) (c .before .before .before .before .count .given .1) (omega (arith, c .before .before .if1 .left, c .before .before .before .before .before .before .before .before .before .before .loop .inv .0))
+behind-requires c κs = turn-behind (c .before .before .before .before .before .before .before .before .before .before .before .loop .inv .1) (c .before .before .before .before .before .before .before .before .before .row .ensures) (c .before .before .before .before .before .count .given .1) (omega (arith, c .before .before .before .if1 .left, c .before .before .before .before .before .before .before .before .before .before .before .loop .inv .0))
 
 loop-less : tie.Need-loop-less Inv-loop μ-loop
-loop-less c = rw (c .behind .ensures) (turn-falls (c .before .before .before .before .before .before .before .before .before .before .before .loop .inv .1) (c .before .before .before .before .before .before .before .before .before .row .ensures) (c .before .before .before .before .before .count .given .1) (omega (arith, c .before .before .before .if1 .left, c .before .before .before .before .before .before .before .before .before .before .before .loop .inv .0)))
+loop-less c = rw (c .behind .ensures) (turn-falls (c .before .before .before .before .before .before .before .before .before .before .before .before .loop .inv .1) (c .before .before .before .before .before .before .before .before .before .before .row .ensures) (c .before .before .before .before .before .before .count .given .1) (omega (arith, c .before .before .before .before .if1 .left, c .before .before .before .before .before .before .before .before .before .before .before .before .loop .inv .0)))
 
 loop-again : tie.Need-loop-again Inv-loop μ-loop
-loop-again c = (c .before .before .before .before .before .before .before .before .before .before .before .loop .inv .0, rw (c .behind .ensures, c .before .row-end .ensures) (turn-next (c .before .before .before .before .before .before .before .before .before .before .before .loop .inv .1) (c .before .before .before .before .before .before .before .before .before .row .ensures) (c .before .before .before .before .before .count .given .1) (omega (arith, c .before .before .before .if1 .left, c .before .before .before .before .before .before .before .before .before .before .before .loop .inv .0)) (c .before .before .before .before .before .before .before .before .changes .given)))
+loop-again c = (c .before .before .before .before .before .before .before .before .before .before .before .before .loop .inv .0, rw (c .behind .ensures, c .before .before .row-end .ensures, c .before .seen .ensures) (turn-next (c .before .before .before .before .before .before .before .before .before .before .before .before .loop .inv .1) (c .before .before .before .before .before .before .before .before .before .before .row .ensures) (c .before .before .before .before .before .before .count .given .1) (omega (arith, c .before .before .before .before .if1 .left, c .before .before .before .before .before .before .before .before .before .before .before .before .loop .inv .0)) (c .before .before .before .before .before .before .before .before .before .changes .given)))
 
 pub page-spec : {M : Type 1} → statement M
 page-spec =
@@ -114,6 +117,7 @@ page-spec =
     slice-write-ends
     cast-marks
     slice-write-marks
+    seen-requires
     behind-requires
     loop-less
     loop-again)

@@ -1,27 +1,27 @@
--- `ccitt::decode` meets its contract: each test, and then the page. Assumes nothing.
+-- `ccitt::decode_watched` meets its contract: each test, and then the page. Assumes nothing.
 use denote.Ref.{now}
 use Rattle.ccitt.proofs.Paging.{refused-6, refused-7, no-columns, page-read}
 use borrow.Author.Needs.{needs}
-use Rattle.ccitt.proofs.decode.Statement.{statement}
-use Rattle.ccitt.proofs.decode.Tie as tie
+use Rattle.ccitt.proofs.decode_watched.Statement.{statement}
+use Rattle.ccitt.proofs.decode_watched.Tie as tie
 
-refusal-requires : tie.Need-refusal-requires
-refusal-requires c κs = search needs
+refused-requires : tie.Need-refused-requires
+refused-requires c κs = search needs
 
 returns : tie.Need-returns
-returns c = let s = c .before .before .before .before .before .before .before .args in rw (c .refusal .ensures) (refused-6 (now (s .src)) (s .settings) (now (s .changes)) (now (s .ends)) (now (s .marks)) (c .before .if1 .taken))
+returns c = let s = c .before .before .before .before .before .before .before .args in rw (c .refused .ensures) (refused-6 (now (s .src)) (s .settings) (now (s .changes)) (now (s .ends)) (now (s .marks)) (c .before .if1 .taken))
 
-refusal-requires-2 : tie.Need-refusal-requires-2
-refusal-requires-2 c κs = search needs
+refused-requires-2 : tie.Need-refused-requires-2
+refused-requires-2 c κs = search needs
 
 returns-2 : tie.Need-returns-2
-returns-2 c = let s = c .before .before .before .before .before .before .before .before .args in rw (c .refusal2 .ensures) (refused-7 (now (s .src)) (s .settings) (now (s .changes)) (now (s .ends)) (now (s .marks)) (c .before .before .if1 .left) (c .before .if2 .taken))
+returns-2 c = let s = c .before .before .before .before .before .before .before .before .args in rw (c .refused2 .ensures) (refused-7 (now (s .src)) (s .settings) (now (s .changes)) (now (s .ends)) (now (s .marks)) (c .before .before .if1 .left) (c .before .if2 .taken))
 
-refusal-requires-3 : tie.Need-refusal-requires-3
-refusal-requires-3 c κs = search needs
+refused-requires-3 : tie.Need-refused-requires-3
+refused-requires-3 c κs = search needs
 
 returns-3 : tie.Need-returns-3
-returns-3 c = let s = c .before .before .before .before .before .before .before .before .before .before .args in rw (c .refusal3 .ensures) (no-columns (now (s .src)) (s .settings) (now (s .changes)) (now (s .ends)) (now (s .marks)) (c .before .before .before .before .if1 .left) (c .before .before .before .if2 .left) (c .before .if3 .taken))
+returns-3 c = let s = c .before .before .before .before .before .before .before .before .before .before .args in rw (c .refused3 .ensures) (no-columns (now (s .src)) (s .settings) (now (s .changes)) (now (s .ends)) (now (s .marks)) (c .before .before .before .before .if1 .left) (c .before .before .before .if2 .left) (c .before .if3 .taken))
 
 white-lookup-requires : tie.Need-white-lookup-requires
 white-lookup-requires c κs = search needs
@@ -65,15 +65,15 @@ returns-4 c =
     rw (c .unless-short .ensures)
     (page-read (now (s .src)) (s .settings) (now (s .changes)) (now (s .ends)) (now (s .marks)) (c .before .before .before .before .before .before .before .before .before .before .before .before .before .before .before .before .before .before .before .before .before .if1 .left) (c .before .before .before .before .before .before .before .before .before .before .before .before .before .before .before .before .before .before .before .before .if2 .left) (c .before .before .before .before .before .before .before .before .before .before .before .before .before .before .before .before .before .before .if3 .left) (rw (c .before .before .before .before .before .before .before .before .before .before .before .before .before .before .strict-if-exact .ensures) at (c .before .before .before .before .before .before .before .page .ensures)))
 
-pub decode-spec : {M : Type 1} → statement M
-decode-spec =
+pub decode-watched-spec : {M : Type 1} → statement M
+decode-watched-spec =
     tie.close
     (tie.spec
-    refusal-requires
+    refused-requires
     returns
-    refusal-requires-2
+    refused-requires-2
     returns-2
-    refusal-requires-3
+    refused-requires-3
     returns-3
     white-lookup-requires
     black-lookup-requires
