@@ -22,7 +22,7 @@ use Rattle.rules.proofs.Bits.{length-bitsOf}
 use Rattle.rules.specs.Rising.{Rising}
 use Rattle.rules.proofs.Budget.{Bytes}
 use Rattle.rules.specs.Standing.{givesUp, gaveUp}
-use Rattle.rules.proofs.GivenUp.{SeenIn, seen-start, seen-next, seen-end}
+use Rattle.rules.proofs.GivenUp.{Had, had-start, had-next, had-end}
 use Rattle.rules.proofs.Answers.{short-rows}
 use Rattle.rules.proofs.Pages.{Onward, Moved, Goes, Does, row-goes, row-does, step, roomFor, page-kept, page-full, page-stopped, page-falls, Held, held-start, held-next, held-entries}
 use Rattle.rules.proofs.Marks.{RowMarked, row-marked}
@@ -42,7 +42,7 @@ use Rattle.settings.specs.declared.EncodingMode.the-variants.{Group4, «Group3_
 use Rattle.settings.specs.Settings.{encodingOf, settingsOf, strictFor}
 use Rattle.settings.specs.Between.{stateOf, rowFor, changesIn, RowFrom, RowGives, Rowed}
 use Rattle.ccitt.specs.declared.Watched.{Watched}
-use Rattle.ccitt.specs.Decode.{counted, behindRow, Behind, PageFrom, Gives, Reads, Sees, shortFor, refusedWith, Watches}
+use Rattle.ccitt.specs.Decode.{counted, behindRow, Behind, PageFrom, Gives, Reads, Sees, toldOf, shortFor, refusedWith, Watches}
 
 -- ---- What an answer of the code says of the outcome
 
@@ -112,9 +112,9 @@ module _ (bytes : List ℕ) (settings : DecodeSettings) (size : length bytes ≤
     pub as-many : length (kept .marks) ≡ length (kept .rows)
     pub marks : ns ≡ overlaid (kept .marks) ms
 
-  -- whether EOLs were given up in its rows, as far as they go
-  abbrev pub Seen : Page.Kept → Bool → Type 0
-  Seen k gave = SeenIn (rowOf enc S bs) (length xs) k gave
+  -- whether EOLs were expected behind one of its rows, which tells with its state whether they were given up
+  abbrev pub Ever : Page.Kept → Bool → Type 0
+  Ever k ever = Had enc S wide bs data-bytes (length xs) (placesIn es ms) k ever
 
   pub going-start : Going xs es ms (record { at = 0; rows = 0; reference = Reference.Kept 0; base = 0; eols = false })
   unfolding entries joined endsFrom
@@ -177,11 +177,11 @@ module _ (bytes : List ℕ) (settings : DecodeSettings) (size : length bytes ≤
     answers a e = ap pageOf (sym (g .same) ∙ ends-done stepped (rowsLeft bs) (page-falls enc S wide bs data-bytes (length xs) (placesIn es ms)) (g .kept) a e)
 
     -- an answer that was reached, with the arrays as they stand
-    given : (gave : Bool) → Seen (g .kept) gave → (n p b m : ℕ) (loose zs : List ℕ) → length loose ≡ m → zs ≡ take (st .base) ys ++ overlaid loose (drop (st .base) ys)
+    given : (ever : Bool) → Ever (g .kept) ever → (n p b m : ℕ) (loose zs : List ℕ) → length loose ≡ m → zs ≡ take (st .base) ys ++ overlaid loose (drop (st .base) ys)
         → stepped (g .kept) ≡ done (endWith (g .kept) n p b loose)
-        → Sees bytes settings xs es ms (record { answer = counted n p (st .rows) (st .base) m b; «gave_up» = gave }) zs fs ns
+        → Sees bytes settings xs es ms (toldOf (counted n p (st .rows) (st .base) m b) ever (st .eols)) zs fs ns
     unfolding changesAfter endsAfter marksAfter
-    given gave seen n p b m loose zs l e q = record {
+    given ever had n p b m loose zs l e q = record {
       reads =
           subst (λ (a : Page.Answer). Gives a xs es ms (counted n p (st .rows) (st .base) m b) zs fs ns) (sym (answers _ q))
           (record {
@@ -190,7 +190,9 @@ module _ (bytes : List ℕ) (settings : DecodeSettings) (size : length bytes ≤
             ends = g .row-ends;
             marks = g .marks;
           });
-      gave-up = sym (ap (λ (a : Page.Answer). givesUp (rowOf enc S bs) (length (a .rows)) (length xs) Rule.pageStart) (answers _ q) ∙ seen-end (rowOf enc S bs) (length xs) (g .kept) gave seen);
+      gave-up =
+          ap (λ (s : Rule.State). ever && not (s .eols)) (g .state)
+          ∙ sym (ap (λ (a : Page.Answer). givesUp (rowOf enc S bs) (length (a .rows)) (length xs) Rule.pageStart) (answers _ q) ∙ had-end enc S wide bs data-bytes (length xs) (placesIn es ms) (g .kept) ever had);
     }
 
     module _ (r : Row) (zs : List ℕ) (o : Rowed bytes [] ys settings st r zs) where
@@ -202,10 +204,10 @@ module _ (bytes : List ℕ) (settings : DecodeSettings) (size : length bytes ≤
         stops : rowOf enc S bs (roomFor enc S wide bs data-bytes (length xs) (placesIn es ms) (g .kept)) (g .kept .state) ≡ stop n p b (s .loose)
         stops = sym outcome ∙ s .is
 
-        pub stopped-gives : (gave : Bool) → Seen (g .kept) gave → Sees bytes settings xs es ms (record { answer = counted n p (st .rows) (st .base) m b; «gave_up» = gave }) zs fs ns
+        pub stopped-gives : (ever : Bool) → Ever (g .kept) ever → Sees bytes settings xs es ms (toldOf (counted n p (st .rows) (st .base) m b) ever (st .eols)) zs fs ns
         unfolding s
-        stopped-gives gave seen =
-            given gave seen n p b m (s .loose) zs (s .size) (o .store ∙ ap (λ (w : RowOut). take (st .base) ys ++ overlaid (changesIn w) (drop (st .base) ys)) (s .is))
+        stopped-gives ever had =
+            given ever had n p b m (s .loose) zs (s .size) (o .store ∙ ap (λ (w : RowOut). take (st .base) ys ++ overlaid (changesIn w) (drop (st .base) ys)) (s .is))
             (page-stopped enc S wide bs data-bytes (length xs) (placesIn es ms) (g .kept) n p b (s .loose) stops)
 
       -- a row
@@ -227,11 +229,11 @@ module _ (bytes : List ℕ) (settings : DecodeSettings) (size : length bytes ≤
         marked = subst RowMarked reads (row-marked S bs _ (g .kept .state) enc)
 
         -- no place is left
-        pub full-gives : placesIn es ms ≤ st .rows → (gave : Bool) → Seen (g .kept) gave
-            → Sees bytes settings xs es ms (record { answer = counted 5 0 (st .rows) (st .base) count 0; «gave_up» = gave }) zs fs ns
+        pub full-gives : placesIn es ms ≤ st .rows → (ever : Bool) → Ever (g .kept) ever
+            → Sees bytes settings xs es ms (toldOf (counted 5 0 (st .rows) (st .base) count 0) ever (st .eols)) zs fs ns
         unfolding t
-        full-gives h gave seen =
-            given gave seen 5 0 0 count (t .changes) zs (t .size) (o .store ∙ ap (λ (w : RowOut). take (st .base) ys ++ overlaid (changesIn w) (drop (st .base) ys)) (t .is))
+        full-gives h ever had =
+            given ever had 5 0 0 count (t .changes) zs (t .size) (o .store ∙ ap (λ (w : RowOut). take (st .base) ys ++ overlaid (changesIn w) (drop (st .base) ys)) (t .is))
             (page-full enc S wide bs data-bytes (length xs) (placesIn es ms) (g .kept) (t .changes) mark (t .next) reads (omega (arith, rows-is)))
 
         module _ (place : st .rows < placesIn es ms) where
@@ -299,12 +301,9 @@ module _ (bytes : List ℕ) (settings : DecodeSettings) (size : length bytes ≤
                   ∙ overlaid-one (endsFrom 0 (g .kept .rows)) es (st .base + count) (st .rows) (length-ends 0 (g .kept .rows) ∙ sym rows-is) (omega arith)
                   ∙ ap (λ (l : List ℕ). overlaid l es) (ap (λ (n : ℕ). endsFrom 0 (g .kept .rows) ++ n ∷ []) (let q : st .base + count ≡ 0 + entries (g .kept .rows) + length (t .changes) = omega (arith, g .base, t .size) in q) ∙ sym (ends-snoc 0 (g .kept .rows) (t .changes)))
 
-          -- what is seen with it
-          pub going-seen : (gave : Bool) → Seen (g .kept) gave → Seen (going-next .kept) (gave || (st .eols && not eols))
+          pub going-had : (ever : Bool) → Ever (g .kept) ever → Ever (going-next .kept) (ever || eols)
           unfolding going-next next t
-          going-seen gave seen =
-              subst (λ (b : Bool). Seen next b) (λ i. gave || (sym (g .state) i .eols && not (t .eols-is i)))
-              (seen-next (rowOf enc S bs) (length xs) (g .kept) gave seen (t .changes) mark (t .next) reads)
+          going-had ever had = subst (λ (b : Bool). Ever next (ever || b)) (t .eols-is) (had-next enc S wide bs data-bytes (length xs) (placesIn es ms) (g .kept) ever had (t .changes) mark (t .next) reads)
 
           -- what falls with each row
           pub going-falls : length bs - at + cond (eqb (st .rows + 1) 0) 1 0 < length bs - st .at + cond (eqb (st .rows) 0) 1 0
@@ -318,12 +317,12 @@ module _ (bytes : List ℕ) (settings : DecodeSettings) (size : length bytes ≤
 -- ---- The loop's invariant
 
 -- the tests were passed, and the machine goes on
-pub record Turn (bytes : List ℕ) (settings : DecodeSettings) (xs es ms ys fs ns : List ℕ) (st : State) (gave : Bool) : Type 0 where
+pub record Turn (bytes : List ℕ) (settings : DecodeSettings) (xs es ms ys fs ns : List ℕ) (st : State) (ever : Bool) : Type 0 where
   pub size : length bytes ≤ mostBytes
   pub wide : 0 < settings .columns
   pub narrow : settings .columns < 4294967295
   pub going : Going bytes settings size wide narrow xs es ms ys fs ns st
-  pub seen : Seen bytes settings size wide narrow xs es ms (going .kept) gave
+  pub had : Ever bytes settings size wide narrow xs es ms (going .kept) ever
   pub same-changes : length ys ≡ length xs
   pub same-ends : length fs ≡ length es
   pub same-marks : length ns ≡ length ms
@@ -335,35 +334,35 @@ turnsLeft bytes st = length (bitsOf bytes) - st .at + cond (eqb (st .rows) 0) 1 
 pub turn-start : {w b : List ℕ} (bytes : List ℕ) (settings : DecodeSettings) (xs es ms : List ℕ) → PageFrom w b bytes settings
     → Turn bytes settings xs es ms xs es ms (record { at = 0; rows = 0; reference = Reference.Kept 0; base = 0; eols = false }) false
 unfolding going-start
-turn-start bytes settings xs es ms p = record { size = p .size; wide = p .wide; narrow = p .narrow; going = going-start bytes settings (p .size) (p .wide) (p .narrow) xs es ms; seen = seen-start _ (length xs); same-changes = refl; same-ends = refl; same-marks = refl }
+turn-start bytes settings xs es ms p = record { size = p .size; wide = p .wide; narrow = p .narrow; going = going-start bytes settings (p .size) (p .wide) (p .narrow) xs es ms; had = had-start _ _ (p .wide) _ _ (length xs) (placesIn es ms); same-changes = refl; same-ends = refl; same-marks = refl }
 
-module _ {bytes : List ℕ} {settings : DecodeSettings} {xs es ms ys fs ns : List ℕ} {st : State} {gave : Bool} (t : Turn bytes settings xs es ms ys fs ns st gave) where
+module _ {bytes : List ℕ} {settings : DecodeSettings} {xs es ms ys fs ns : List ℕ} {st : State} {ever : Bool} (t : Turn bytes settings xs es ms ys fs ns st ever) where
   pub turn-asked : {w b : List ℕ} → Lookups w b → RowFrom w b bytes [] ys settings st
   turn-asked l = row-asked bytes settings (t .size) (t .wide) (t .narrow) xs es ms ys fs ns st (t .going) l
 
   module _ {r : Row} {zs : List ℕ} (o : Rowed bytes [] ys settings st r zs) where
-    pub turn-stopped : {n p b m : ℕ} → r ≡ Stop n p b m → Sees bytes settings xs es ms (record { answer = counted n p (st .rows) (st .base) m b; «gave_up» = gave }) zs fs ns
+    pub turn-stopped : {n p b m : ℕ} → r ≡ Stop n p b m → Sees bytes settings xs es ms (toldOf (counted n p (st .rows) (st .base) m b) ever (st .eols)) zs fs ns
     turn-stopped {n} {p} {b} {m} e =
-        stopped-gives bytes settings (t .size) (t .wide) (t .narrow) xs es ms ys fs ns st (t .going) r zs o n p b m e gave (t .seen)
+        stopped-gives bytes settings (t .size) (t .wide) (t .narrow) xs es ms ys fs ns st (t .going) r zs o n p b m e ever (t .had)
 
     module _ {count mark at : ℕ} {eols : Bool} (e : r ≡ Kept count mark at eols) where
       pub turn-marked : mark ≤ 2
       turn-marked = marked bytes settings (t .size) (t .wide) (t .narrow) xs es ms ys fs ns st (t .going) r zs o count mark at eols e
 
-      pub turn-full : placesIn es ms ≤ st .rows → Sees bytes settings xs es ms (record { answer = counted 5 0 (st .rows) (st .base) count 0; «gave_up» = gave }) zs fs ns
-      turn-full h = full-gives bytes settings (t .size) (t .wide) (t .narrow) xs es ms ys fs ns st (t .going) r zs o count mark at eols e h gave (t .seen)
+      pub turn-full : placesIn es ms ≤ st .rows → Sees bytes settings xs es ms (toldOf (counted 5 0 (st .rows) (st .base) count 0) ever (st .eols)) zs fs ns
+      turn-full h = full-gives bytes settings (t .size) (t .wide) (t .narrow) xs es ms ys fs ns st (t .going) r zs o count mark at eols e h ever (t .had)
 
       module _ (place : st .rows < placesIn es ms) where
         pub turn-behind : Behind st count
         turn-behind = behind-asked bytes settings (t .size) (t .wide) (t .narrow) xs es ms ys fs ns st (t .going) r zs o count mark at eols e place
 
-        pub turn-next : length zs ≡ length ys → Turn bytes settings xs es ms zs (set fs (st .rows) (st .base + count)) (set ns (st .rows) mark) (behindRow st count at eols) (gave || (st .eols && not eols))
+        pub turn-next : length zs ≡ length ys → Turn bytes settings xs es ms zs (set fs (st .rows) (st .base + count)) (set ns (st .rows) mark) (behindRow st count at eols) (ever || eols)
         turn-next q = record {
           size = t .size;
           wide = t .wide;
           narrow = t .narrow;
           going = going-next bytes settings (t .size) (t .wide) (t .narrow) xs es ms ys fs ns st (t .going) r zs o count mark at eols e place;
-          seen = going-seen bytes settings (t .size) (t .wide) (t .narrow) xs es ms ys fs ns st (t .going) r zs o count mark at eols e place gave (t .seen);
+          had = going-had bytes settings (t .size) (t .wide) (t .narrow) xs es ms ys fs ns st (t .going) r zs o count mark at eols e place ever (t .had);
           same-changes = q ∙ t .same-changes;
           same-ends = length-set fs (st .rows) (st .base + count) ∙ t .same-ends;
           same-marks = length-set ns (st .rows) mark ∙ t .same-marks;

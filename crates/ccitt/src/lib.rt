@@ -5,12 +5,12 @@ use settings::DecodeSettings;
 use settings::Row;
 use settings::State;
 ghost use mathlib.Core.Path.{_≡_};
-ghost use mathlib.Core.Bool.{not, _&&_, _||_};
+ghost use mathlib.Core.Bool.{_||_};
 ghost use mathlib.Core.List.{[]};
 ghost use Prim.Native.Nat.{min};
 ghost use Rattle.tables.specs.Pairs.{pairTable};
 ghost use Rattle.settings.specs.Between.{RowFrom, Rowed};
-ghost use Rattle.ccitt.specs.Decode.{counted, behindRow, Behind, PageFrom, Sees, shortFor, refusedWith, Decodes, Watches};
+ghost use Rattle.ccitt.specs.Decode.{counted, behindRow, Behind, PageFrom, Sees, toldOf, shortFor, refusedWith, Decodes, Watches};
 
 // A page's answer, and whether EOLs were given up in one of the rows that it keeps. From there on its rows hang on all of the data.
 #[repr(C)]
@@ -83,11 +83,21 @@ fn places(ends: usize, marks: usize) -> usize
     if ends < marks { ends } else { marks }
 }
 
-// Whether EOLs were given up so far: they were expected before the row, and are not behind it.
-fn seen(earlier: bool, before: bool, behind: bool) -> bool
-    ensures { λ r. ⌜ r ≡ (earlier || (before && not behind)) ⌝ }
+// Whether EOLs were expected behind a row so far.
+fn ever(sofar: bool, eols: bool) -> bool
+    ensures { λ r. ⌜ r ≡ (sofar || eols) ⌝ }
 {
-    earlier || (before && !behind)
+    sofar | eols
+}
+
+// EOLs that are not expected stay so: those that were, and are not behind the last row, were given up. So a row costs one step.
+fn told(answer: Answer, ever: bool, eols: bool) -> Watched
+    ensures { λ r. ⌜ r ≡ toldOf answer ever eols ⌝ }
+{
+    Watched {
+        answer: answer,
+        gave_up: ever & !eols,
+    }
 }
 
 fn page<'a>(
@@ -111,26 +121,22 @@ fn page<'a>(
         base: 0,
         eols: false,
     };
-    let mut gave_up = false;
+    let mut expected = false;
     loop {
         match row(white, black, both, src, settings, changes, state) {
             Row::Stop(number, place, bytes, loose) => {
-                return Watched {
-                    answer: counts(number, place, state.rows, state.base, loose, bytes),
-                    gave_up: gave_up,
-                };
+                let answer = counts(number, place, state.rows, state.base, loose, bytes);
+                return told(answer, expected, state.eols);
             }
             Row::Kept(count, mark, at, eols) => {
                 let rows = state.rows;
                 if places <= rows {
-                    return Watched {
-                        answer: counts(answer::NO_ROW_END, 0, rows, state.base, count, 0),
-                        gave_up: gave_up,
-                    };
+                    let full = counts(answer::NO_ROW_END, 0, rows, state.base, count, 0);
+                    return told(full, expected, state.eols);
                 }
                 ends[rows] = settings::row_end(state.base + count);
                 marks[rows] = mark as u8;
-                gave_up = seen(gave_up, state.eols, eols);
+                expected = ever(expected, eols);
                 state = behind(state, count, at, eols);
             }
         }
@@ -165,7 +171,8 @@ fn refused(number: u32) -> Watched
     }
 }
 
-// A page into lent arrays, and whether EOLs were given up in it. The lookup tables are made once, here: a constant is built anew wherever it is used.
+// A page into lent arrays, and whether EOLs were given up in it. The lookup tables are made once, here: a constant is built anew wherever
+// it is used.
 pub fn decode_watched(
     src: &[u8],
     settings: DecodeSettings,

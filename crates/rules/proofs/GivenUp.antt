@@ -1,7 +1,7 @@
--- EOLs that are given up, told row after row: what one row more adds; that none are in Group 4 and in what is read strictly; and that where none were, EOLs that are expected behind a row
--- are behind each later one. Assumes nothing.
+-- EOLs that are given up, told row after row: what one row more adds, and how a reader that knows whether they were ever expected tells it; that none are in Group 4 and in what is
+-- read strictly; and that where none were, EOLs that are expected behind a row are behind each later one. Assumes nothing.
 use mathlib.Core.Path.{_≡_, refl, sym, ap, _∙_, subst}
-use mathlib.Core.Bool.{Bool, true, false, not, _&&_, _||_}
+use mathlib.Core.Bool.{Bool, true, false, not, _&&_, _||_, or-true, or-false, or-assoc}
 use mathlib.Core.List.{List, [], _∷_, _++_}
 use Prim.Native.Nat.{ℕ, zero, suc, _+_, _-_, _≤_, _<_}
 use native.Mathlib.Omega.{arith}
@@ -15,14 +15,10 @@ use Rattle.rules.proofs.Budget.{Bytes, whole-bytes}
 use Rattle.rules.proofs.Answers.{Allowed, decode-cases}
 use Rattle.rules.proofs.PageBack.{entries-snoc}
 use Rattle.rules.proofs.Pages.{page-cases}
-use Rattle.rules.proofs.Untouched.{Keeps}
-use Rattle.rules.proofs.Standing.{Begun, row-sure, row-counted}
+use Rattle.rules.proofs.Untouched.{Keeps, neither}
+use Rattle.rules.proofs.Standing.{Begun, row-sure, row-falls, row-counted}
 
--- both are false where one of them is all that is asked
-or-false : (a b : Bool) → (a || b) ≡ false → (a ≡ false) × (b ≡ false)
-or-false true b e = absurd (let z : _≡_ {A = ℕ} 0 1 = cc in omega arith)
-or-false false b e = (refl, e)
-
+-- what two tests say of EOLs that are kept
 keeps-not : (a b : Bool) → (a && not b) ≡ false → a ≡ true → b ≡ true
 keeps-not a true e x = refl
 keeps-not true false e x = absurd (let z : _≡_ {A = ℕ} 0 1 = cc in omega arith)
@@ -31,14 +27,6 @@ keeps-not false false e x = x
 keeps-none : (a b : Bool) → (a ≡ true → b ≡ true) → (a && not b) ≡ false
 keeps-none true b k = ap not (k refl)
 keeps-none false b k = refl
-
-or-assoc : (a b c : Bool) → (a || (b || c)) ≡ ((a || b) || c)
-or-assoc true b c = refl
-or-assoc false b c = refl
-
-or-none : (a : Bool) → (a || false) ≡ a
-or-none true = refl
-or-none false = refl
 
 module _ (rowAt : ℕ → State → RowOut) where
   -- one row more
@@ -64,13 +52,51 @@ module _ (rowAt : ℕ → State → RowOut) where
         ap (λ (n : ℕ). givesUp rowAt n store pageStart) (let q : length (k .rows ++ r ∷ []) + m ≡ length (k .rows) + suc m = omega (arith, length-append (k .rows) (r ∷ [])) in q)
         ∙ s (suc m)
         ∙ ap (λ (b : Bool). gave || b) (gives-up-row m (store - entries (k .rows)) (k .state) r mark next e)
-        ∙ or-assoc gave (k .state .eols && not (next .eols)) (givesUp rowAt m (store - entries (k .rows) - length r) next)
+        ∙ sym (or-assoc gave (k .state .eols && not (next .eols)) (givesUp rowAt m (store - entries (k .rows) - length r) next))
         ∙ ap (λ (n : ℕ). (gave || (k .state .eols && not (next .eols))) || givesUp rowAt m n next)
         (let q : store - entries (k .rows) - length r ≡ store - entries (k .rows ++ r ∷ []) = omega (arith, entries-snoc (k .rows) r) in q)
 
     pub seen-end : (k : Kept) (gave : Bool) → SeenIn k gave → givesUp rowAt (length (k .rows)) store pageStart ≡ gave
     unfolding givesUp
-    seen-end k gave s = ap (λ (n : ℕ). givesUp rowAt n store pageStart) (let q : length (k .rows) ≡ length (k .rows) + 0 = omega arith in q) ∙ s 0 ∙ or-none gave
+    seen-end k gave s = ap (λ (n : ℕ). givesUp rowAt n store pageStart) (let q : length (k .rows) ≡ length (k .rows) + 0 = omega arith in q) ∙ s 0 ∙ or-false gave
+
+-- ---- As the page loop tells it
+
+-- what was told so far, and what a row adds, where EOLs are expected behind the row only if they were ever
+told-next : (had before behind : Bool) → (before ≡ true → had ≡ true) → (had ≡ true → before ≡ false → behind ≡ false)
+    → ((had && not before) || (before && not behind)) ≡ ((had || behind) && not behind)
+told-next true true behind f g = refl
+told-next false true behind f g = absurd (let q : false ≡ true = f refl in let z : _≡_ {A = ℕ} 0 1 = cc in omega arith)
+told-next true false true f g = absurd (let q : true ≡ false = g refl refl in let z : _≡_ {A = ℕ} 0 1 = cc in omega arith)
+told-next true false false f g = refl
+told-next false false true f g = refl
+told-next false false false f g = refl
+
+module _ (enc : Encoding) (S : Settings) (wide : 0 < S .columns) (bs : List Bool) (bytes : Bytes bs) (store places : ℕ) where
+  -- whether EOLs were expected behind a row so far: those that are not any more were given up
+  pub record Had (k : Kept) (had : Bool) : Type 0 where
+    pub seen : SeenIn (rowOf enc S bs) store k (had && not (k .state .eols))
+    pub expected : k .state .eols ≡ true → had ≡ true
+    pub none-yet : k .state .count ≡ 0 → had ≡ false
+
+  pub had-start : Had noneKept false
+  had-start = record { seen = seen-start (rowOf enc S bs) store; expected = λ e. e; none-yet = λ e. refl }
+
+  pub had-next : (k : Kept) (had : Bool) → Had k had → (r : List ℕ) (mark : ℕ) (next : State) → rowOf enc S bs (store - entries (k .rows)) (k .state) ≡ row r mark next
+      → Had (withRow k r mark next) (had || next .eols)
+  had-next k had h r mark next e = record {
+    seen =
+        subst (SeenIn (rowOf enc S bs) store (withRow k r mark next)) (told-next had (k .state .eols) (next .eols) (h .expected) falls)
+        (seen-next (rowOf enc S bs) store k (had && not (k .state .eols)) (h .seen) r mark next e);
+    expected = λ x. ap (λ (b : Bool). had || b) x ∙ or-true had;
+    none-yet = λ z. absurd (omega (arith, row-counted enc S wide bs bytes store places (store - entries (k .rows)) (k .state) r mark next e));
+  }
+    where
+      falls : had ≡ true → k .state .eols ≡ false → next .eols ≡ false
+      falls x y = row-falls S wide bs (store - entries (k .rows)) (k .state) r mark next enc (λ z. let q : true ≡ false = sym x ∙ h .none-yet z in let i : _≡_ {A = ℕ} 0 1 = cc in omega arith) y e
+
+  pub had-end : (k : Kept) (had : Bool) → Had k had → givesUp (rowOf enc S bs) (length (k .rows)) store pageStart ≡ (had && not (k .state .eols))
+  had-end k had h = seen-end (rowOf enc S bs) store k (had && not (k .state .eols)) (h .seen)
 
 -- ---- Where none are
 
@@ -97,7 +123,7 @@ module _ (enc : Encoding) (S : Settings) (wide : 0 < S .columns) (bs : List Bool
       → givesUp (rowOf enc S bs) (suc n) (store - entries (k .rows)) (k .state) ≡ false
       → Keeps (k .state) next × (givesUp (rowOf enc S bs) n (store - entries (withRow k r mark next .rows)) next ≡ false)
   none-next n k r mark next e z =
-      let f = or-false (k .state .eols && not (next .eols)) (givesUp (rowOf enc S bs) n (store - entries (k .rows) - length r) next)
+      let f = neither (k .state .eols && not (next .eols)) (givesUp (rowOf enc S bs) n (store - entries (k .rows) - length r) next)
       (sym (gives-up-row (rowOf enc S bs) n (store - entries (k .rows)) (k .state) r mark next e) ∙ z) in (
         keeps-not (k .state .eols) (next .eols) (f .0),
         ap (λ (i : ℕ). givesUp (rowOf enc S bs) n i next) (let q : store - entries (k .rows ++ r ∷ []) ≡ store - entries (k .rows) - length r = omega (arith, entries-snoc (k .rows) r) in q) ∙ f .1,

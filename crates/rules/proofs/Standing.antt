@@ -7,7 +7,7 @@ use mathlib.Core.List.{List, [], _∷_, _++_}
 use Prim.Native.Nat.{ℕ, zero, suc, _+_, _-_, _≤_, _<_}
 use native.Mathlib.Omega.{arith}
 use lib.Dec.{eqb, ltb}
-use lib.ListN.{length}
+use lib.ListN.{length, length-append}
 use borrow.Author.Tests.{eqb-true, eqb-false, eq-eqb, ne-eqb}
 use Rattle.rules.specs.Machine.{Out, more, andThen, run, ends}
 use Rattle.rules.specs.Bits.{bitsOf}
@@ -229,7 +229,7 @@ module _ (S : Settings) (wide : 0 < S .columns) (bs : List Bool) (room : ℕ) (s
   row-sure enc s b e = let f = row-settled enc s e in (λ x. f .1 (ne-eqb (st .count) 0 (λ n. let z : true ≡ false = sym x ∙ b n in let y : _≡_ {A = ℕ} 0 1 = cc in omega arith)) x, f .0)
 
   -- those that are not expected stay so
-  row-falls : (enc : Encoding) → (st .count ≡ 0 → ⊥) → st .eols ≡ false → rowOf enc S bs room st ≡ row r mark next → next .eols ≡ false
+  pub row-falls : (enc : Encoding) → (st .count ≡ 0 → ⊥) → st .eols ≡ false → rowOf enc S bs room st ≡ row r mark next → next .eols ≡ false
   unfolding rowOf
   row-falls group4 n x e = row4-eols e .0 ∙ x
   row-falls group3-1D n x e = ⊎-elim (λ h. sym h ∙ x) (λ h. absurd (let z : true ≡ false = sym (h .0) ∙ x in let y : _≡_ {A = ℕ} 0 1 = cc in omega arith)) (row3-eols untagged e n)
@@ -267,6 +267,19 @@ module _ (enc : Encoding) (S : Settings) (wide : 0 < S .columns) (bs : List Bool
 
   pub row-counted : (room : ℕ) (st : State) (r : List ℕ) (mark : ℕ) (next : State) → rowOf enc S bs room st ≡ row r mark next → next .count ≡ suc (st .count)
   row-counted room st r mark next e = subst (Goes bs st) e (row-goes S wide bs bytes room st enc) .counted
+
+  -- so many steps keep so many rows, with as many marks
+  pub kept-counted : (n : ℕ) (j k : Kept) → run step n j ≡ more k → (length (k .rows) ≡ length (j .rows) + n) × (length (k .marks) ≡ length (j .marks) + n)
+  unfolding run
+  kept-counted zero j k = λ q. let y : j ≡ k = cc in (omega (arith, ap (λ (x : Kept). length (x .rows)) y), omega (arith, ap (λ (x : Kept). length (x .marks)) y))
+  kept-counted (suc n) j k =
+      page-cases enc S wide bs bytes store places j
+      (λ o. andThen o (run step n) ≡ more k → (length (k .rows) ≡ length (j .rows) + suc n) × (length (k .marks) ≡ length (j .marks) + suc n))
+      (λ r mark next e l q.
+      let c = kept-counted n (withRow j r mark next) k q in
+      (omega (arith, c .0, length-append (j .rows) (r ∷ [])), omega (arith, c .1, length-append (j .marks) (mark ∷ []))))
+      (λ r mark next e l q. absurd (let z : _≡_ {A = ℕ} 0 1 = cc in omega arith))
+      (λ m place b loose e q. absurd (let z : _≡_ {A = ℕ} 0 1 = cc in omega arith))
 
   -- the same rows by the page's steps: what makes a row stand, on the way from one page so far to another
   module _ (Ends : ℕ → State → Type 0) (P : Kept → Kept → Type 0)

@@ -412,7 +412,7 @@ module _ (S : Settings) (t : Tagging) (bs cs : List Bool) where
 
 -- ---- One row
 
-neither : (a b : Bool) → (a || b) ≡ false → (a ≡ false) × (b ≡ false)
+pub neither : (a b : Bool) → (a || b) ≡ false → (a ≡ false) × (b ≡ false)
 neither false b e = (refl, e)
 neither true b e = absurd (let y : _≡_ {A = ℕ} 0 1 = cc in omega arith)
 

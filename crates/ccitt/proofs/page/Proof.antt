@@ -1,4 +1,4 @@
--- `ccitt::page` meets its contract. The invariant: the machine stands where the arrays say, `gave_up` says what was seen in its rows, and `places` is the shorter of the two. Assumes nothing.
+-- `ccitt::page` meets its contract. The invariant: the machine stands where the arrays say, `expected` whether EOLs were behind one of its rows, and `places` is the shorter of the two. Assumes nothing.
 use mathlib.Core.Path.{_≡_}
 use Rattle.rules.specs.Pages.{placesIn}
 use Rattle.ccitt.proofs.Paging.{Turn, turnsLeft, turn-start, turn-asked, turn-stopped, turn-full, turn-marked, turn-behind, turn-next, turn-falls}
@@ -9,11 +9,11 @@ use Rattle.ccitt.proofs.page.Statement.{statement}
 use Rattle.ccitt.proofs.page.Tie as tie
 
 abbrev Inv-loop : tie.InvT-loop
-Inv-loop white black both src settings changes₀ ends₀ marks₀ places state₀ gave-up₀ changes ends marks state gave-up =
-    (places ≡ placesIn ends₀ marks₀) × Turn src settings changes₀ ends₀ marks₀ changes ends marks state gave-up
+Inv-loop white black both src settings changes₀ ends₀ marks₀ places state₀ expected₀ changes ends marks state expected =
+    (places ≡ placesIn ends₀ marks₀) × Turn src settings changes₀ ends₀ marks₀ changes ends marks state expected
 
 abbrev μ-loop : tie.MeasureT-loop
-μ-loop white black both src settings changes₀ ends₀ marks₀ places state₀ gave-up₀ changes ends marks state gave-up = turnsLeft src state
+μ-loop white black both src settings changes₀ ends₀ marks₀ places state₀ expected₀ changes ends marks state expected = turnsLeft src state
 
 places-requires : tie.Need-places-requires Inv-loop μ-loop
 places-requires c κs = search needs
@@ -30,6 +30,9 @@ enum-known-number c = search needs
 counts-requires : tie.Need-counts-requires Inv-loop μ-loop
 counts-requires c κs = search needs
 
+told-requires : tie.Need-told-requires Inv-loop μ-loop
+told-requires c κs = search needs
+
 same-length : tie.Need-same-length Inv-loop μ-loop
 same-length c = search needs
 
@@ -40,13 +43,16 @@ same-length-3 : tie.Need-same-length-3 Inv-loop μ-loop
 same-length-3 c = search needs
 
 returns : tie.Need-returns Inv-loop μ-loop
-returns c = rw (c .counts .ensures) (turn-stopped (c .before .before .before .before .before .before .before .before .loop .inv .1) (c .before .before .before .before .before .before .row .ensures) (c .before .before .number .given .1))
+returns c = rw (c .told .ensures, c .before .counts .ensures) (turn-stopped (c .before .before .before .before .before .before .before .before .before .loop .inv .1) (c .before .before .before .before .before .before .before .row .ensures) (c .before .before .before .number .given .1))
 
 enum-known-count : tie.Need-enum-known-count Inv-loop μ-loop
 enum-known-count c = search needs
 
 counts-requires-2 : tie.Need-counts-requires-2 Inv-loop μ-loop
 counts-requires-2 c κs = search needs
+
+told-requires-2 : tie.Need-told-requires-2 Inv-loop μ-loop
+told-requires-2 c κs = search needs
 
 same-length-4 : tie.Need-same-length-4 Inv-loop μ-loop
 same-length-4 c = search needs
@@ -58,7 +64,7 @@ same-length-6 : tie.Need-same-length-6 Inv-loop μ-loop
 same-length-6 c = search needs
 
 returns-2 : tie.Need-returns-2 Inv-loop μ-loop
-returns-2 c = rw (c .counts2 .ensures) (turn-full (c .before .before .before .before .before .before .before .before .before .loop .inv .1) (c .before .before .before .before .before .before .before .row .ensures) (c .before .before .before .count .given .1) (omega (arith, c .before .if1 .taken, c .before .before .before .before .before .before .before .before .before .loop .inv .0)))
+returns-2 c = rw (c .told2 .ensures, c .before .counts2 .ensures) (turn-full (c .before .before .before .before .before .before .before .before .before .before .loop .inv .1) (c .before .before .before .before .before .before .before .before .row .ensures) (c .before .before .before .before .count .given .1) (omega (arith, c .before .before .if1 .taken, c .before .before .before .before .before .before .before .before .before .before .loop .inv .0)))
 
 add-row-end : tie.Need-add-row-end Inv-loop μ-loop
 add-row-end c = let h = turn-behind (c .before .before .before .before .before .before .before .before .before .loop .inv .1) (c .before .before .before .before .before .before .before .row .ensures) (c .before .before .before .count .given .1) (omega (arith, c .before .if1 .left, c .before .before .before .before .before .before .before .before .before .loop .inv .0)) in record { fits = omega (arith, h .few-entries) }
@@ -78,8 +84,8 @@ cast-marks c = record { fits = omega (arith, turn-marked (c .before .before .bef
 slice-write-marks : tie.Need-slice-write-marks Inv-loop μ-loop
 slice-write-marks c = omega (arith, c .before .before .if1 .left, c .before .before .before .before .before .before .before .before .before .before .loop .inv .0, c .before .before .before .before .before .before .before .before .before .before .loop .inv .1 .same-marks)
 
-seen-requires : tie.Need-seen-requires Inv-loop μ-loop
-seen-requires c κs = search needs
+ever-requires : tie.Need-ever-requires Inv-loop μ-loop
+ever-requires c κs = search needs
 
 behind-requires : tie.Need-behind-requires Inv-loop μ-loop
 behind-requires c κs = turn-behind (c .before .before .before .before .before .before .before .before .before .before .before .loop .inv .1) (c .before .before .before .before .before .before .before .before .before .row .ensures) (c .before .before .before .before .before .count .given .1) (omega (arith, c .before .before .before .if1 .left, c .before .before .before .before .before .before .before .before .before .before .before .loop .inv .0))
@@ -88,7 +94,7 @@ loop-less : tie.Need-loop-less Inv-loop μ-loop
 loop-less c = rw (c .behind .ensures) (turn-falls (c .before .before .before .before .before .before .before .before .before .before .before .before .loop .inv .1) (c .before .before .before .before .before .before .before .before .before .before .row .ensures) (c .before .before .before .before .before .before .count .given .1) (omega (arith, c .before .before .before .before .if1 .left, c .before .before .before .before .before .before .before .before .before .before .before .before .loop .inv .0)))
 
 loop-again : tie.Need-loop-again Inv-loop μ-loop
-loop-again c = (c .before .before .before .before .before .before .before .before .before .before .before .before .loop .inv .0, rw (c .behind .ensures, c .before .before .row-end .ensures, c .before .seen .ensures) (turn-next (c .before .before .before .before .before .before .before .before .before .before .before .before .loop .inv .1) (c .before .before .before .before .before .before .before .before .before .before .row .ensures) (c .before .before .before .before .before .before .count .given .1) (omega (arith, c .before .before .before .before .if1 .left, c .before .before .before .before .before .before .before .before .before .before .before .before .loop .inv .0)) (c .before .before .before .before .before .before .before .before .before .changes .given)))
+loop-again c = (c .before .before .before .before .before .before .before .before .before .before .before .before .loop .inv .0, rw (c .behind .ensures, c .before .before .row-end .ensures, c .before .ever .ensures) (turn-next (c .before .before .before .before .before .before .before .before .before .before .before .before .loop .inv .1) (c .before .before .before .before .before .before .before .before .before .before .row .ensures) (c .before .before .before .before .before .before .count .given .1) (omega (arith, c .before .before .before .before .if1 .left, c .before .before .before .before .before .before .before .before .before .before .before .before .loop .inv .0)) (c .before .before .before .before .before .before .before .before .before .changes .given)))
 
 pub page-spec : {M : Type 1} → statement M
 page-spec =
@@ -101,12 +107,14 @@ page-spec =
     row-requires
     enum-known-number
     counts-requires
+    told-requires
     same-length
     same-length-2
     same-length-3
     returns
     enum-known-count
     counts-requires-2
+    told-requires-2
     same-length-4
     same-length-5
     same-length-6
@@ -117,7 +125,7 @@ page-spec =
     slice-write-ends
     cast-marks
     slice-write-marks
-    seen-requires
+    ever-requires
     behind-requires
     loop-less
     loop-again)
