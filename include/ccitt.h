@@ -169,7 +169,7 @@ ccitt_heads_answer ccitt_heads(uint32_t columns, const uint32_t *changes, size_t
                                int32_t quota);
 
 /* The numbers of a verdict on a faxed form. Up to 15 they are those of the list above: the reading's own answer, 10 for an encoding that is none, and
-   11, 13 and 12 as for the heads. They are tested in the order 32 to 40, 41, the reading's, 16, 17, 18, 11, 13, 19, 20 and 21, 22, 12. */
+   11, 13 and 12 as for the heads. They are tested in the order 32 to 40, 41, the reading's, 16, 17, 23, 18, 24, 11, 13, 19, 20 and 21, 22, 12. */
 enum {
     CCITT_COUNTED = 0,
     CCITT_OTHER_COLUMNS = 16, /* the page is read with other columns than the form's */
@@ -179,6 +179,8 @@ enum {
     CCITT_NOT_BLACK = 20,     /* a place that must be black is not */
     CCITT_NOT_WHITE = 21,     /* a place that must be white is not */
     CCITT_IN_DOUBT = 22,      /* a box with too many black pixels for none and too few for a tick */
+    CCITT_GAVE_UP = 23,       /* end-of-line marks were expected, and none was left before the page's end */
+    CCITT_NOT_PROPER = 24,    /* the form asks for proper pages, and the page's bits part from a writer's at bit `count` */
     /* of the form file's text */
     CCITT_NO_FORM_LINE = 32,      /* a line that is none of a form's */
     CCITT_SAID_TWICE = 33,        /* a line that says what a line above it says */

@@ -65,6 +65,14 @@ doubted : said (looked 22 0 0 0 0 54 6 60) ≡ ascii "b\t22\t-\t30\t22: the box 
 unfolding said looked ascii digits decimal S.fill S.shown S.pageLine P.words P.reasonAt P.plainAt books
 doubted = refl
 
+gave-up : said (looked 23 0 0 0 0 0 0 0) ≡ ascii "b\t23\t-\t30\t23: the page's end-of-line marks stop before its end\n"
+unfolding said looked ascii digits decimal S.fill S.shown S.pageLine P.words P.reasonAt P.plainAt books
+gave-up = refl
+
+not-proper : said (looked 24 0 0 0 0 871 0 0) ≡ ascii "b\t24\t-\t30\t24: the page's bits are not those that a fax machine writes for its rows: they part at bit 871\n"
+unfolding said looked ascii digits decimal S.fill S.shown S.pageLine P.words P.reasonAt P.plainAt books
+not-proper = refl
+
 bad-line : said (looked 32 0 7 0 0 0 0 0) ≡ ascii "b\t32\t-\t30\t32: the form's line 7 is none of a form\n"
 unfolding said looked ascii digits decimal S.fill S.shown S.pageLine P.words P.reasonAt P.plainAt books
 bad-line = refl

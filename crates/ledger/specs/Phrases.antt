@@ -68,6 +68,10 @@ words =
     "the place of the form's line F has C black pixels, and may have M at most" ∷
     -- 22
     "(said by its lines below)" ∷
+    -- 23
+    "the page's end-of-line marks stop before its end" ∷
+    -- 24
+    "the page's bits are not those that a fax machine writes for its rows: they part at bit C" ∷
     -- 32
     "the form's line F is none of a form" ∷
     -- 33
@@ -153,39 +157,39 @@ isUnits v = not (eqb (v .which % 2) 0)
 
 -- where the phrases of some numbers begin
 abbrev pub ticksSaid : ℕ
-ticksSaid = 47
+ticksSaid = 49
 
 abbrev pub mendedSaid : ℕ
-mendedSaid = 51
+mendedSaid = 53
 
 abbrev pub rowsSaid : ℕ
-rowsSaid = 55
+rowsSaid = 57
 
 abbrev pub uncleanSaid : ℕ
-uncleanSaid = 56
+uncleanSaid = 58
 
 abbrev pub doubtSaid : ℕ
-doubtSaid = 58
+doubtSaid = 60
 
 abbrev pub doubtAboveSaid : ℕ
-doubtAboveSaid = 60
+doubtAboveSaid = 62
 
 abbrev pub missingSaid : ℕ
-missingSaid = 61
+missingSaid = 63
 
 abbrev pub aloneSaid : ℕ
-aloneSaid = 65
+aloneSaid = 67
 
 -- for a number that no verdict on a page has
 abbrev pub noAnswerSaid : ℕ
 noAnswerSaid = 16
 
--- the phrase of a number by itself: they stand behind the eight of a line and the total, without the numbers from 23 to 31
+-- the phrase of a number by itself: they stand behind the eight of a line and the total, without the numbers from 25 to 31
 unfoldable pub plainAt : ℕ → ℕ
 plainAt n =
     elim (leb n lastOfPage) [
       | true ↦ 7 + n
-      | false ↦ elim (leb firstOfForm n && leb n lastVerdict) [ true ↦ n - 2 | false ↦ noAnswerSaid ]
+      | false ↦ elim (leb firstOfForm n && leb n lastVerdict) [ true ↦ n | false ↦ noAnswerSaid ]
     ]
 
 -- the page, the tick or the box that is missing

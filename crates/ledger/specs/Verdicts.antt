@@ -30,6 +30,14 @@ notWhite = 21
 abbrev pub inDoubt : ℕ
 inDoubt = 22
 
+-- the marks that end its lines were expected and then given up: the rows behind hang on all of its bytes (rules: specs/Standing.antt, `gaveUp`)
+abbrev pub eolsGivenUp : ℕ
+eolsGivenUp = 23
+
+-- it is not proper: its bytes are not what a writer writes for its rows (rules: specs/Proper.antt)
+abbrev pub notProper : ℕ
+notProper = 24
+
 -- ---- Of the form file: its lines
 
 -- none of a form's lines
@@ -103,7 +111,7 @@ cutFile = 48
 
 -- the last of the page's, the first of the form's, and the last of all
 abbrev pub lastOfPage : ℕ
-lastOfPage = 22
+lastOfPage = 24
 
 abbrev pub firstOfForm : ℕ
 firstOfForm = 32

@@ -54,7 +54,8 @@ pub struct Entered {
 // The numbers of the verdicts. Up to 15 they are the answers' (crate `answer`); those above are the desk's own.
 
 // Of the page: read with other columns than the form's, bytes left behind it, other rows than the form says, a row that the form
-// rests on and that is not clean, a place that is not black, not white, and a box in doubt.
+// rests on and that is not clean, a place that is not black, not white, a box in doubt, EOLs that were given up, and a page that is not
+// proper.
 pub const OTHER_COLUMNS: u32 = 16;
 
 pub const BYTES_BEHIND: u32 = 17;
@@ -68,6 +69,10 @@ pub const NOT_BLACK: u32 = 20;
 pub const NOT_WHITE: u32 = 21;
 
 pub const IN_DOUBT: u32 = 22;
+
+pub const GAVE_UP: u32 = 23;
+
+pub const NOT_PROPER: u32 = 24;
 
 // Of a line of the form file: none of a form's, one that says what another says, numbers out of order, a place too many.
 pub const NO_FORM_LINE: u32 = 32;

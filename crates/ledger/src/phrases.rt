@@ -5,32 +5,29 @@ ghost use Prim.Native.Nat.{_≤_};
 ghost use Rattle.ledger.specs.Phrases as Phrases;
 ghost use Rattle.ledger.specs.Phrases.{words, lined, plainAt, missingAt, isOfOneNumber, isOfNoLine, reasonAt};
 
-// How many phrases stand before those of the numbers from 1 on; by how much more the numbers pass those from 32 on; and the one for a
-// number that no verdict on a page has.
+// How many phrases stand before those of the numbers from 1 on, and the one for a number that no verdict on a page has.
 const BEFORE_REASONS: usize = 7;
-
-const FORM_REASONS: usize = 2;
 
 const NO_ANSWER: usize = 16;
 
 // Where the phrases of some numbers begin.
-const TICKS: usize = 47;
+const TICKS: usize = 49;
 
-const MENDED: usize = 51;
+const MENDED: usize = 53;
 
-const ROWS: usize = 55;
+const ROWS: usize = 57;
 
-const UNCLEAN: usize = 56;
+const UNCLEAN: usize = 58;
 
-const DOUBT: usize = 58;
+const DOUBT: usize = 60;
 
-const DOUBT_ABOVE: usize = 60;
+const DOUBT_ABOVE: usize = 62;
 
-const MISSING: usize = 61;
+const MISSING: usize = 63;
 
-pub(crate) const ALONE: usize = 65;
+pub(crate) const ALONE: usize = 67;
 
-pub(crate) fn phrases() -> [u8; 2669]
+pub(crate) fn phrases() -> [u8; 2807]
     ensures { λ r. ⌜ r ≡ lined words ⌝ }
 {
     *b"\tA\tH\tN\tcounted\n\
@@ -63,6 +60,8 @@ pub(crate) fn phrases() -> [u8; 2669]
         the place of the form's line F has C black pixels, and must have L or more\n\
         the place of the form's line F has C black pixels, and may have M at most\n\
         (said by its lines below)\n\
+        the page's end-of-line marks stop before its end\n\
+        the page's bits are not those that a fax machine writes for its rows: they part at bit C\n\
         the form's line F is none of a form\n\
         the form's line F says what a line above it says\n\
         the form's line F has numbers out of order\n\
@@ -109,11 +108,11 @@ pub(crate) fn one(b: bool) -> usize
     if b { 1 } else { 0 }
 }
 
-// The phrase of a number by itself.
+// The phrase of a number by itself. From 32 on it is the number of the phrase, too.
 fn plain_at(number: u32) -> usize
     ensures { λ r. ⌜ r ≡ plainAt number ⌝ }
 {
-    if number <= crate::IN_DOUBT {
+    if number <= crate::NOT_PROPER {
         return BEFORE_REASONS + number as usize;
     }
     if number < crate::NO_FORM_LINE {
@@ -122,7 +121,7 @@ fn plain_at(number: u32) -> usize
     if crate::CUT_FILE < number {
         return NO_ANSWER;
     }
-    number as usize - FORM_REASONS
+    number as usize
 }
 
 // The page, the tick or the box that is missing.

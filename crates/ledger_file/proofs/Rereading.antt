@@ -32,9 +32,9 @@ use Rattle.ledger_file.proofs.Tabless.{tabless, decimal-tabless, shown-
 
 plain-high : (n : ℕ) → (n ≡ 0 → ⊥) → 8 ≤ plainAt n
 unfolding plainAt
-plain-high n h = by (leb n 22) (leb 32 n) (leb n 48) (leb-true 32 n)
+plain-high n h = by (leb n 24) (leb 32 n) (leb n 48) (leb-true 32 n)
   where
-    by : (r s t : Bool) → (s ≡ true → 32 ≤ n) → 8 ≤ elim r [ true ↦ 7 + n | false ↦ elim (s && t) [ true ↦ n - 2 | false ↦ 16 ] ]
+    by : (r s t : Bool) → (s ≡ true → 32 ≤ n) → 8 ≤ elim r [ true ↦ 7 + n | false ↦ elim (s && t) [ true ↦ n | false ↦ 16 ] ]
     by true s t f = above n h
       where
         above : (k : ℕ) → (k ≡ 0 → ⊥) → 8 ≤ 7 + k
@@ -47,7 +47,7 @@ missing-high : (v : Verdict) → 8 ≤ missingAt v
 unfolding missingAt
 missing-high v = by (leb 20 (v .which)) (eqb (v .which) 20)
   where
-    by : (s t : Bool) → 8 ≤ elim s [ true ↦ elim t [ true ↦ 61 | false ↦ 62 ] | false ↦ 63 + one (isUnits v) ]
+    by : (s t : Bool) → 8 ≤ elim s [ true ↦ elim t [ true ↦ 63 | false ↦ 64 ] | false ↦ 65 + one (isUnits v) ]
     by true true = omega arith
     by true false = omega arith
     by false t = omega arith

@@ -37,6 +37,9 @@ pub(crate) fn came(told: Told, may: u32) -> Outcome {
     if number <= ledger::IN_DOUBT {
         return Outcome::ByPixels;
     }
+    if number <= ledger::NOT_PROPER {
+        return Outcome::ByPage;
+    }
     Outcome::Wrong
 }
 

@@ -92,6 +92,13 @@ pub enum Reason {
         /// From how many on it is ticked.
         tick: u64,
     },
+    /// End-of-line marks were expected, and none was left before the page's end (23): its rows hang on all of its bytes.
+    GaveUp,
+    /// The form asks for proper pages, and the page's bits are not those that a writer writes for its rows (24).
+    NotProper {
+        /// The first bit at which they part.
+        place: u64,
+    },
     /// A number that has no case here. It stands beside the reason.
     Other,
 }
@@ -117,6 +124,8 @@ impl Reason {
             VerdictAnswer::NOT_BLACK => Self::NotBlack { line, count, least },
             VerdictAnswer::NOT_WHITE => Self::NotWhite { line, count, most },
             VerdictAnswer::IN_DOUBT => Self::InDoubt { tick_box: BoxName::of(which), count, doubt: least, tick: most },
+            VerdictAnswer::GAVE_UP => Self::GaveUp,
+            VerdictAnswer::NOT_PROPER => Self::NotProper { place: count },
             _ => FormFault::of(answer).map_or(Self::Other, Self::Form),
         }
     }
@@ -151,6 +160,10 @@ impl Display for Reason {
             Self::InDoubt { tick_box, count, doubt, tick } => {
                 write!(f, "the box of {tick_box} has {count} black pixels: in doubt from {doubt} on, ticked from {tick} on")
             }
+            Self::GaveUp => write!(f, "the page's end-of-line marks stop before its end"),
+            Self::NotProper { place } => {
+                write!(f, "the page's bits are not those that a fax machine writes for its rows: they part at bit {place}")
+            }
             Self::Other => write!(f, "a number that has no words here"),
         }
     }
@@ -175,7 +188,7 @@ mod tests {
             for which in [0, 19, 20, 21, u32::MAX] {
                 let reason = Reason::of(&VerdictAnswer { number, which, count: u64::MAX, ..VerdictAnswer::default() });
                 assert!(!alloc::format!("{reason}").is_empty());
-                let has_none = matches!(number, 8..=11 | 15 | 23..=31 | 39 | 42..);
+                let has_none = matches!(number, 8..=11 | 15 | 25..=31 | 39 | 42..);
                 assert_eq!(reason == Reason::Other, has_none, "{number}");
             }
         }
