@@ -11,12 +11,12 @@ use Rattle.heads.specs.Form.{all}
 use Rattle.heads.specs.Numbers.{boxIn}
 use Rattle.listing_text.specs.Text.{ascii}
 use Rattle.form_file.specs.Words.{isBlank, same, valuesOf}
-use Rattle.form_file.specs.Said.{boxSaid, pageSaid, oneSaid, placeSaid, whiteKind, blackKind, byWord, lineSays}
+use Rattle.form_file.specs.Said.{boxSaid, pageSaid, oneSaid, placeSaid, properSaid, whiteKind, blackKind, byWord, lineSays}
 use Rattle.form_file.specs.Steps.{ahead, isLetter, wordsIn, isHeld, Numbers, Valued}
 use Rattle.form_file.proofs.Ahead.{past-in, past-stops}
 use Rattle.form_file.proofs.Wording.{words-skip, words-done, words-next, word-some}
 use Rattle.form_file.specs.declared.said.Said.{Said}
-use Rattle.form_file.specs.declared.said.Said.the-variants.{Nothing as nothing, Square as box, Page as page, Tick as tick, Doubt as doubt, Place as place, Wrong as wrong}
+use Rattle.form_file.specs.declared.said.Said.the-variants.{Nothing as nothing, Square as box, Page as page, Tick as tick, Doubt as doubt, Place as place, Proper as proper, Wrong as wrong}
 use Rattle.form_file.specs.declared.said.Values.{Values}
 
 -- ---- By the numbers
@@ -50,6 +50,12 @@ module _ (v : Values) (ns : List ℕ) (h : Numbers v ns) where
   place-said kind e =
       rw (placeSaid, many 5 e)
       (cc (h .first 0 (omega arith), h .first 1 (omega arith), h .first 2 (omega arith), h .first 3 (omega arith), h .first 4 (omega arith)))
+
+  pub proper-wrong : (v .count ≡ 0 → ⊥) → wrong ≡ properSaid ns
+  proper-wrong n = rw (properSaid, other 0 n)
+
+  pub proper-said : v .count ≡ 0 → proper ≡ properSaid ns
+  proper-said e = rw (properSaid, many 0 e)
 
   pub box-wrong : (column : ℕ) → (v .count ≡ 5 → ⊥) → wrong ≡ boxSaid column ns
   box-wrong column n = rw (boxSaid, other 5 n)
@@ -86,6 +92,9 @@ Not6 word = Not5 word × (same word (ascii "black") ≡ false)
 abbrev pub Not7 : List ℕ → Type 0
 Not7 word = Not6 word × (same word (ascii "white") ≡ false)
 
+abbrev pub Not8 : List ℕ → Type 0
+Not8 word = Not7 word × (same word (ascii "proper") ≡ false)
+
 module _ (word ns : List ℕ) (r : Said) where
   pub by-tens : same word (ascii "tens") ≡ true → r ≡ boxSaid 0 ns → r ≡ byWord word ns
   unfolding byWord
@@ -115,9 +124,14 @@ module _ (word ns : List ℕ) (r : Said) where
   unfolding byWord
   by-white n e h = rw (byWord, n .0 .0 .0 .0 .0, n .0 .0 .0 .0 .1, n .0 .0 .0 .1, n .0 .0 .1, n .0 .1, n .1, e) h
 
-  pub by-none : Not7 word → r ≡ wrong → r ≡ byWord word ns
+  pub by-proper : Not7 word → same word (ascii "proper") ≡ true → r ≡ properSaid ns → r ≡ byWord word ns
   unfolding byWord
-  by-none n h = rw (byWord, n .0 .0 .0 .0 .0 .0, n .0 .0 .0 .0 .0 .1, n .0 .0 .0 .0 .1, n .0 .0 .0 .1, n .0 .0 .1, n .0 .1, n .1) h
+  by-proper n e h = rw (byWord, n .0 .0 .0 .0 .0 .0, n .0 .0 .0 .0 .0 .1, n .0 .0 .0 .0 .1, n .0 .0 .0 .1, n .0 .0 .1, n .0 .1, n .1, e) h
+
+  pub by-none : Not8 word → r ≡ wrong → r ≡ byWord word ns
+  unfolding byWord
+  by-none n h =
+      rw (byWord, n .0 .0 .0 .0 .0 .0 .0, n .0 .0 .0 .0 .0 .0 .1, n .0 .0 .0 .0 .0 .1, n .0 .0 .0 .0 .1, n .0 .0 .0 .1, n .0 .0 .1, n .0 .1, n .1) h
 
 -- ---- A line
 

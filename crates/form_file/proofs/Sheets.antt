@@ -34,7 +34,7 @@ small : List ℕ
 small = ascii "page 4 10 # columns, rows\ntick 1\nblack 3 4 0 1 1\nwhite 3 4 1 10 0\n" ++ boxLines
 
 smallForm : Form
-smallForm = record { columns = 4; least = 10; most = 10; tick = 1; doubt = 1; places = 2 }
+smallForm = record { columns = 4; least = 10; most = 10; tick = 1; doubt = 1; places = 2; proper = false }
 
 -- what is lent for the boxes
 lent : List ℕ
@@ -47,6 +47,14 @@ formed f = record { number = 0; which = 0; line = 0; form = f }
 sound : readForm small lent 14 .formed ≡ formed smallForm
 unfolding small smallForm formed boxLines boxLinesAt tensLines unitsLines lent ascii readForm hearing whole firstMissing lineSays byWord setFour pieces uncommented filled same valueFrom valuesOf firstOf all
 sound = refl
+
+-- and one that asks for proper pages alone
+properForm : Form
+properForm = record { columns = 4; least = 10; most = 10; tick = 1; doubt = 1; places = 2; proper = true }
+
+only-proper : readForm (ascii "proper\n" ++ small) lent 14 .formed ≡ formed properForm
+unfolding small properForm formed boxLines boxLinesAt tensLines unitsLines lent ascii readForm hearing whole firstMissing lineSays byWord setFour pieces uncommented filled same valueFrom valuesOf firstOf all
+only-proper = refl
 
 -- the numbers of the places: black, its edges, the count and the line; and then those of the second
 places : readForm small lent 14 .places ≡ 1 ∷ 3 ∷ 4 ∷ 0 ∷ 1 ∷ 1 ∷ 3 ∷ 0 ∷ 3 ∷ 4 ∷ 1 ∷ 10 ∷ 0 ∷ 4 ∷ []
@@ -83,6 +91,14 @@ no-number = refl
 twice : bad (ascii "units 3 0 1 0 1\nunits 3 0 1 0 1\n") 33 7 2
 unfolding bad lent ascii readForm hearing whole firstMissing lineSays byWord setFour pieces uncommented filled same valueFrom valuesOf firstOf all
 twice = refl
+
+proper-twice : bad (ascii "proper\ntick 1\nproper # again\n") 33 0 3
+unfolding bad lent ascii readForm hearing whole firstMissing lineSays byWord setFour pieces uncommented filled same valueFrom valuesOf firstOf all
+proper-twice = refl
+
+proper-number : bad (ascii "proper 1\n") 32 0 1
+unfolding bad lent ascii readForm hearing whole firstMissing lineSays byWord setFour pieces uncommented filled same valueFrom valuesOf firstOf all
+proper-number = refl
 
 empty : bad (ascii "white 5 5 0 1 9\n") 34 0 1
 unfolding bad lent ascii readForm hearing whole firstMissing lineSays byWord setFour pieces uncommented filled same valueFrom valuesOf firstOf all

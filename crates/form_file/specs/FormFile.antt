@@ -78,7 +78,8 @@ faulty number which line = record { number = number; which = which; line = line;
 
 -- "if missing the tick's"
 abbrev pub doubted : Form → Form
-doubted f = formOf (f .columns) (f .least) (f .most) (f .tick) (elim (eqb (f .doubt) 0) [ true ↦ f .tick | false ↦ f .doubt ]) (f .places)
+doubted f =
+    formOf (f .columns) (f .least) (f .most) (f .tick) (elim (eqb (f .doubt) 0) [ true ↦ f .tick | false ↦ f .doubt ]) (f .places) (f .proper)
 
 -- the number of no box, for a fault that is about a place
 abbrev pub noBox : ℕ

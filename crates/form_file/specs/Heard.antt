@@ -8,9 +8,9 @@ use Rattle.heads.specs.declared.Box.{Box}
 use Rattle.ledger.specs.Verdicts.{noFormLine, saidTwice, badNumbers, tooManyPlaces}
 use Rattle.form_file.specs.declared.Form.{Form}
 use Rattle.form_file.specs.declared.said.Said.{Said}
-use Rattle.form_file.specs.declared.said.Said.the-variants.{Nothing as nothing, Square as box, Page as page, Tick as tick, Doubt as doubt, Place as place, Wrong as wrong}
+use Rattle.form_file.specs.declared.said.Said.the-variants.{Nothing as nothing, Square as box, Page as page, Tick as tick, Doubt as doubt, Place as place, Proper as proper, Wrong as wrong}
 
--- The numbers of a form, 0 until they are said; the four edges of each box, and the line at which it stands, 0 where it stands at none; the places, with seven numbers for each:
+-- The numbers of a form, 0 until they are said, and whether it asks for proper pages; the four edges of each box, and the line at which it stands, 0 where it stands at none; the places, with seven numbers for each:
 -- kind, edges, count and line.
 pub record Heard : Type 0 where
   pub form : Form
@@ -18,11 +18,12 @@ pub record Heard : Type 0 where
   pub lines : List ℕ
   pub places : List ℕ
 
-abbrev pub formOf : ℕ → ℕ → ℕ → ℕ → ℕ → ℕ → Form
-formOf columns least most ticked doubted places = record { columns = columns; least = least; most = most; tick = ticked; doubt = doubted; places = places }
+abbrev pub formOf : ℕ → ℕ → ℕ → ℕ → ℕ → ℕ → Bool → Form
+formOf columns least most ticked doubted places only-proper =
+    record { columns = columns; least = least; most = most; tick = ticked; doubt = doubted; places = places; proper = only-proper }
 
 abbrev pub noForm : Form
-noForm = formOf 0 0 0 0 0 0
+noForm = formOf 0 0 0 0 0 0 false
 
 -- before the first line: a box of which no line says anything keeps the numbers that were lent
 abbrev pub unheard : List ℕ → Heard
@@ -67,7 +68,7 @@ heard room line h (page columns least most) =
       | true ↦
           elim (ltb 0 columns && (ltb 0 least && leb least most)) [
             | false ↦ fault badNumbers 0
-            | true ↦ on (withForm h (formOf columns least most (h .form .tick) (h .form .doubt) (h .form .places)))
+            | true ↦ on (withForm h (formOf columns least most (h .form .tick) (h .form .doubt) (h .form .places) (h .form .proper)))
           ]
     ]
 heard room line h (tick n) =
@@ -76,7 +77,7 @@ heard room line h (tick n) =
       | true ↦
           elim (ltb 0 n) [
             | false ↦ fault badNumbers 0
-            | true ↦ on (withForm h (formOf (h .form .columns) (h .form .least) (h .form .most) n (h .form .doubt) (h .form .places)))
+            | true ↦ on (withForm h (formOf (h .form .columns) (h .form .least) (h .form .most) n (h .form .doubt) (h .form .places) (h .form .proper)))
           ]
     ]
 heard room line h (doubt n) =
@@ -85,7 +86,7 @@ heard room line h (doubt n) =
       | true ↦
           elim (ltb 0 n) [
             | false ↦ fault badNumbers 0
-            | true ↦ on (withForm h (formOf (h .form .columns) (h .form .least) (h .form .most) (h .form .tick) n (h .form .places)))
+            | true ↦ on (withForm h (formOf (h .form .columns) (h .form .least) (h .form .most) (h .form .tick) n (h .form .places) (h .form .proper)))
           ]
     ]
 heard room line h (place kind b n) =
@@ -96,10 +97,15 @@ heard room line h (place kind b n) =
             | false ↦ fault badNumbers 0
             | true ↦
                 on (record {
-                  form = formOf (h .form .columns) (h .form .least) (h .form .most) (h .form .tick) (h .form .doubt) (suc (h .form .places));
+                  form = formOf (h .form .columns) (h .form .least) (h .form .most) (h .form .tick) (h .form .doubt) (suc (h .form .places)) (h .form .proper);
                   boxes = h .boxes;
                   lines = h .lines;
                   places = h .places ++ placeNumbers kind b n line;
                 })
           ]
+    ]
+heard room line h proper =
+    elim (h .form .proper) [
+      | true ↦ fault saidTwice 0
+      | false ↦ on (withForm h (formOf (h .form .columns) (h .form .least) (h .form .most) (h .form .tick) (h .form .doubt) (h .form .places) true))
     ]

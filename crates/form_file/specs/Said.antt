@@ -9,7 +9,7 @@ use Rattle.heads.specs.Form.{all}
 use Rattle.heads.specs.Numbers.{boxIn}
 use Rattle.form_file.specs.Words.{same, none, valuesOf}
 use Rattle.form_file.specs.declared.said.Said.{Said}
-use Rattle.form_file.specs.declared.said.Said.the-variants.{Nothing as nothing, Square as box, Page as page, Tick as tick, Doubt as doubt, Place as place, Wrong as wrong}
+use Rattle.form_file.specs.declared.said.Said.the-variants.{Nothing as nothing, Square as box, Page as page, Tick as tick, Doubt as doubt, Place as place, Proper as proper, Wrong as wrong}
 
 -- `tens D LEFT RIGHT TOP BOTTOM`, `units D ..`: the box of a digit. A box has the number 2 × digit, and one more in the units' column.
 abbrev pub boxSaid : ℕ → List ℕ → Said
@@ -32,6 +32,10 @@ oneSaid said ns = elim (eqb (length ns) 1) [ true ↦ said (getD ns 0 0) | false
 -- `black LEFT RIGHT TOP BOTTOM N`, `white ..`: "a place on the form that must have at least, at most N black pixels"
 abbrev pub placeSaid : ℕ → List ℕ → Said
 placeSaid kind ns = elim (eqb (length ns) 5) [ true ↦ place kind (boxIn ns 0) (getD ns 4 0) | false ↦ wrong ]
+
+-- `proper`, and no number: a page is to be, to the last bit, what a fax machine writes for its rows
+abbrev pub properSaid : List ℕ → Said
+properSaid ns = elim (eqb (length ns) 0) [ true ↦ proper | false ↦ wrong ]
 
 abbrev pub whiteKind : ℕ
 whiteKind = 0
@@ -59,7 +63,10 @@ byWord word ns =
                                   elim (same word (ascii "black")) [
                                     | true ↦ placeSaid blackKind ns
                                     | false ↦
-                                        elim (same word (ascii "white")) [ true ↦ placeSaid whiteKind ns | false ↦ wrong ]
+                                        elim (same word (ascii "white")) [
+                                          | true ↦ placeSaid whiteKind ns
+                                          | false ↦ elim (same word (ascii "proper")) [ true ↦ properSaid ns | false ↦ wrong ]
+                                        ]
                                   ]
                             ]
                       ]

@@ -8,7 +8,7 @@ ghost use lib.ListN.{length, set};
 ghost use Rattle.form_file.specs.Heard as Heard;
 ghost use Rattle.form_file.specs.Heard.{setFour};
 ghost use Rattle.form_file.specs.Going.{Gone, FormGoes, BoxGoes, PlaceGoes, Lent, boxOf};
-ghost use Rattle.form_file.specs.declared.said.Said.the-variants.{Square, Page, Tick, Doubt, Place};
+ghost use Rattle.form_file.specs.declared.said.Said.the-variants.{Square, Page, Tick, Doubt, Place, Proper};
 
 // What a line leaves: the form with what it says, or the number of a fault and the box that it is about.
 pub(crate) enum Went {
@@ -91,6 +91,7 @@ fn heard_page(form: Form, columns: u32, least: u32, most: u32) -> Went
         tick: form.tick,
         doubt: form.doubt,
         places: form.places,
+        proper: form.proper,
     })
 }
 
@@ -110,6 +111,7 @@ fn heard_tick(form: Form, n: u32) -> Went
         tick: n,
         doubt: form.doubt,
         places: form.places,
+        proper: form.proper,
     })
 }
 
@@ -129,6 +131,7 @@ fn heard_doubt(form: Form, n: u32) -> Went
         tick: form.tick,
         doubt: n,
         places: form.places,
+        proper: form.proper,
     })
 }
 
@@ -159,6 +162,24 @@ fn heard_place(
         tick: form.tick,
         doubt: form.doubt,
         places: form.places + 1,
+        proper: form.proper,
+    })
+}
+
+fn heard_proper(form: Form) -> Went
+    ensures { λ r. ⌜ FormGoes form Proper r ⌝ }
+{
+    if form.proper {
+        return Went::Fault(ledger::SAID_TWICE, 0);
+    }
+    Went::On(Form {
+        columns: form.columns,
+        least: form.least,
+        most: form.most,
+        tick: form.tick,
+        doubt: form.doubt,
+        places: form.places,
+        proper: true,
     })
 }
 
@@ -182,6 +203,7 @@ pub(crate) fn heard(
         Said::Tick(n) => heard_tick(form, n),
         Said::Doubt(n) => heard_doubt(form, n),
         Said::Place(kind, b, n) => heard_place(room, form, line, kind, b, n, places),
+        Said::Proper => heard_proper(form),
         Said::Wrong => Went::Fault(ledger::NO_FORM_LINE, 0),
     }
 }

@@ -15,7 +15,7 @@ ghost use Rattle.form_file.specs.FormFile.{Forms, placesFor, textStart};
 ghost use Rattle.form_file.specs.Going.{Hearable, Leaves, heardFrom};
 
 // The numbers of a form: the columns and the rows of its page, the black pixels from which a box is ticked, and from which it is in
-// doubt; how many places it has.
+// doubt; how many places it has. And whether it asks for proper pages alone.
 #[repr(C)]
 pub struct Form {
     pub columns: u32,
@@ -24,6 +24,7 @@ pub struct Form {
     pub tick: u32,
     pub doubt: u32,
     pub places: u32,
+    pub proper: bool,
 }
 
 // A form file that was read: 0 and the form; or what is wrong, with the box and the line that it is about.
@@ -84,6 +85,7 @@ fn hear(
         tick: 0,
         doubt: 0,
         places: 0,
+        proper: false,
     };
     let mut line: u32 = 0;
     let mut at = from;

@@ -6,7 +6,7 @@ ghost use mathlib.Core.List.{List};
 ghost use Prim.Native.Nat.{ℕ, _≤_};
 ghost use lib.ListN.{length, drop};
 ghost use Rattle.form_file.specs.Words.{wordsOf, valuesOf};
-ghost use Rattle.form_file.specs.Said.{boxSaid, pageSaid, oneSaid, placeSaid, byWord, lineSays};
+ghost use Rattle.form_file.specs.Said.{boxSaid, pageSaid, oneSaid, placeSaid, properSaid, byWord, lineSays};
 ghost use Rattle.form_file.specs.declared.said.Said.the-variants.{Tick as tick, Doubt as doubt};
 ghost use Rattle.form_file.specs.Steps.{wordsIn, Numbers, Valued};
 
@@ -23,6 +23,7 @@ pub enum Said {
     Tick(u32),
     Doubt(u32),
     Place(u32, Box, u32),
+    Proper,
     Wrong,
 }
 
@@ -128,6 +129,16 @@ fn doubt_in(v: Values) -> Said
     Said::Doubt(n[0])
 }
 
+// `proper`: no number.
+fn proper_in(v: Values) -> Said
+    ensures { λ r. ⌜ ((ns : List ℕ) → Numbers v ns → r ≡ properSaid ns) ⌝ }
+{
+    if v.count != 0 {
+        return Said::Wrong;
+    }
+    Said::Proper
+}
+
 // What a line says whose first word is this one, and all others are numbers.
 fn by_word(word: &[u8], v: Values) -> Said
     ensures { λ r. ⌜ ((ns : List ℕ) → Numbers v ns → r ≡ byWord (now (word .entry)) ns) ⌝ }
@@ -152,6 +163,9 @@ fn by_word(word: &[u8], v: Values) -> Said
     }
     if words::same(word, b"white") {
         return place_in(WHITE, v);
+    }
+    if words::same(word, b"proper") {
+        return proper_in(v);
     }
     Said::Wrong
 }

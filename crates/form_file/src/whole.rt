@@ -37,6 +37,7 @@ pub(crate) fn faulty(number: u32, which: u32, line: u32) -> Formed
             tick: 0,
             doubt: 0,
             places: 0,
+            proper: false,
         },
     }
 }
@@ -180,6 +181,7 @@ fn doubted(form: Form) -> Form
         tick: form.tick,
         doubt,
         places: form.places,
+        proper: form.proper,
     }
 }
 

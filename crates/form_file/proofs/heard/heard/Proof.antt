@@ -43,8 +43,14 @@ enum-known-said-5 c = search needs
 heard-place-requires : tie.Need-heard-place-requires
 heard-place-requires c κs = search needs
 
+heard-proper-requires : tie.Need-heard-proper-requires
+heard-proper-requires c κs = search needs
+
 enum-told-2 : tie.Need-enum-told-2
 enum-told-2 c = search needs
+
+enum-told-3 : tie.Need-enum-told-3
+enum-told-3 c = search needs
 
 returns : tie.Need-returns
 returns c = rw (c .enum-told .given .1) (record { is = refl; more = omega arith; fits = c .before .before .before .before .before .pre .0 .fits; behind = refl })
@@ -74,7 +80,10 @@ returns-6 : tie.Need-returns-6
 returns-6 c = rw (c .before .before .before .before .before .said5 .given .1) (c .before .before .heard-place .ensures (now (c .before .before .before .before .before .before .before .before .before .before .args .boxes)) (now (c .before .before .before .before .before .before .before .before .before .before .args .lines)) (c .before .before .before .before .before .before .before .before .before .before .pre .0 .fits))
 
 returns-7 : tie.Need-returns-7
-returns-7 c = rw (c .enum-told2 .given .1) (record { is = refl; boxes-same = refl; places-same = refl })
+returns-7 c = rw (c .before .enum-told2 .given .1) (c .heard-proper .ensures (c .before .before .before .before .before .before .args .room) (c .before .before .before .before .before .before .args .line) (now (c .before .before .before .before .before .before .args .boxes)) (now (c .before .before .before .before .before .before .args .lines)) (now (c .before .before .before .before .before .before .args .places)) (c .before .before .before .before .before .before .pre .0 .fits))
+
+returns-8 : tie.Need-returns-8
+returns-8 c = rw (c .enum-told3 .given .1) (record { is = refl; boxes-same = refl; places-same = refl })
 
 pub heard-spec : {M : Type 1} → statement M
 heard-spec =
@@ -92,6 +101,8 @@ heard-spec =
     enum-known-said-5
     heard-place-requires
     enum-told-2
+    heard-proper-requires
+    enum-told-3
     returns
     same-length
     same-length-2
@@ -101,4 +112,5 @@ heard-spec =
     returns-5
     same-length-3
     returns-6
-    returns-7)
+    returns-7
+    returns-8)

@@ -4,7 +4,7 @@ use mathlib.Core.List.{List}
 use Prim.Native.Nat.{ℕ}
 use denote.Ref.{now}
 use Rattle.listing_text.specs.Text.{ascii}
-use Rattle.form_file.proofs.Saying.{Not1, Not2, Not3, Not4, Not5, Not6, Not7, by-tens, by-units, by-page, by-tick, by-doubt, by-black, by-white, by-none}
+use Rattle.form_file.proofs.Saying.{Not1, Not2, Not3, Not4, Not5, Not6, Not7, Not8, by-tens, by-units, by-page, by-tick, by-doubt, by-black, by-white, by-proper, by-none}
 use borrow.Author.Needs.{needs}
 use Rattle.form_file.proofs.said.by_word.Statement.{statement}
 use Rattle.form_file.proofs.said.by_word.Tie as tie
@@ -30,6 +30,9 @@ word6 c = word5 (c .before .before .before)
 
 abbrev word7 : tie.Else7 → List ℕ
 word7 c = word6 (c .before .before .before)
+
+abbrev word8 : tie.Else8 → List ℕ
+word8 c = word7 (c .before .before .before)
 
 -- and which words it is not
 not1 : (c : tie.Else1) → Not1 (word1 c)
@@ -59,6 +62,10 @@ not6 c = (not5 (c .before .before .before), sym (c .before .same6 .ensures) ∙ 
 not7 : (c : tie.Else7) → Not7 (word7 c)
 unfolding ascii
 not7 c = (not6 (c .before .before .before), sym (c .before .same7 .ensures) ∙ c .if7 .left)
+
+not8 : (c : tie.Else8) → Not8 (word8 c)
+unfolding ascii
+not8 c = (not7 (c .before .before .before), sym (c .before .same8 .ensures) ∙ c .if8 .left)
 
 slice-aggregate-same : tie.Need-slice-aggregate-same
 slice-aggregate-same c = search needs
@@ -151,8 +158,21 @@ returns-7 : tie.Need-returns-7
 unfolding ascii
 returns-7 c = λ ns h. by-white (word6 (c .before .before .before .before)) ns _ (not6 (c .before .before .before .before)) (sym (c .before .before .same7 .ensures) ∙ c .before .if7 .taken) (c .place-in2 .ensures ns h)
 
+slice-aggregate-same-8 : tie.Need-slice-aggregate-same-8
+slice-aggregate-same-8 c = search needs
+
+same-requires-8 : tie.Need-same-requires-8
+same-requires-8 c κs = search needs
+
+proper-in-requires : tie.Need-proper-in-requires
+proper-in-requires c κs = search needs
+
 returns-8 : tie.Need-returns-8
-returns-8 c = λ ns h. by-none (word7 c) ns _ (not7 c) refl
+unfolding ascii
+returns-8 c = λ ns h. by-proper (word7 (c .before .before .before .before)) ns _ (not7 (c .before .before .before .before)) (sym (c .before .before .same8 .ensures) ∙ c .before .if8 .taken) (c .proper-in .ensures ns h)
+
+returns-9 : tie.Need-returns-9
+returns-9 c = λ ns h. by-none (word8 c) ns _ (not8 c) refl
 
 pub by-word-spec : {M : Type 1} → statement M
 by-word-spec =
@@ -186,4 +206,8 @@ by-word-spec =
     same-requires-7
     place-in-requires-2
     returns-7
-    returns-8)
+    slice-aggregate-same-8
+    same-requires-8
+    proper-in-requires
+    returns-8
+    returns-9)
