@@ -1,0 +1,2 @@
+-- Laws over plain variables, which the proofs of the functions cite.
+pub mod Checking
