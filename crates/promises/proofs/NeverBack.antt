@@ -7,22 +7,24 @@ use native.Mathlib.Omega.{arith}
 use lib.ListN.{length, take, length-append}
 use lib.Seq.{take-at}
 use Rattle.rules.specs.Answers.{moreToCome, mostPixels}
-use Rattle.rules.specs.Machine.{Out, more, andThen, run}
+use Rattle.rules.specs.Machine.{Out, more, done, andThen, run}
 use Rattle.rules.specs.Bits.{bitsOf}
 use Rattle.rules.specs.Rows.{Settings}
 use Rattle.rules.specs.Pages as Rules
 use Rattle.rules.specs.Pages.{Kept, noneKept, withRow, pageStep, rowOf, strictIfExact, mostBytes, decode}
 use Rattle.rules.specs.ByRow as Rule
 use Rattle.rules.specs.ByRow.{Caller, callStep, between}
-use Rattle.rules.specs.Standing.{WasRead, SettledBy}
+use Rattle.rules.specs.Standing.{WasRead, SettledBy, KeepsEols, lastOr}
 use Rattle.rules.proofs.Agree.{Agree}
 use Rattle.rules.proofs.Budget.{whole-bytes}
 use Rattle.rules.proofs.Answers.{Refuses, too-wide, too-long, no-columns, Allowed, decode-cases}
 use Rattle.rules.proofs.Pages.{page-cases}
 use Rattle.rules.proofs.ByRow.{Own, own-start}
-use Rattle.rules.proofs.Standing.{agree-of, Stands, SettledIn, stands-as, settled-inside, Fronts, never-back, Begun, last-snoc, sure-stands, read-stands}
+use Rattle.rules.proofs.Standing.{agree-of, Stands, SettledIn, stands-as, settled-inside, Fronts, never-back, Begun, last-snoc, kept-counted, sure-stands, read-stands}
 use Rattle.rules.proofs.StandingCalls.{KeptEols, call-same, step-own, step-ahead, last-same, followed-same, sure-gave}
-use Rattle.rules.proofs.Blamed.{decode-refused}
+use Rattle.rules.proofs.GivenUp.{sure-gave-none, none-gave-stays}
+use Rattle.rules.proofs.Blamed.{decode-refused, decode-watched-refused}
+use Rattle.rules.proofs.Lost.{decode-lost}
 use Rattle.answer.specs.declared.Answer.{Answer}
 use Rattle.settings.specs.declared.DecodeSettings.{DecodeSettings}
 use Rattle.settings.specs.Settings.{settingsOf}
@@ -30,7 +32,7 @@ use Rattle.by_row.specs.declared.RowState.{RowState}
 use Rattle.by_row.specs.ByRow.{sideOf, rowStateOf, Gives}
 use Rattle.promises.specs.Rooms.{Call, places, rowsOf, marksOf, Reading}
 use Rattle.promises.specs.ByRow.{RowCall, RowReading, numberOf, markOf, changesOf, Handed, Follows}
-use Rattle.promises.specs.NeverBack.{readAs, SureFor, EolsStay, AllStay, DamageNeverReachesBack, CallNeverReachesBack, SameFirst, PageNeverReachesBack, RefusedRowsStand}
+use Rattle.promises.specs.NeverBack.{readAs, SureFor, EolsStay, AllStay, Reaches, SameRoom, DamageNeverReachesBack, CallNeverReachesBack, SameFirst, PageNeverReachesBack, RefusedRowsStand, SureGivesNoneUp, WatchedNeverReachesBack, WatchedRefusedRowsStand, OnlyWithoutEols}
 use Rattle.promises.proofs.Rooms.{answerIn, rows-are, marks-are, as-many}
 use Rattle.promises.proofs.ByRow.{both, told, number-is, at, handed-at, step-more, Passed, passed, last-reads, sound-passes}
 
@@ -195,26 +197,22 @@ module _ (c d : Call) (a b : Rules.Answer) (bytes bytes′ : List ℕ) (settings
       counted′ : d .answer .rows ≡ length (rows ++ rest′)
       counted′ = ap (λ (z : Answer). z .rows) (g′ .answer) ∙ ap length (ap (λ (z : Rules.Answer). z .rows) is′ ∙ x′)
 
--- so many steps keep so many rows, with as many marks
+-- one step, and a run of one
 module _ (S : Settings) (wide : 0 < S .columns) (bytes : List ℕ) (store places : ℕ) where
   abbrev step : Kept → Out Kept Rules.Answer
   step = pageStep (rowOf (S .encoding) S (bitsOf bytes)) store places
 
-  kept-counted : (n : ℕ) (j k : Kept) → run step n j ≡ more k → (length (k .rows) ≡ length (j .rows) + n) × (length (k .marks) ≡ length (j .marks) + n)
-  unfolding run
-  kept-counted zero j k = λ q. let y : j ≡ k = cc in (omega (arith, ap (λ (x : Kept). length (x .rows)) y), omega (arith, ap (λ (x : Kept). length (x .marks)) y))
-  kept-counted (suc n) j k =
-      page-cases (S .encoding) S wide (bitsOf bytes) (whole-bytes bytes) store places j
-      (λ o. andThen o (run step n) ≡ more k → (length (k .rows) ≡ length (j .rows) + suc n) × (length (k .marks) ≡ length (j .marks) + suc n))
-      (λ r mark next e l q.
-      let c = kept-counted n (withRow j r mark next) k q in
-      (omega (arith, c .0, length-append (j .rows) (r ∷ [])), omega (arith, c .1, length-append (j .marks) (mark ∷ []))))
-      (λ r mark next e l q. absurd (let z : _≡_ {A = ℕ} 0 1 = cc in omega arith))
-      (λ m place b loose e q. absurd (let z : _≡_ {A = ℕ} 0 1 = cc in omega arith))
-
   one-step : (k : Kept) → step noneKept ≡ more k → run step 1 noneKept ≡ more k
   unfolding run
   one-step k e = rw e
+
+  step-one : (k : Kept) → run step 1 noneKept ≡ more k → step noneKept ≡ more k
+  unfolding run
+  step-one k = cases (step noneKept)
+    where
+      cases : (o : Out Kept Rules.Answer) → andThen o (run step 0) ≡ more k → o ≡ more k
+      cases (more j) e = e
+      cases (done a) e = e
 
 pub page-never-back : PageNeverReachesBack
 unfolding run
@@ -240,7 +238,7 @@ page-never-back p bytes bytes′ settings small-columns agree small′ c d g g�
     narrow = let z : S .columns ≡ mostPixels → ⊥ = allowed .narrow in omega arith
 
     counted : (length (k .rows) ≡ suc n) × (length (k .marks) ≡ suc n)
-    counted = let r = kept-counted (readAs settings) (allowed .wide) bytes store spots (suc n) noneKept k q in (omega (arith, r .0), omega (arith, r .1))
+    counted = let r = kept-counted (S .encoding) (readAs settings) (allowed .wide) (bitsOf bytes) (whole-bytes bytes) store spots (suc n) noneKept k q in (omega (arith, r .0), omega (arith, r .1))
 
     stands : Stands (SettledIn p (bitsOf bytes)) (rowOf (S .encoding) (strictIfExact S) (bitsOf bytes)) store spots noneKept k
     stands = ⊎-elim
@@ -251,43 +249,85 @@ page-never-back p bytes bytes′ settings small-columns agree small′ c d g g�
     both-front : Fronts k (decode S bytes store spots) × Fronts k (decode S bytes′ store spots)
     both-front = never-back S (allowed .wide) narrow store spots bytes bytes′ (allowed .small) small′ p (agree-of agree) k stands
 
+-- what a call that answers 1, 2 or 3 tells
+module _ (bytes : List ℕ) (settings : DecodeSettings) (small-columns : settings .columns ≤ mostPixels) (c : Call) (g : Reading bytes settings c) (i : 1 ≤ c .answer .number) (j : c .answer .number ≤ 3) where
+  answered : c .answer .number ≡ answerIn bytes settings c .number
+  answered = ap (λ (z : Answer). z .number) (g .answer)
+
+  was-read : Allowed (settingsOf settings) bytes
+  was-read =
+      decode-cases (settingsOf settings) bytes (λ f. 1 ≤ f (length (c .changes)) (places c) .number → f (length (c .changes)) (places c) .number ≤ 3 → Allowed (settingsOf settings) bytes)
+      (λ n r x y. refused-number n r x y) (λ z x y. z) (omega (arith, i, answered)) (omega (arith, j, answered))
+    where
+      refused-number : (n : ℕ) → Refuses (settingsOf settings) bytes n → 1 ≤ n → n ≤ 3 → Allowed (settingsOf settings) bytes
+      refused-number n (too-wide e) x y = absurd (omega arith)
+      refused-number n (too-long e) x y = absurd (omega arith)
+      refused-number n (no-columns e) x y = absurd (omega arith)
+
+  not-widest : settings .columns < mostPixels
+  not-widest = let z : settings .columns ≡ mostPixels → ⊥ = was-read .narrow in omega arith
+
+-- its rows, where the rules say that they are the first of the other answer's
+module _ (bytes bytes′ : List ℕ) (settings : DecodeSettings) (c d : Call) (g : Reading bytes settings c) (g′ : Reading bytes′ settings d) (room : SameRoom c d) where
+  all-first : ((rest : List (List ℕ)) × (decode (settingsOf settings) bytes′ (length (c .changes)) (places c) .rows ≡ answerIn bytes settings c .rows ++ rest)
+      × (later : List ℕ) × (decode (settingsOf settings) bytes′ (length (c .changes)) (places c) .marks ≡ answerIn bytes settings c .marks ++ later))
+      → SameFirst (c .answer .rows) c d
+  all-first told =
+      first-of c d a (decode (settingsOf settings) bytes′ (length (c .changes)) (places c)) bytes bytes′ settings g g′ refl (λ i. decode (settingsOf settings) bytes′ (room .changes i) (room .places i))
+      (c .answer .rows) (a .rows) (a .marks) (sym (ap (λ (z : Answer). z .rows) (g .answer))) (as-many bytes settings c ∙ sym (ap (λ (z : Answer). z .rows) (g .answer)))
+      ([], sym (append-nil (a .rows)), [], sym (append-nil (a .marks))) told
+    where
+      a : Rules.Answer
+      a = answerIn bytes settings c
+
 pub refused-rows-stand : RefusedRowsStand
 refused-rows-stand bytes bytes′ settings small-columns sure c d g g′ room i j agree small′ =
-    first-of c d a (decode S bytes′ store spots) bytes bytes′ settings g g′ refl (λ i. decode S bytes′ (room .changes i) (room .places i))
-    (c .answer .rows) (a .rows) (a .marks) (sym (ap (λ (z : Answer). z .rows) (g .answer))) (as-many bytes settings c ∙ sym (ap (λ (z : Answer). z .rows) (g .answer)))
-    ([], sym (append-nil (a .rows)), [], sym (append-nil (a .marks))) told-rows
+    let w = was-read bytes settings small-columns c g i j in
+    let n = answered bytes settings small-columns c g i j in
+    all-first bytes bytes′ settings c d g g′ room
+    (decode-refused (settingsOf settings) (w .wide) (not-widest bytes settings small-columns c g i j) bytes bytes′ (w .small) small′ (length (c .changes)) (places c) sure (omega (arith, i, n)) (omega (arith, j, n))
+    (subst (λ (p : ℕ). Agree p (bitsOf bytes) (bitsOf bytes′)) (ap (λ (z : Answer). z .place) (g .answer)) (agree-of agree)))
+
+-- ---- The page form that is watched
+
+pub sure-gives-none-up : SureGivesNoneUp
+sure-gives-none-up bytes settings c gave w s = w .gave-up ∙ sure-gave-none (settingsOf settings) bytes (length (c .changes)) (places c) s
+
+pub watched-never-back : WatchedNeverReachesBack
+watched-never-back p bytes bytes′ settings small-columns agree small′ c d w g′ room zero le k q s =
+    record { many = omega arith; many′ = omega arith; rows = refl; marks = refl }
+watched-never-back p bytes bytes′ settings small-columns agree small′ c d w g′ room (suc n) le k q s =
+    page-never-back p bytes bytes′ settings small-columns agree small′ c d (w .decodes) g′ room (suc n) le k q (inr (record { settled = s; stays = stays }))
   where
     S : Settings
     S = settingsOf settings
 
-    store : ℕ
-    store = length (c .changes)
-
-    spots : ℕ
-    spots = places c
-
-    a : Rules.Answer
-    a = answerIn bytes settings c
-
-    number : c .answer .number ≡ a .number
-    number = ap (λ (z : Answer). z .number) (g .answer)
-
-    place : c .answer .place ≡ a .place
-    place = ap (λ (z : Answer). z .place) (g .answer)
+    many : suc n ≤ length (decode S bytes (length (c .changes)) (places c) .rows)
+    many = omega (arith, le, ap (λ (z : Answer). z .rows) (w .decodes .answer))
 
     allowed : Allowed S bytes
-    allowed =
-        decode-cases S bytes (λ f. 1 ≤ f store spots .number → f store spots .number ≤ 3 → Allowed S bytes)
-        (λ n r x y. refused-number n r x y) (λ z x y. z) (omega (arith, i, number)) (omega (arith, j, number))
-      where
-        refused-number : (n : ℕ) → Refuses S bytes n → 1 ≤ n → n ≤ 3 → Allowed S bytes
-        refused-number n (too-wide e) x y = absurd (omega arith)
-        refused-number n (too-long e) x y = absurd (omega arith)
-        refused-number n (no-columns e) x y = absurd (omega arith)
+    allowed = kept-read S bytes (length (c .changes)) (places c) (omega (arith, many))
 
-    narrow : S .columns < mostPixels
-    narrow = let z : S .columns ≡ mostPixels → ⊥ = allowed .narrow in omega arith
+    stays : (first : Kept) → Reaches bytes settings c 1 first → KeepsEols (first .state .eols) (k .state .eols)
+    stays f e =
+        none-gave-stays S (allowed .wide) bytes (length (c .changes)) (places c) (sym (w .gave-up)) n k many q f
+        (step-one (readAs settings) (allowed .wide) bytes (length (c .changes)) (places c) f e)
 
-    told-rows : (rest : List (List ℕ)) × (decode S bytes′ store spots .rows ≡ a .rows ++ rest) × (later : List ℕ) × (decode S bytes′ store spots .marks ≡ a .marks ++ later)
-    told-rows = decode-refused S (allowed .wide) narrow bytes bytes′ (allowed .small) small′ sure store spots (omega (arith, i, number)) (omega (arith, j, number))
-        (subst (λ (n : ℕ). Agree n (bitsOf bytes) (bitsOf bytes′)) place (agree-of agree))
+pub watched-refused-rows-stand : WatchedRefusedRowsStand
+watched-refused-rows-stand bytes bytes′ settings small-columns c d v g′ room i j read agree small′ =
+    let g = v .decodes in
+    let w = was-read bytes settings small-columns c g i j in
+    let n = answered bytes settings small-columns c g i j in
+    all-first bytes bytes′ settings c d g g′ room
+    (decode-watched-refused (settingsOf settings) (w .wide) (not-widest bytes settings small-columns c g i j) bytes bytes′ (w .small) small′ (length (c .changes)) (places c) (sym (v .gave-up))
+    (subst (λ (m : List ℕ). WasRead (lastOr 0 m)) (marks-are (answerIn bytes settings c) c g (as-many bytes settings c)) read) (omega (arith, i, n)) (omega (arith, j, n))
+    (subst (λ (p : ℕ). Agree p (bitsOf bytes) (bitsOf bytes′)) (ap (λ (z : Answer). z .place) (g .answer)) (agree-of agree)))
+
+pub only-without-eols : OnlyWithoutEols
+only-without-eols bytes settings small-columns c gave v group3 lenient i j =
+    let g = v .decodes in
+    let w = was-read bytes settings small-columns c g i j in
+    let n = answered bytes settings small-columns c g i j in
+    ⊎-elim inl (⊎-elim (λ e. inr (inl (v .gave-up ∙ e)))
+    (λ (k, q, e). inr (inr (k, subst (λ (m : ℕ). Reaches bytes settings c m k) (sym (ap (λ (z : Answer). z .rows) (g .answer))) q, e))))
+    (decode-lost (settingsOf settings) (w .wide) (not-widest bytes settings small-columns c g i j) bytes (w .small) (length (c .changes)) (places c) lenient group3 (omega (arith, i, n)) (omega (arith, j, n)))

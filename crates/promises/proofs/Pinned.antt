@@ -7,11 +7,16 @@ use lib.ListN.{length}
 use Rattle.writer.proofs.Only.{only-one}
 use Rattle.context.specs.declared.line.Line.{Line}
 use Rattle.lent.specs.Lent.{LendsAt, tested}
-use Rattle.promises.specs.Pinned.{DecodePinned, ReadLinePinned, WritersPinned, PushPinned}
+use Rattle.promises.specs.Pinned.{DecodePinned, DecodeWatchedPinned, ReadLinePinned, WritersPinned, PushPinned}
 
 pub decode-pinned : DecodePinned
 decode-pinned bytes settings changes ends marks r s xs ys es fs ms ns g h =
     (g .answer ∙ sym (h .answer), g .changes ∙ sym (h .changes), g .ends ∙ sym (h .ends), g .marks ∙ sym (h .marks))
+
+pub decode-watched-pinned : DecodeWatchedPinned
+decode-watched-pinned bytes settings changes ends marks r s xs ys es fs ms ns g h =
+    let d = decode-pinned bytes settings changes ends marks (r .answer) (s .answer) xs ys es fs ms ns (g .decodes) (h .decodes) in
+    (λ i. record { answer = d .0 i; «gave_up» = (g .gave-up ∙ sym (h .gave-up)) i }, d .1, d .2, d .3)
 
 pub read-line-pinned : ReadLinePinned
 read-line-pinned bytes at columns strict reference changes r s xs ys g h = (g .answer ∙ sym (h .answer), g .store ∙ sym (h .store))

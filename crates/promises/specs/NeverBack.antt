@@ -1,18 +1,22 @@
 -- Damage never reaches back: which rows stand whatever becomes of the data behind them.
 -- Two data are read with the same settings, and agree in their first p bits; behind those bits they may differ in anything, in their length too.
 use mathlib.Core.Path.{_≡_}
+use mathlib.Core.Bool.{Bool, true, false}
 use mathlib.Core.Logic.{_⊎_}
 use mathlib.Core.List.{List, [], _∷_}
+use mathlib.Core.Option.{none}
 use Prim.Native.Nat.{ℕ, _≤_}
 use lib.ListN.{length, take}
 use Rattle.rules.specs.Answers.{invalidCode, overflow, moreToCome, mostPixels}
 use Rattle.rules.specs.Machine.{more, run}
 use Rattle.rules.specs.Bits.{bitsOf}
-use Rattle.rules.specs.Rows.{Settings}
+use Rattle.rules.specs.Eols.{skipToEol}
+use Rattle.rules.specs.Rows.{group4, Settings}
 use Rattle.rules.specs.Pages.{Kept, noneKept, pageStep, rowOf, strictIfExact, mostBytes}
-use Rattle.rules.specs.Standing.{AgreeTo, SettledBy, KeepsEols, Sure, NoEols, lastOr}
+use Rattle.rules.specs.Standing.{AgreeTo, WasRead, SettledBy, KeepsEols, Sure, NoEols, lastOr}
 use Rattle.settings.specs.declared.DecodeSettings.{DecodeSettings}
 use Rattle.settings.specs.Settings.{settingsOf}
+use Rattle.ccitt.specs.Decode.{Watches}
 use Rattle.promises.specs.Rooms.{Call, places, rowsOf, marksOf, Reading}
 use Rattle.promises.specs.ByRow.{RowCall, RowReading, numberOf, markOf, Page, Sound}
 
@@ -97,3 +101,40 @@ RefusedRowsStand =
     → (c d : Call) → Reading bytes settings c → Reading bytes′ settings d → SameRoom c d
     → invalidCode ≤ c .answer .number → c .answer .number ≤ overflow → AgreeTo (c .answer .place) bytes bytes′ → length bytes′ ≤ mostBytes
     → SameFirst (c .answer .rows) c d
+
+-- ---- The page form that is watched
+
+-- a call of `decode_watched`, and what it says of EOLs; else it is a call of `decode`
+abbrev pub Watching : List ℕ → DecodeSettings → Call → Bool → Type 0
+Watching bytes settings c gave = Watches bytes settings (c .changes) (c .ends) (c .marks) (record { answer = c .answer; «gave_up» = gave }) (c .changes′) (c .ends′) (c .marks′)
+
+-- In Group 4, and in Group 3 strict or exact, it never says that they were given up.
+abbrev pub SureGivesNoneUp : Type 0
+SureGivesNoneUp = (bytes : List ℕ) (settings : DecodeSettings) (c : Call) (gave : Bool) → Watching bytes settings c gave → SureFor settings → gave ≡ false
+
+-- Where it says that EOLs were not given up, the rows up to one that is settled by the first p bits are the first rows of both, in lenient
+-- Group 3 too. Nothing is asked of what is said of the other data.
+abbrev pub WatchedNeverReachesBack : Type 0
+WatchedNeverReachesBack =
+    (p : ℕ) (bytes bytes′ : List ℕ) (settings : DecodeSettings) → settings .columns ≤ mostPixels → AgreeTo p bytes bytes′ → length bytes′ ≤ mostBytes
+    → (c d : Call) → Watching bytes settings c false → Reading bytes′ settings d → SameRoom c d
+    → (n : ℕ) → n ≤ c .answer .rows → (k : Kept) → Reaches bytes settings c n k → SettledBy p (bitsOf bytes) (lastOr 0 (k .marks)) (k .state .at)
+    → SameFirst n c d
+
+-- Where it answers 1, 2 or 3, EOLs were not given up, and the last row kept was read, the rows kept are the first rows of any data that
+-- agree with these up to the place that is named. All that is asked for stands in the answer and the marks.
+abbrev pub WatchedRefusedRowsStand : Type 0
+WatchedRefusedRowsStand =
+    (bytes bytes′ : List ℕ) (settings : DecodeSettings) → settings .columns ≤ mostPixels
+    → (c d : Call) → Watching bytes settings c false → Reading bytes′ settings d → SameRoom c d
+    → invalidCode ≤ c .answer .number → c .answer .number ≤ overflow → WasRead (lastOr 0 (marksOf c)) → AgreeTo (c .answer .place) bytes bytes′ → length bytes′ ≤ mostBytes
+    → SameFirst (c .answer .rows) c d
+
+-- Lenient Group 3 is answered with 1, 2 or 3 only where no EOLs are expected: none were from the start; or they were given up in a row that
+-- is kept, and it says so; or no EOL is left behind the last of these rows. Elsewhere a line that fails is recovered.
+abbrev pub OnlyWithoutEols : Type 0
+OnlyWithoutEols =
+    (bytes : List ℕ) (settings : DecodeSettings) → settings .columns ≤ mostPixels → (c : Call) (gave : Bool) → Watching bytes settings c gave
+    → (readAs settings .encoding ≡ group4 → ⊥) → readAs settings .strict ≡ false
+    → invalidCode ≤ c .answer .number → c .answer .number ≤ overflow
+    → NoEols (settingsOf settings) (bitsOf bytes) ⊎ (gave ≡ true) ⊎ ((k : Kept) × Reaches bytes settings c (c .answer .rows) k × (skipToEol (bitsOf bytes) (k .state .at) ≡ none))

@@ -8,7 +8,8 @@ use lib.ListN.{getD}
 use Rattle.rules.specs.Write.{Written}
 use Rattle.answer.specs.declared.Answer.{Answer}
 use Rattle.settings.specs.declared.DecodeSettings.{DecodeSettings}
-use Rattle.ccitt.specs.Decode.{Decodes}
+use Rattle.ccitt.specs.declared.Watched.{Watched}
+use Rattle.ccitt.specs.Decode.{Decodes, Watches}
 use Rattle.one_line.specs.OneLine.{ReadOne}
 use Rattle.context.specs.declared.line.Line.{Line}
 use Rattle.lent.specs.Lent.{Lends}
@@ -19,6 +20,13 @@ DecodePinned =
     (bytes : List ℕ) (settings : DecodeSettings) (changes ends marks : List ℕ) (r s : Answer) (xs ys es fs ms ns : List ℕ)
     → Decodes bytes settings changes ends marks r xs es ms
     → Decodes bytes settings changes ends marks s ys fs ns
+    → (r ≡ s) × (xs ≡ ys) × (es ≡ fs) × (ms ≡ ns)
+
+abbrev pub DecodeWatchedPinned : Type 0
+DecodeWatchedPinned =
+    (bytes : List ℕ) (settings : DecodeSettings) (changes ends marks : List ℕ) (r s : Watched) (xs ys es fs ms ns : List ℕ)
+    → Watches bytes settings changes ends marks r xs es ms
+    → Watches bytes settings changes ends marks s ys fs ns
     → (r ≡ s) × (xs ≡ ys) × (es ≡ fs) × (ms ≡ ns)
 
 abbrev pub ReadLinePinned : Type 0

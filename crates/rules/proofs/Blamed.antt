@@ -20,7 +20,7 @@ use Rattle.rules.specs.Rows.{Encoding, group4, group3-1D, group3-2D, Set
 use Rattle.rules.specs.Group4.{eolsBefore, afterLine4, row4}
 use Rattle.rules.specs.Group3.{Tagging, untagged, tagged, eols3, Before, line-at, end-at, no-eol-at, judged, searched, missing, lacking, checked, before, taggedLine, lineOfTag, line3, kept, whitened, afterLine3, row3}
 use Rattle.rules.specs.Pages.{Answer, Kept, noneKept, endWith, entries, pageStep, rowsLeft, pageOf, rowOf, readPage, strictIfExact, unlessShort, mostBytes, decode}
-use Rattle.rules.specs.Standing.{Sure, NoEols}
+use Rattle.rules.specs.Standing.{WasRead, Sure, NoEols, lastOr, gaveUp}
 use Rattle.rules.proofs.Machine.{ends-ind, ends-stops}
 use Rattle.rules.proofs.Runs.{Within, read-within}
 use Rattle.rules.proofs.Modes.{ModeAt, mode-at}
@@ -32,7 +32,8 @@ use Rattle.rules.proofs.Rows.{row4-cases, row3-cases, mended-cases}
 use Rattle.rules.proofs.Untouched.{align-up}
 use Rattle.rules.proofs.Agree.{Agree}
 use Rattle.rules.proofs.Pages.{page-cases, page-falls, Held, held-start, held-next}
-use Rattle.rules.proofs.Standing.{Stands, Read, stands-as, stands-over, page-fronts, sure-stands, bare-stands, bare-first}
+use Rattle.rules.proofs.Standing.{Stands, Read, stands-as, stands-over, page-fronts, kept-counted, sure-stands, bare-stands, bare-first, read-stands}
+use Rattle.rules.proofs.GivenUp.{none-gave-stays}
 
 -- a failure with 1, 2 or 3 names a bit from here on
 abbrev pub From : ℕ → Went → Type 0
@@ -65,7 +66,7 @@ module _ (R : Rules) (bs : List Bool) where
       tests false false = add-from a (R .width - s .position) (withCut s)
 
   -- a count to the width fails with 4 alone
-  fits-from : (a : ℕ) (s : Line) → From a (push R 0 (R .width - s .position) s)
+  pub fits-from : (a : ℕ) (s : Line) → From a (push R 0 (R .width - s .position) s)
   unfolding push
   fits-from a s = rw (le-leb (R .width - s .position) (R .width - s .position) (omega arith)) (add-from a (R .width - s .position) s)
 
@@ -263,20 +264,24 @@ module _ (enc : Encoding) (S : Settings) (wide : 0 < S .columns) (bs cs : List B
       let le : k .state .at ≤ p = f (omega arith) (omega arith) in
       stands-over S wide bs cs bytes store places (a .place) g enc (stands-as (a .place) (λ mark next i w. inl (w, i)) (omega arith) s))
 
+-- the rows so far are the answer's
+abbrev pub Told : Kept → Answer → Type 0
+Told k a = (a .rows ≡ k .rows) × (a .marks ≡ k .marks)
+
 module _ (S : Settings) (wide : 0 < S .columns) (bs : List Bool) (bytes : Bytes bs) (store places : ℕ) where
-  abbrev step′ : Kept → Out Kept Answer
+  abbrev pub step′ : Kept → Out Kept Answer
   step′ = pageStep (rowOf (S .encoding) S bs) store places
 
-  abbrev HeldHere : Kept → Type 0
+  abbrev pub HeldHere : Kept → Type 0
   HeldHere = Held (S .encoding) S wide bs bytes store places
 
   -- the page so far at which an answer was given
-  record Last (j : Kept) (a : Answer) : Type 0 where
-    rows-read : ℕ
-    kept-then : Kept
-    before-it : run step′ rows-read j ≡ more kept-then
-    ended-it : step′ kept-then ≡ done a
-    held-then : HeldHere kept-then
+  pub record Last (j : Kept) (a : Answer) : Type 0 where
+    pub rows-read : ℕ
+    pub kept-then : Kept
+    pub before-it : run step′ rows-read j ≡ more kept-then
+    pub ended-it : step′ kept-then ≡ done a
+    pub held-then : HeldHere kept-then
 
   last : (n : ℕ) (j : Kept) (a : Answer) → HeldHere j → run step′ n j ≡ done a → Last j a
   unfolding run
@@ -294,73 +299,96 @@ module _ (S : Settings) (wide : 0 < S .columns) (bs : List Bool) (bytes : Bytes 
   none-yet j k q = let y : j ≡ k = cc in y
 
   -- its rows are the answer's
-  ended-rows : (k : Kept) (a : Answer) → step′ k ≡ done a → (a .rows ≡ k .rows) × (a .marks ≡ k .marks)
+  pub ended-rows : (k : Kept) (a : Answer) → step′ k ≡ done a → Told k a
   ended-rows k a =
-      page-cases (S .encoding) S wide bs bytes store places k (λ o. o ≡ done a → (a .rows ≡ k .rows) × (a .marks ≡ k .marks))
+      page-cases (S .encoding) S wide bs bytes store places k (λ o. o ≡ done a → Told k a)
       (λ r mark next e l q. absurd (let z : _≡_ {A = ℕ} 0 1 = cc in omega arith))
       (λ r mark next e l q. let y : endWith k 5 0 0 r ≡ a = cc in (ap (λ (x : Answer). x .rows) (sym y), ap (λ (x : Answer). x .marks) (sym y)))
       (λ n p b loose e q. let y : endWith k n p b loose ≡ a = cc in (ap (λ (x : Answer). x .rows) (sym y), ap (λ (x : Answer). x .marks) (sym y)))
 
-  -- What was refused, where all rows stand: those before the place are the first of every other data that agree with these up to it.
-  pub refused : ((n : ℕ) (k : Kept) → run step′ (suc n) noneKept ≡ more k → Stands Read (rowOf (S .encoding) S bs) store places noneKept k) → (cs : List Bool) → Bytes cs → 1 ≤ readPage S bs store places .number → readPage S bs store places .number ≤ 3 → Agree (readPage S bs store places .place) bs cs
-      → (rest : List (List ℕ)) × (readPage S cs store places .rows ≡ readPage S bs store places .rows ++ rest) × (later : List ℕ) × (readPage S cs store places .marks ≡ readPage S bs store places .marks ++ later)
+  -- a page's own
+  pub page-last : Last noneKept (readPage S bs store places)
   unfolding readPage ends
-  refused all cs bytes′ =
+  page-last =
       let p = ends-stops step′ (rowsLeft bs) (page-falls (S .encoding) S wide bs bytes store places) noneKept in
-      subst (λ (o : Out Kept Answer). 1 ≤ pageOf o .number → pageOf o .number ≤ 3 → Agree (pageOf o .place) bs cs
-      → (rest : List (List ℕ)) × (readPage S cs store places .rows ≡ pageOf o .rows ++ rest) × (later : List ℕ) × (readPage S cs store places .marks ≡ pageOf o .marks ++ later)) (sym (p .1))
-      (found (p .0) (last (suc (rowsLeft bs noneKept)) noneKept (p .0) (held-start (S .encoding) S wide bs bytes store places) (p .1)))
+      subst (Last noneKept) (sym (ap pageOf (p .1))) (last (suc (rowsLeft bs noneKept)) noneKept (p .0) (held-start (S .encoding) S wide bs bytes store places) (p .1))
+
+  -- What was refused, where all rows stand: those before the place are the first of every other data that agree with these up to it.
+  pub refused : ((n : ℕ) (k : Kept) → run step′ (suc n) noneKept ≡ more k → Told k (readPage S bs store places) → Stands Read (rowOf (S .encoding) S bs) store places noneKept k) → (cs : List Bool) → Bytes cs → 1 ≤ readPage S bs store places .number → readPage S bs store places .number ≤ 3 → Agree (readPage S bs store places .place) bs cs
+      → (rest : List (List ℕ)) × (readPage S cs store places .rows ≡ readPage S bs store places .rows ++ rest) × (later : List ℕ) × (readPage S cs store places .marks ≡ readPage S bs store places .marks ++ later)
+  refused all cs bytes′ i j g = counts (page-last .rows-read) (page-last .before-it)
     where
-      found : (a : Answer) → Last noneKept a → 1 ≤ a .number → a .number ≤ 3 → Agree (a .place) bs cs
+      a : Answer
+      a = readPage S bs store places
+
+      k : Kept
+      k = page-last .kept-then
+
+      same : Told k a
+      same = ended-rows k a (page-last .ended-it)
+
+      counts : (n : ℕ) → run step′ n noneKept ≡ more k
           → (rest : List (List ℕ)) × (readPage S cs store places .rows ≡ a .rows ++ rest) × (later : List ℕ) × (readPage S cs store places .marks ≡ a .marks ++ later)
-      found a l i j g = counts (l .rows-read) (l .before-it)
-        where
-          k : Kept
-          k = l .kept-then
+      counts zero q =
+          let y : noneKept ≡ k = none-yet noneKept k q in
+          let u : a .rows ≡ [] = same .0 ∙ ap (λ (x : Kept). x .rows) (sym y) in
+          let v : a .marks ≡ [] = same .1 ∙ ap (λ (x : Kept). x .marks) (sym y) in
+          (readPage S cs store places .rows, ap (λ (l : List (List ℕ)). l ++ readPage S cs store places .rows) (sym u), readPage S cs store places .marks, ap (λ (l : List ℕ). l ++ readPage S cs store places .marks) (sym v))
+      counts (suc n) q =
+          let s = all n k q same in
+          let t = refused-stands (S .encoding) S wide bs cs bytes store places k a s (page-last .held-then) (page-last .ended-it) i j g in
+          let (rest, x, later, y) = page-fronts S wide store places cs bytes′ k t in
+          (rest, x ∙ ap (λ (m : List (List ℕ)). m ++ rest) (sym (same .0)), later, y ∙ ap (λ (m : List ℕ). m ++ later) (sym (same .1)))
 
-          same : (a .rows ≡ k .rows) × (a .marks ≡ k .marks)
-          same = ended-rows k a (l .ended-it)
+-- The same of the page in bytes.
+module _ (S : Settings) (wide : 0 < S .columns) (narrow : S .columns < 4294967295) (bytes bytes′ : List ℕ) (small : length bytes ≤ mostBytes) (small′ : length bytes′ ≤ mostBytes) (store places : ℕ) where
+  abbrev pub T : Settings
+  T = strictIfExact S
 
-          counts : (n : ℕ) → run step′ n noneKept ≡ more k
-              → (rest : List (List ℕ)) × (readPage S cs store places .rows ≡ a .rows ++ rest) × (later : List ℕ) × (readPage S cs store places .marks ≡ a .marks ++ later)
-          counts zero q =
-              let y : noneKept ≡ k = none-yet noneKept k q in
-              let u : a .rows ≡ [] = same .0 ∙ ap (λ (x : Kept). x .rows) (sym y) in
-              let v : a .marks ≡ [] = same .1 ∙ ap (λ (x : Kept). x .marks) (sym y) in
-              (readPage S cs store places .rows, ap (λ (l : List (List ℕ)). l ++ readPage S cs store places .rows) (sym u), readPage S cs store places .marks, ap (λ (l : List ℕ). l ++ readPage S cs store places .marks) (sym v))
-          counts (suc n) q =
-              let s = all n k q in
-              let t = refused-stands (S .encoding) S wide bs cs bytes store places k a s (l .held-then) (l .ended-it) i j g in
-              let (rest, x, later, y) = page-fronts S wide store places cs bytes′ k t in
-              (rest, x ∙ ap (λ (m : List (List ℕ)). m ++ rest) (sym (same .0)), later, y ∙ ap (λ (m : List ℕ). m ++ later) (sym (same .1)))
+  abbrev page : Answer
+  page = readPage T (bitsOf bytes) store places
 
--- The same of the page in bytes: in Group 4, in what is read strictly, and where no EOLs are expected.
-pub decode-refused : (S : Settings) → 0 < S .columns → S .columns < 4294967295 → (bytes bytes′ : List ℕ) → length bytes ≤ mostBytes → length bytes′ ≤ mostBytes → Sure (S .encoding) (strictIfExact S) ⊎ NoEols S (bitsOf bytes) → (store places : ℕ)
-    → 1 ≤ decode S bytes store places .number → decode S bytes store places .number ≤ 3 → Agree (decode S bytes store places .place) (bitsOf bytes) (bitsOf bytes′)
-    → (rest : List (List ℕ)) × (decode S bytes′ store places .rows ≡ decode S bytes store places .rows ++ rest) × (later : List ℕ) × (decode S bytes′ store places .marks ≡ decode S bytes store places .marks ++ later)
-decode-refused S wide narrow bytes bytes′ small small′ firm store places =
-    subst (λ (a : Answer). 1 ≤ a .number → a .number ≤ 3 → Agree (a .place) (bitsOf bytes) (bitsOf bytes′)
-    → (rest : List (List ℕ)) × (decode S bytes′ store places .rows ≡ a .rows ++ rest) × (later : List ℕ) × (decode S bytes′ store places .marks ≡ a .marks ++ later))
-    (sym (decode-reads S wide narrow bytes small store places))
-    (short-cases S page (λ a. 1 ≤ a .number → a .number ≤ 3 → Agree (a .place) (bitsOf bytes) (bitsOf bytes′)
-    → (rest : List (List ℕ)) × (decode S bytes′ store places .rows ≡ a .rows ++ rest) × (later : List ℕ) × (decode S bytes′ store places .marks ≡ a .marks ++ later))
-    (λ l i j. absurd (omega arith))
-    (λ n i j g.
-    let (rest, x, later, y) = refused (strictIfExact S) wide (bitsOf bytes) (whole-bytes bytes) store places all (bitsOf bytes′) (whole-bytes bytes′) i j g in
-    (rest, ap (λ (a : Answer). a .rows) d ∙ short-rows S page′ ∙ x, later, ap (λ (a : Answer). a .marks) d ∙ short-marks S page′ ∙ y)))
-  where
-    page : Answer
-    page = readPage (strictIfExact S) (bitsOf bytes) store places
+  abbrev page′ : Answer
+  page′ = readPage T (bitsOf bytes′) store places
 
-    page′ : Answer
-    page′ = readPage (strictIfExact S) (bitsOf bytes′) store places
+  abbrev Stood : Kept → Type 0
+  Stood k = Stands Read (rowOf (S .encoding) T (bitsOf bytes)) store places noneKept k
 
-    d : decode S bytes′ store places ≡ unlessShort S page′
-    d = decode-reads S wide narrow bytes′ small′ store places
+  -- its rows are the first of the other page's
+  abbrev pub First : Answer → Type 0
+  First a =
+      1 ≤ a .number → a .number ≤ 3 → Agree (a .place) (bitsOf bytes) (bitsOf bytes′)
+      → (rest : List (List ℕ)) × (decode S bytes′ store places .rows ≡ a .rows ++ rest) × (later : List ℕ) × (decode S bytes′ store places .marks ≡ a .marks ++ later)
 
-    all : (n : ℕ) (k : Kept) → run (pageStep (rowOf (S .encoding) (strictIfExact S) (bitsOf bytes)) store places) (suc n) noneKept ≡ more k
-        → Stands Read (rowOf (S .encoding) (strictIfExact S) (bitsOf bytes)) store places noneKept k
-    all n k q = ⊎-elim
-        (λ s. sure-stands (S .encoding) (strictIfExact S) wide (bitsOf bytes) (whole-bytes bytes) store places s n k q)
-        (λ b. bare-stands (S .encoding) (strictIfExact S) wide (bitsOf bytes) (whole-bytes bytes) store places
-        (bare-first (S .encoding) (strictIfExact S) wide (bitsOf bytes) (whole-bytes bytes) store places (record { none-leads = b .none-leads; not-asked = b .not-asked })) n k q) firm
+  decode-stood : ((n : ℕ) (k : Kept) → run (pageStep (rowOf (S .encoding) T (bitsOf bytes)) store places) (suc n) noneKept ≡ more k → Told k (decode S bytes store places) → Stood k) → First (decode S bytes store places)
+  decode-stood all =
+      subst First (sym reads)
+      (short-cases S page First (λ l i j. absurd (omega arith))
+      (λ n i j g.
+      let (rest, x, later, y) = refused T wide (bitsOf bytes) (whole-bytes bytes) store places (λ n k q t. all n k q (rows ∙ t .0, marks ∙ t .1)) (bitsOf bytes′) (whole-bytes bytes′) i j g in
+      (rest, ap (λ (a : Answer). a .rows) reads′ ∙ short-rows S page′ ∙ x, later, ap (λ (a : Answer). a .marks) reads′ ∙ short-marks S page′ ∙ y)))
+    where
+      reads : decode S bytes store places ≡ unlessShort S page
+      reads = decode-reads S wide narrow bytes small store places
+
+      reads′ : decode S bytes′ store places ≡ unlessShort S page′
+      reads′ = decode-reads S wide narrow bytes′ small′ store places
+
+      rows : decode S bytes store places .rows ≡ page .rows
+      rows = ap (λ (a : Answer). a .rows) reads ∙ short-rows S page
+
+      marks : decode S bytes store places .marks ≡ page .marks
+      marks = ap (λ (a : Answer). a .marks) reads ∙ short-marks S page
+
+  -- in Group 4, in what is read strictly, and where no EOLs are expected
+  pub decode-refused : Sure (S .encoding) T ⊎ NoEols S (bitsOf bytes) → First (decode S bytes store places)
+  decode-refused firm = decode-stood λ n k q t. ⊎-elim
+      (λ s. sure-stands (S .encoding) T wide (bitsOf bytes) (whole-bytes bytes) store places s n k q)
+      (λ b. bare-stands (S .encoding) T wide (bitsOf bytes) (whole-bytes bytes) store places
+      (bare-first (S .encoding) T wide (bitsOf bytes) (whole-bytes bytes) store places (record { none-leads = b .none-leads; not-asked = b .not-asked })) n k q) firm
+
+  -- and where EOLs were not given up, and the last row was read
+  pub decode-watched-refused : gaveUp S bytes store places ≡ false → WasRead (lastOr 0 (decode S bytes store places .marks)) → First (decode S bytes store places)
+  decode-watched-refused z w = decode-stood λ n k q t.
+      read-stands (S .encoding) T wide (bitsOf bytes) (whole-bytes bytes) store places Read k (subst (λ (m : List ℕ). WasRead (lastOr 0 m)) (t .1) w) n
+      (none-gave-stays S wide bytes store places z n k (omega (arith, ap length (t .0), kept-counted (S .encoding) T wide (bitsOf bytes) (whole-bytes bytes) store places (suc n) noneKept k q .0)) q) q

@@ -78,6 +78,7 @@ pub mod GivenUp
 pub mod StandingCalls
 pub mod StandingSheets
 pub mod Blamed
+pub mod Lost
 pub mod Proper
 pub mod ProperRead
 pub mod ProperWritten
