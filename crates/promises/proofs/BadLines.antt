@@ -28,8 +28,8 @@ use Rattle.promises.specs.BadLines.{ForBadLines, Roomy, KBadLinesCostKRo
 use Rattle.promises.proofs.Rooms.{answerIn, rows-are, marks-are, as-many}
 
 -- the settings of the rules
-mending : (columns rows : ℕ) (settings : DecodeSettings) → 0 < columns → columns < mostPixels → ForBadLines columns rows settings → Mending (settingsOf settings) rows
-mending columns rows settings wide narrow s = record {
+mending : (columns rows : ℕ) (settings : DecodeSettings) → 0 < columns → columns < mostPixels → ForBadLines columns rows settings → (rest : List Bool) → Mending (settingsOf settings) rows rest
+mending columns rows settings wide narrow s rest = record {
   encoded = ap encodingOf (s .group-3);
   lenient = s .lenient;
   wide = omega (arith, s .same-columns);
@@ -68,10 +68,9 @@ k-bad-lines columns fill lines bytes settings c a = (
 
     d : (answerIn bytes settings c .number ≡ complete) × Spared lines (answerIn bytes settings c .rows) (answerIn bytes settings c .marks)
     d =
-        bad-lines-decode (settingsOf settings) (a .set .inexact) fill (a .three) lines (a .some-lines)
-        (subst (λ (n : ℕ). mayAll n lines ≡ true) (sym same) (a .allowed)) (mending columns (length lines) settings (a .wide) (a .narrow) (a .set)) (omega (arith, same, a .narrow))
-        bytes (a .small) (a .rest) (λ e. absurd (omega (arith, e, a .set .counted, a .some-lines)))
-        (a .there ∙ ap (λ (n : ℕ). arrivedPage n fill lines ++ a .rest) (sym same)) (length (c .changes)) (places c)
+        bad-lines-decode (settingsOf settings) (a .set .inexact) fill (a .rest) lines (a .some-lines)
+        (subst (λ (n : ℕ). mayAll n lines ≡ true) (sym same) (a .allowed)) (inl (a .three)) (mending columns (length lines) settings (a .wide) (a .narrow) (a .set) (a .rest)) (omega (arith, same, a .narrow))
+        bytes (a .small) (a .there ∙ ap (λ (n : ℕ). arrivedPage n fill lines ++ a .rest) (sym same)) (length (c .changes)) (places c)
         (room-is bytes settings c (a .reading) (length lines) columns same (a .roomy))
 
 -- ---- A row that is not clean
@@ -128,7 +127,6 @@ one-bad-line-costs-one-row columns changes ends out fill w out′ narrow three w
         d =
             one-bad-line (settingsOf settings) (s .inexact) fill three first row last
             (subst (λ (n : ℕ). Rows n (first ++ row ∷ last)) (sym same) (subst (Rows columns) rows-is (p .rises)))
-            (subst (Mending (settingsOf settings)) (sym size) (mending columns (length ends) settings (p .wide) (p .narrow) s)) (omega (arith, same, p .narrow))
-            bits strays bytes small padding (λ e. absurd (omega (arith, e, s .counted, p .some-rows)))
-            (there ∙ ap (λ (n : ℕ). frontOf n fill first ++ (bits ++ (backOf n fill last ++ padding))) (sym same)) (length (c .changes)) (places c)
+            padding (subst (λ (n : ℕ). Mending (settingsOf settings) n padding) (sym size) (mending columns (length ends) settings (p .wide) (p .narrow) s padding)) (omega (arith, same, p .narrow))
+            bits strays bytes small (there ∙ ap (λ (n : ℕ). frontOf n fill first ++ (bits ++ (backOf n fill last ++ padding))) (sym same)) (length (c .changes)) (places c)
             (room-is bytes settings c reading (length (first ++ row ∷ last)) columns same (subst (λ (n : ℕ). Roomy n columns c) (sym size) room))

@@ -29,7 +29,7 @@ bad-lines-cost-rows-to-1d columns fill lines bytes settings c a = (
     same : settings .columns ≡ columns
     same = a .set .same-columns
 
-    mends : Mends tagged (settingsOf settings) (length lines)
+    mends : Mends tagged (settingsOf settings) (length lines) (a .rest)
     mends = record {
       encoded = ap encodingOf (a .set .group-3);
       lenient = a .set .lenient;
@@ -41,7 +41,6 @@ bad-lines-cost-rows-to-1d columns fill lines bytes settings c a = (
     d : (answerIn bytes settings c .number ≡ complete) × SparedTo1D false lines (answerIn bytes settings c .rows) (answerIn bytes settings c .marks)
     d =
         bad-lines-2d (settingsOf settings) (a .set .inexact) fill (a .three) lines (a .some-lines)
-        (subst (λ (n : ℕ). mayAll2D n lines ≡ true) (sym same) (a .allowed)) mends (omega (arith, same, a .narrow))
-        bytes (a .small) (a .rest) (λ e. absurd (omega (arith, e, a .set .counted, a .some-lines)))
-        (a .there ∙ ap (λ (n : ℕ). arrivedPage2D n fill [] lines ++ a .rest) (sym same)) (length (c .changes)) (places c)
+        (subst (λ (n : ℕ). mayAll2D n lines ≡ true) (sym same) (a .allowed)) (a .rest) mends (omega (arith, same, a .narrow))
+        bytes (a .small) (a .there ∙ ap (λ (n : ℕ). arrivedPage2D n fill [] lines ++ a .rest) (sym same)) (length (c .changes)) (places c)
         (room-is bytes settings c (a .reading) (length lines) columns same (a .roomy))

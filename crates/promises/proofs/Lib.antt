@@ -34,6 +34,7 @@ pub mod StepsForC
 pub mod WriteGroup3
 pub mod BadLines
 pub mod BadLines2D
+pub mod BadLinesBeyond
 pub mod CutGroup3
 pub mod NeverBack
 pub mod Heads

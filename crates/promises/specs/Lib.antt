@@ -27,6 +27,7 @@ pub mod UnitsSoFar
 pub mod StepsForC
 pub mod BadLines
 pub mod BadLines2D
+pub mod BadLinesBeyond
 pub mod CutGroup3
 pub mod NeverBack
 pub mod Heads

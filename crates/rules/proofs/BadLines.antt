@@ -1,9 +1,9 @@
--- Bad lines cost no row but their own (02 A13): of a page by A3's writer with EOLs and at least three fill zeros, any lines may have other code bits. Read leniently it gives as many rows, and
+-- Bad lines cost no row but their own (02 A13): of a page by A3's writer with EOLs and at least three fill zeros, or where no line goes past the fill, any lines may have other code bits. Read leniently it gives as many rows, and
 -- each row whose line is its own. It is the page of proofs/MendedPage.antt whose lines are all 1D. Assumes nothing.
 use mathlib.Core.Path.{_≡_, refl, sym, ap, _∙_, subst}
 use mathlib.Core.Bool.{Bool, true, false}
 use mathlib.Core.List.{List, [], _∷_, _++_, append-assoc}
-use mathlib.Core.Option.{none}
+use mathlib.Core.Logic.{_⊎_, inl, inr}
 use Prim.Native.Nat.{ℕ, suc, _*_, _≤_, _<_}
 use native.Mathlib.Omega.{arith}
 use lib.ListN.{length, replicate}
@@ -18,12 +18,12 @@ use Rattle.rules.specs.Damage2D.{Arrived2D, own2D, other2D, SparedTo1D, 
 use Rattle.rules.proofs.Bits.{both-true}
 use Rattle.rules.specs.Rising.{none as no-changes}
 use Rattle.rules.proofs.Ascending.{ascends-rises}
-use Rattle.rules.proofs.Mending.{Mends, May, MayAll, none-left, and-then}
+use Rattle.rules.proofs.Mending.{Mends, May, MayAll, none-left, and-then, StopAll, three-stop}
 use Rattle.rules.proofs.MendedPage.{Behind, front-on, mended-page, mended-page-room}
 
--- lenient Group 3 1D; the true number of rows, or none with end_of_block. End_of_line and alignment do not matter.
-abbrev pub Mending : Settings → ℕ → Type 0
-Mending S n = Mends untagged S n
+-- lenient Group 3 1D; the true number of rows, or none or more with end_of_block, or with nothing behind the page. End_of_line and alignment do not matter.
+abbrev pub Mending : Settings → ℕ → List Bool → Type 0
+Mending S n rest = Mends untagged S n rest
 
 -- ---- As lines of which each is 1D
 
@@ -50,6 +50,10 @@ may-come width (l ∷ ls) q =
     by : (l : Arrived) → mayArrive width l ≡ true → May untagged width (comes l)
     by (own row) h = (refl, ascends-rises width 0 row h)
     by (other bits) h = (no-changes, both-true (found (zeroRun bits)) (noEol 0 bits) h)
+
+-- three zeros of fill, or no line that takes more of the zeros behind it than the fill has
+abbrev pub Stopping : Settings → ℕ → List Arrived → Type 0
+Stopping S fill ls = (3 ≤ fill) ⊎ StopAll untagged S fill (come ls)
 
 -- the page
 pub front : (width fill : ℕ) (above : List ℕ) (ls : List Arrived) (rest : List Bool)
@@ -83,9 +87,8 @@ spared-length no-lines = refl
 spared-length (unchanged s) = ap suc (spared-length s)
 spared-length (any-row s) = ap suc (spared-length s)
 
-module _ (S : Settings) (fill : ℕ) (three : 3 ≤ fill)
-    (ls : List Arrived) (some-lines : 0 < length ls) (goods : mayAll (S .columns) ls ≡ true) (mending : Mending S (length ls))
-    (rest : List Bool) (closed : S .rows ≡ 0 → zeroRun rest ≡ none) where
+module _ (S : Settings) (fill : ℕ) (rest : List Bool)
+    (ls : List Arrived) (some-lines : 0 < length ls) (goods : mayAll (S .columns) ls ≡ true) (stopping : Stopping S fill ls) (mending : Mending S (length ls) rest) where
   abbrev page : List Bool
   page = arrivedPage (S .columns) fill ls ++ rest
 
@@ -100,21 +103,28 @@ module _ (S : Settings) (fill : ℕ) (three : 3 ≤ fill)
   some-come : 0 < length (come ls)
   some-come = omega (arith, as-many-come ls)
 
-  mends : Mends untagged S (length (come ls))
-  mends = subst (Mends untagged S) (sym (as-many-come ls)) mending
+  mends : Mends untagged S (length (come ls)) rest
+  mends = subst (λ (n : ℕ). Mends untagged S n rest) (sym (as-many-come ls)) mending
 
   mays : MayAll untagged (S .columns) (come ls)
   mays = may-come (S .columns) ls goods
 
+  stops : StopAll untagged S fill (come ls)
+  stops = stop-all stopping
+    where
+      stop-all : Stopping S fill ls → StopAll untagged S fill (come ls)
+      stop-all (inl three) = three-stop untagged S (length (come ls)) rest mends fill three (come ls) mays
+      stop-all (inr each) = each
+
   -- Any lines of a page may be bad: with room for its lines it gives a row for each, and each row whose line is its own, clean.
   pub bad-lines : (store places : ℕ) → length ls * S .columns ≤ store → length ls ≤ places → Done (readPage S page store places)
   bad-lines store places roomy placed =
-      let d = mended-page untagged S fill three (come ls) some-come mays mends rest closed page there store places
+      let d = mended-page untagged S fill rest (come ls) some-come mays stops mends page there store places
       (subst (λ (n : ℕ). n * S .columns ≤ store) (sym (as-many-come ls)) roomy) (omega (arith, as-many-come ls)) in
       (d .0, spared ls (d .1))
 
   -- and so with any room that was enough, where the answer is neither 4 nor 5
   pub bad-lines-room : (store places : ℕ) → readPage S page store places .number ≤ 3 → Done (readPage S page store places)
   bad-lines-room store places h =
-      let d = mended-page-room untagged S fill three (come ls) some-come mays mends rest closed page there store places h in
+      let d = mended-page-room untagged S fill rest (come ls) some-come mays stops mends page there store places h in
       (d .0, spared ls (d .1))

@@ -3,7 +3,6 @@ use mathlib.Core.Path.{_≡_, sym, _∙_, subst}
 use mathlib.Core.Bool.{Bool, true, false}
 use mathlib.Core.List.{List, [], _∷_, _++_, append-assoc}
 use mathlib.Core.Logic.{inl, inr}
-use mathlib.Core.Option.{none}
 use Prim.Native.Nat.{ℕ, _≤_, _<_}
 use native.Mathlib.Omega.{arith}
 use lib.ListN.{length, replicate}
@@ -19,7 +18,7 @@ use Rattle.rules.specs.Damage2D.{Arrived2D, own2D, other2D, sentRow, arr
 use Rattle.rules.proofs.Bits.{both-true}
 use Rattle.rules.proofs.Ascending.{ascends-rises}
 use Rattle.rules.proofs.ExactPages.{exact-off}
-use Rattle.rules.proofs.Mending.{Mends, May, MayAll, none-left, and-then}
+use Rattle.rules.proofs.Mending.{Mends, May, MayAll, none-left, and-then, StopAll, three-stop}
 use Rattle.rules.proofs.MendedPage.{Behind, front-on, Done, mended-page, mended-page-room}
 
 may-come : (width : ℕ) (ls : List Arrived2D) → mayAll2D width ls ≡ true → MayAll tagged width ls
@@ -44,8 +43,8 @@ front width fill above (l ∷ ls) rest =
 
 -- In bytes. Read leniently is without strict, and without exact, which implies it (A12).
 module _ (S : Settings) (inexact : S .exact ≡ false) (fill : ℕ) (three : 3 ≤ fill)
-    (ls : List Arrived2D) (some-lines : 0 < length ls) (goods : mayAll2D (S .columns) ls ≡ true) (mending : Mends tagged S (length ls)) (narrow : S .columns < 4294967295)
-    (bytes : List ℕ) (small : length bytes ≤ mostBytes) (rest : List Bool) (closed : S .rows ≡ 0 → zeroRun rest ≡ none)
+    (ls : List Arrived2D) (some-lines : 0 < length ls) (goods : mayAll2D (S .columns) ls ≡ true) (rest : List Bool) (mending : Mends tagged S (length ls) rest) (narrow : S .columns < 4294967295)
+    (bytes : List ℕ) (small : length bytes ≤ mostBytes)
     (there : bitsOf bytes ≡ arrivedPage2D (S .columns) fill [] ls ++ rest) (store places : ℕ) where
   pub bad-lines-2d : RoomFor (length ls) (S .columns) store places (decode S bytes store places .number)
       → (decode S bytes store places .number ≡ 0) × SparedTo1D false ls (decode S bytes store places .rows) (decode S bytes store places .marks)
@@ -60,7 +59,10 @@ module _ (S : Settings) (inexact : S .exact ≡ false) (fill : ℕ) (three : 3 �
       mays : MayAll tagged (S .columns) ls
       mays = may-come (S .columns) ls goods
 
+      stops : StopAll tagged S fill ls
+      stops = three-stop tagged S (length ls) rest mending fill three ls mays
+
       by : RoomFor (length ls) (S .columns) store places (readPage S (bitsOf bytes) store places .number)
-          → Done tagged S fill three ls some-lines mays mending rest closed (bitsOf bytes) page (readPage S (bitsOf bytes) store places)
-      by (inl h) = mended-page-room tagged S fill three ls some-lines mays mending rest closed (bitsOf bytes) page store places h
-      by (inr (roomy, placed)) = mended-page tagged S fill three ls some-lines mays mending rest closed (bitsOf bytes) page store places roomy placed
+          → Done tagged S fill rest ls some-lines mays stops mending (bitsOf bytes) page (readPage S (bitsOf bytes) store places)
+      by (inl h) = mended-page-room tagged S fill rest ls some-lines mays stops mending (bitsOf bytes) page store places h
+      by (inr (roomy, placed)) = mended-page tagged S fill rest ls some-lines mays stops mending (bitsOf bytes) page store places roomy placed

@@ -1,6 +1,6 @@
 -- EOLs that stand one behind another, with fill before them or tag bits behind them, and what is read there. Assumes nothing.
 use mathlib.Core.Path.{_≡_, refl, sym, ap, ap₂, _∙_, subst}
-use mathlib.Core.Bool.{Bool, true, false}
+use mathlib.Core.Bool.{Bool, true, false, cond}
 use mathlib.Core.List.{List, [], _∷_, _++_, append-assoc}
 use mathlib.Core.Logic.{_⊎_, inl, inr}
 use mathlib.Core.Option.{none, some}
@@ -96,6 +96,19 @@ module _ (bs : List Bool) where
       (subst (Chain bs j (at + 12)) (let p : at + 12 + length (times j eolBits) ≡ at + length (eolBits ++ times j eolBits) = rw length-append (omega (arith, eol-long)) in p)
       (eols-chain j (at + 12) rest (fill-after 0 at (times j eolBits ++ rest) here) q))
 
+  -- at least so many, whatever follows them
+  pub eols-least : (j at : ℕ) (rest : List Bool) → drop at bs ≡ times j eolBits ++ rest → (n : ℕ) → j ≤ n → j ≤ readEols n bs at .count
+  unfolding times
+  eols-least zero at rest e n h = omega arith
+  eols-least (suc j) at rest e zero h = absurd (omega arith)
+  eols-least (suc j) at rest e (suc n) h =
+      let here : drop at bs ≡ eolBits ++ (times j eolBits ++ rest) = e ∙ append-assoc eolBits (times j eolBits) rest in
+      omega (
+        arith,
+        ap (λ (x : Eols). x .count) (one-eol n bs at 11 (ap zeroRun here ∙ eol-zeros (times j eolBits ++ rest)) (omega arith)),
+        eols-least j (at + 12) rest (fill-after 0 at (times j eolBits ++ rest) here) n (omega arith),
+      )
+
   -- ---- Tag bits
 
   -- before a line: a tag bit, and no EOL behind it
@@ -136,6 +149,43 @@ module _ (bs : List Bool) where
       ∙ tags-chain n j (c + 1) (suc e + 12) rest (fill-after 0 (suc e) _ here) q (omega arith) (omega arith)
       ∙ ap₂ eolsTo (let p : c + 1 + j ≡ c + suc j = omega arith in p)
       (let p : suc (suc e + 12) + length (times j tagged1) ≡ suc e + length (tagged1 ++ times j tagged1) = rw (length-append, length-append) (omega (arith, eol-long)) in p)
+    where
+      here : drop (suc e) bs ≡ eolBits ++ (true ∷ (times j tagged1 ++ rest))
+      here = after-bit e true _ d ∙ append-assoc tagged1 (times j tagged1) rest ∙ append-assoc eolBits (true ∷ []) (times j tagged1 ++ rest)
+
+  -- no EOL that was read is taken back
+  tags-grow : (n : ℕ) (e : Eols) → e .count ≤ betweenTags n bs e .count
+  unfolding betweenTags
+  tags-grow zero e = omega arith
+  tags-grow (suc n) e = tests (firstBit (drop (e .at) bs)) (allEols bs (suc (e .at))) (tags-grow n)
+    where
+      tests : (b : Bool) (later : Eols) → ((x : Eols) → x .count ≤ betweenTags n bs x .count) → e .count ≤ (elim b as (λ _. Eols) [
+        | false ↦ e
+        | true ↦ elim (eqb (later .count) 0) as (λ _. Eols) [
+          | true ↦ cond (leb 6 (e .count)) (eolsTo (e .count) (suc (e .at))) e
+          | false ↦ betweenTags n bs (eolsTo (e .count + later .count) (later .at))
+        ]
+      ]) .count
+      tests false later ih = omega arith
+      tests true later ih = inner (eqb (later .count) 0) (leb 6 (e .count)) (ih (eolsTo (e .count + later .count) (later .at)))
+        where
+          inner : (c d : Bool) → e .count + later .count ≤ betweenTags n bs (eolsTo (e .count + later .count) (later .at)) .count
+              → e .count ≤ (elim c as (λ _. Eols) [ true ↦ cond d (eolsTo (e .count) (suc (e .at))) e | false ↦ betweenTags n bs (eolsTo (e .count + later .count) (later .at)) ]) .count
+          inner true true h = omega arith
+          inner true false h = omega arith
+          inner false d h = omega arith
+
+  -- from the one behind some EOLs that were read, so many more at least, whatever follows them
+  pub tags-least : (n j c e : ℕ) (rest : List Bool) → drop e bs ≡ true ∷ (times j tagged1 ++ rest) → j < n → c + j ≤ betweenTags n bs (eolsTo c e) .count
+  unfolding times zeroRun
+  tags-least zero j c e rest d h = absurd (omega arith)
+  tags-least (suc n) zero c e rest d h = omega (arith, tags-grow (suc n) (eolsTo c e))
+  tags-least (suc n) (suc j) c e rest d h =
+      omega (
+        arith,
+        ap (λ (x : Eols). x .count) (tags-more n c e (suc e + 12) (ap firstBit d) (chain-all (fill-one 0 (suc e) _ here (0, refl, omega arith)))),
+        tags-least n j (c + 1) (suc e + 12) rest (fill-after 0 (suc e) _ here) (omega arith),
+      )
     where
       here : drop (suc e) bs ≡ eolBits ++ (true ∷ (times j tagged1 ++ rest))
       here = after-bit e true _ d ∙ append-assoc tagged1 (times j tagged1) rest ∙ append-assoc eolBits (true ∷ []) (times j tagged1 ++ rest)

@@ -1,23 +1,24 @@
 -- Small Group 3 pages, computed over the definitions: their bits, the writers' answers in their order, why a page of no rows is not written, why A13 asks
--- for three fill zeros, what a bad line with a tag bit must hold, and a cut that nothing tells. Assumes nothing.
+-- for three fill zeros and what its settings are for, what a bad line with a tag bit must hold, and a cut that nothing tells. Assumes nothing.
 use mathlib.Core.Path.{_≡_, refl}
-use mathlib.Core.Bool.{true, false}
-use mathlib.Core.List.{[], _∷_, _++_}
+use mathlib.Core.Bool.{Bool, true, false}
+use mathlib.Core.List.{List, [], _∷_, _++_}
+use Prim.Native.Nat.{ℕ}
 use lib.ListN.{take, replicate}
 use Rattle.rules.specs.Machine.{run, ends}
 use Rattle.rules.specs.Bits.{bit, bitsFor, bitsOf, window}
 use Rattle.rules.specs.Codes.{codeBits, whiteTerminating, whiteMakeup, blackTerminating, blackMakeup, commonMakeup, terminatingOf, makeupOf, codesOf}
 use Rattle.rules.specs.Lookup.{begins, shared, codeIn, longestShared, lookup}
 use Rattle.rules.specs.Runs.{runTake, runStep, readRun}
-use Rattle.rules.specs.Modes.{modeBits}
-use Rattle.rules.specs.Lines.{lastColour, recorded, add, push, pushRun, rightOfA0, fromB1, lineStep, lineEnd, readLine}
+use Rattle.rules.specs.Modes.{modeBits, modes, modeAmong, modeByTable, modeTake, readMode}
+use Rattle.rules.specs.Lines.{lastColour, recorded, add, push, pushRun, rightOfA0, fromB1, vertical, apply, code2D, lineStep, lineEnd, readLine}
 use Rattle.rules.specs.Eols.{zeroRun, readEols, skip}
-use Rattle.rules.specs.Rows.{Settings, group3-1D, group3-2D}
+use Rattle.rules.specs.Rows.{Encoding, Settings, group3-1D, group3-2D}
 use Rattle.rules.specs.Group3.{betweenTags, row3}
 use Rattle.rules.specs.Pages.{entries, pageStep, rowOf, readPage, ascendsFrom}
 use Rattle.rules.specs.Write.{runCodes, codesBits, runBits, bits1D, bits2D, lineBits, eolBits, toByte, writtenAt, rowsIn, endsRise, allAscend, writes}
 use Rattle.rules.specs.WriteGroup3.{bare, filled, mixed, codedLines, times, framed, page3Bits, writeGroup3, write1D, write2D}
-use Rattle.rules.specs.Damage.{own, other, arrivedLines, arrivedPage}
+use Rattle.rules.specs.Damage.{own, other, arrivedLines, arrivedPage, stopsBy}
 use Rattle.rules.specs.Damage2D.{own2D, other2D, arrivedPage2D}
 
 -- Four columns, the middle two black: white 1 (000111), black 2 (11), white 1. Two zeros of fill before the EOL, and before the first of the six alone;
@@ -69,6 +70,42 @@ bad-lines-sheet :
     × (readPage lenient (arrivedPage 1 3 (other (bitsFor 7 0b0001111) ∷ own [] ∷ [])) 9 9 .marks ≡ 0 ∷ 0 ∷ [])
 unfolding lenient run ends bit bitsFor window codeBits whiteTerminating whiteMakeup blackTerminating blackMakeup commonMakeup terminatingOf makeupOf codesOf begins shared codeIn longestShared lookup runTake runStep readRun lastColour recorded add push pushRun lineStep lineEnd readLine zeroRun readEols skip row3 entries pageStep rowOf readPage runCodes codesBits runBits bits1D lineBits eolBits times framed arrivedLines arrivedPage
 bad-lines-sheet = (refl, refl, refl, refl)
+
+-- What A13's other settings are for, on the same page of two lines. With end_of_block the number of rows may be 0 or more, whatever follows the page (eight ones here). Without it the
+-- true number of rows does, whatever follows, and so does 0 where nothing follows the page. One zero behind it, as padding is, is a line: its row is recovered, and then EOLs are given up and the answer is 2. With one row
+-- fewer the first row is given. So it is with tag bits.
+loosely : ℕ → Bool → Encoding → Settings
+loosely rows blocked enc = record { columns = 1; rows = rows; endOfBlock = blocked; endOfLine = true; aligned = false; encoding = enc; strict = false; exact = false }
+
+abbrev bad-page : List Bool
+bad-page = arrivedPage 1 3 (other (true ∷ []) ∷ own [] ∷ [])
+
+abbrev bad-page-2d : List Bool
+bad-page-2d = arrivedPage2D 1 3 [] (other2D [] true (true ∷ []) ∷ own2D true [] ∷ [])
+
+looser-settings :
+    (readPage (loosely 0 true group3-1D) (bad-page ++ bitsFor 8 255) 9 9 .marks ≡ 1 ∷ 0 ∷ [])
+    × (readPage (loosely 3 true group3-1D) (bad-page ++ bitsFor 8 255) 9 9 .marks ≡ 1 ∷ 0 ∷ [])
+    × (readPage (loosely 2 false group3-1D) (bad-page ++ bitsFor 8 255) 9 9 .marks ≡ 1 ∷ 0 ∷ [])
+    × (readPage (loosely 0 false group3-1D) bad-page 9 9 .number ≡ 0)
+    × (readPage (loosely 0 false group3-1D) bad-page 9 9 .marks ≡ 1 ∷ 0 ∷ [])
+    × (readPage (loosely 0 false group3-1D) (bad-page ++ false ∷ []) 9 9 .number ≡ 2)
+    × (readPage (loosely 0 false group3-1D) (bad-page ++ false ∷ []) 9 9 .marks ≡ 1 ∷ 0 ∷ 2 ∷ [])
+    × (readPage (loosely 1 true group3-1D) bad-page 9 9 .marks ≡ 1 ∷ [])
+    × (readPage (loosely 0 false group3-2D) (bad-page-2d ++ false ∷ []) 9 9 .number ≡ 2)
+    × (readPage (loosely 0 false group3-2D) (bad-page-2d ++ false ∷ []) 9 9 .marks ≡ 1 ∷ 0 ∷ 2 ∷ [])
+unfolding loosely run ends bit bitsFor window codeBits whiteTerminating whiteMakeup blackTerminating blackMakeup commonMakeup terminatingOf makeupOf codesOf begins shared codeIn longestShared lookup runTake runStep readRun modeBits modes modeAmong modeByTable modeTake readMode lastColour recorded add push pushRun rightOfA0 fromB1 vertical apply code2D lineStep lineEnd readLine zeroRun readEols skip betweenTags row3 entries pageStep rowOf readPage runCodes codesBits runBits bits1D lineBits eolBits times framed arrivedLines arrivedPage arrivedPage2D
+looser-settings = (refl, refl, refl, refl, refl, refl, refl, refl, refl, refl)
+
+-- Two zeros of fill, or none, do where a bad line's reading ends by the fill: 1 does not (it takes three zeros, as above), 10 does, and so does 0001111 with no fill, whose seventh bit is skipped.
+less-fill :
+    (stopsBy 1 2 (true ∷ []) ≡ false)
+    × (stopsBy 1 2 (true ∷ false ∷ []) ≡ true)
+    × (stopsBy 1 0 (bitsFor 7 0b0001111) ≡ true)
+    × (readPage lenient (arrivedPage 1 2 (other (true ∷ false ∷ []) ∷ own [] ∷ [])) 9 9 .marks ≡ 1 ∷ 0 ∷ [])
+    × (readPage lenient (arrivedPage 1 0 (other (bitsFor 7 0b0001111) ∷ own [] ∷ [])) 9 9 .marks ≡ 0 ∷ 0 ∷ [])
+unfolding lenient stopsBy run ends bit bitsFor window codeBits whiteTerminating whiteMakeup blackTerminating blackMakeup commonMakeup terminatingOf makeupOf codesOf begins shared codeIn longestShared lookup runTake runStep readRun lastColour recorded add push pushRun lineStep lineEnd readLine zeroRun readEols skip row3 entries pageStep rowOf readPage runCodes codesBits runBits bits1D lineBits eolBits times framed arrivedLines arrivedPage
+less-fill = (refl, refl, refl, refl, refl)
 
 -- The same with tag bits, and what the other bits must be then: two fill zeros are too few, three are enough; a tag bit 1 with no one behind it stands between two EOLs as in an RTC, and its row is
 -- lost; and so is the row of a tag bit 0 with ten zeros and a one behind it, which are an EOL.

@@ -11,6 +11,7 @@ pub mod Ahead
 pub mod Lines
 pub mod Grows
 pub mod Local
+pub mod Moved
 pub mod Pixels
 pub mod Sheets
 pub mod WriteRuns
@@ -55,6 +56,7 @@ pub mod NoLine
 pub mod Mending
 pub mod MendedPage
 pub mod BadLines
+pub mod LessFill
 pub mod OneBadLine
 pub mod BadLines2D
 pub mod LostRow

@@ -3,15 +3,13 @@
 use mathlib.Core.Path.{_≡_, refl, sym, ap, _∙_, subst}
 use mathlib.Core.Bool.{Bool, true, false, true≢false}
 use mathlib.Core.List.{List, [], _∷_, _++_, append-assoc}
-use mathlib.Core.Option.{none}
 use Prim.Native.Nat.{ℕ, suc, _+_, _-_, _*_, _≤_, _<_}
 use native.Mathlib.Omega.{arith}
 use native.Mathlib.Nat.{suc-mul}
-use lib.Dec.{eqb}
-use lib.ListN.{length, drop, replicate, length-append}
-use borrow.Author.Tests.{ne-eqb, eqb-true, eqb-false}
+use lib.ListN.{length, drop, replicate, length-append, length-drop}
+use borrow.Author.Tests.{ne-eqb}
 use Rattle.rules.specs.Lines.{Rules, Line, went, Kind, one, two, readLine}
-use Rattle.rules.specs.Eols.{zeroRun, eolsTo}
+use Rattle.rules.specs.Eols.{zeroRun, Eols, eolsTo, readEols, allEols}
 use Rattle.rules.specs.Group3.{Tagging, untagged, tagged, withTags, eols3, end-at, before, rowFrom, row3}
 use Rattle.rules.specs.Rows.{Settings, State, pageStart, readMark, RowOut, rulesOf, finished}
 use Rattle.rules.specs.Pages.{Answer, readPage}
@@ -24,11 +22,11 @@ use Rattle.rules.proofs.Ascending.{rises-length}
 use Rattle.rules.proofs.ReadBack.{Proper, read-line}
 use Rattle.rules.proofs.MoreRoom.{page-stays}
 use Rattle.rules.proofs.Eols.{eol-inside}
-use Rattle.rules.proofs.PageBack.{Soon, Given, page-ends, row-given, given-page}
-use Rattle.rules.proofs.EolChains.{Chain, no-more, eol-then, soon-quiet, chain-all, eol-long, after-bit, fill-eol, fill-after, eols-chain, tags-chain}
+use Rattle.rules.proofs.PageBack.{Soon, one-eol, Given, page-ends, row-given, given-page}
+use Rattle.rules.proofs.EolChains.{Chain, no-more, eol-then, soon-quiet, chain-all, eol-long, after-bit, fill-eol, fill-after, eols-chain, eols-least, tags-chain, tags-least}
 use Rattle.rules.proofs.Group3Back.{rows-are}
 use Rattle.rules.proofs.NextEol.{here, Facing}
-use Rattle.rules.proofs.Mending.{Mends, tagBits, codesFrom, kindRead, Told, Fit, May, MayAll, none-left, and-then, sent-rises, to-line, to-end, may-fit, Rowed, read-piece}
+use Rattle.rules.proofs.Mending.{Mends, tagBits, codesFrom, kindRead, Told, Fit, May, MayAll, none-left, and-then, Stops, StopAll, none-goes, stops-and, sent-rises, to-line, to-end, may-fit, Rowed, read-piece}
 
 -- what a row, with its mark, must be, read under a reference, where the line was coded under the row sent before it
 abbrev Fits : (reference above : List ℕ) → Arrived2D → List ℕ → ℕ → Type 0
@@ -40,6 +38,11 @@ Fits reference above (other2D r tag bits) x mark = Unit {0}
 abbrev pub endBits : Tagging → List Bool
 endBits untagged = times 5 eolBits
 endBits tagged = true ∷ times 5 (eolBits ++ true ∷ [])
+
+end-long : (t : Tagging) → 6 < length (endBits t)
+unfolding times eolBits
+end-long untagged = omega arith
+end-long tagged = omega arith
 
 -- the row before the next line is the one that was sent, unless it is lost
 abbrev pub lostAfter : Bool → Arrived2D → Bool
@@ -69,55 +72,96 @@ module _ (width : ℕ) (t : Tagging) (fill : ℕ) where
       let later = Behind (sentRow l) ls rest in
       omega (arith, length-append P (replicate fill false ++ (eolBits ++ later)), length-append (replicate fill false) (eolBits ++ later), length-append eolBits later, eol-long, lines-few (sentRow l) ls rest)
 
-module _ (t : Tagging) (S : Settings) (n : ℕ) (mending : Mends t S n) (fill : ℕ) (three : 3 ≤ fill) where
+module _ (t : Tagging) (S : Settings) (n : ℕ) (rest : List Bool) (mending : Mends t S n rest) (fill : ℕ) where
   abbrev W : ℕ
   W = S .columns
 
   module _ (bs : List Bool) where
     -- what holds between rows, of which these are to come
-    record Stands (lost : Bool) (st : State) (e : ℕ) (above : List ℕ) (ls : List Arrived2D) (rest : List Bool) : Type 0 where
+    record Stands (lost : Bool) (st : State) (e : ℕ) (above : List ℕ) (ls : List Arrived2D) : Type 0 where
       facing : Facing bs (st .at) e
       first : st .count ≡ 0 → facing .start ≡ st .at
       expected : 0 < st .count → st .eols ≡ true
       counted : st .count + length ls ≡ n
       there : drop e bs ≡ Behind W t fill above ls rest
-      closed : S .rows ≡ 0 → zeroRun rest ≡ none
       rises : Rising W 0 above
       known : lost ≡ false → st .reference ≡ above
 
-    -- the six EOLs of the end
-    six-read : (st : State) (e : ℕ) (rest : List Bool) (f : Facing bs (st .at) e) → drop e bs ≡ endBits t ++ rest → zeroRun rest ≡ none
-        → (e′ : ℕ) × (eols3 bs t (f .start) ≡ eolsTo 6 e′)
-    unfolding zeroRun
-    six-read st e rest f there closed = by t there
+    -- the EOLs of the end: six, and more where such follow
+    record Six (at : ℕ) : Type 0 where
+      more-than : ℕ
+      to : ℕ
+      read : eols3 bs t at ≡ eolsTo (suc more-than) to
+      six : 5 ≤ more-than
+      nothing : rest ≡ [] → length bs ≤ to
+
+    six-read : (st : State) (e : ℕ) (f : Facing bs (st .at) e) → drop e bs ≡ endBits t ++ rest → Six (f .start)
+    unfolding zeroRun times
+    six-read st e f there = record {
+      more-than = count - 1;
+      to = eols3 bs t (f .start) .at;
+      read = ap (λ (n : ℕ). eolsTo n (eols3 bs t (f .start) .at)) (let q : count ≡ suc (count - 1) = omega (arith, least t there) in q);
+      six = omega (arith, least t there);
+      nothing = λ z. last t z there;
+    }
       where
-        by : (t : Tagging) → drop e bs ≡ endBits t ++ rest → (e′ : ℕ) × (eols3 bs t (f .start) ≡ eolsTo 6 e′)
-        by untagged there =
-            (_, chain-all (eol-then (f .eol) (subst (λ (a : ℕ). Chain bs 5 a (e + length (times 5 eolBits))) (sym (f .to)) (eols-chain bs 5 e rest there closed))))
-        by tagged there =
-            let one-eol : Chain bs 1 (f .start) e = subst (Chain bs 1 (f .start)) (f .to) (eol-then (f .eol) (no-more (soon-quiet bs _ (subst (λ (a : ℕ). Soon 10 (drop a bs)) (sym (f .to)) (0, ap zeroRun there, omega arith))))) in
-            (_, ap (withTags bs tagged) (chain-all one-eol) ∙ tags-chain bs (length bs) 5 1 e rest there closed (omega (arith, eol-inside bs (f .start) (f .eol))) (omega arith))
+        count : ℕ
+        count = eols3 bs t (f .start) .count
+
+        -- how many bits there are
+        size : (t : Tagging) → drop e bs ≡ endBits t ++ rest → (6 < length bs) × (length bs ≡ e + (length (endBits t) + length rest))
+        size t there =
+            let q : length bs ≡ e + (length (endBits t) + length rest) = omega (arith, eol-inside bs (f .start) (f .eol), f .to, length-drop e bs, ap length there, length-append (endBits t) rest, end-long t) in
+            (omega (arith, q, end-long t), q)
+
+        one-read : drop e bs ≡ endBits tagged ++ rest → allEols bs (f .start) ≡ eolsTo 1 e
+        one-read there = chain-all (subst (Chain bs 1 (f .start)) (f .to) (eol-then (f .eol) (no-more (soon-quiet bs _ (subst (λ (a : ℕ). Soon 10 (drop a bs)) (sym (f .to)) (0, ap zeroRun there, omega arith))))))
+
+        least : (t : Tagging) → drop e bs ≡ endBits t ++ rest → 6 ≤ eols3 bs t (f .start) .count
+        least untagged there =
+            let m = length bs - 1 in
+            omega (
+              arith,
+              ap (λ (n : ℕ). readEols n bs (f .start) .count) (let q : length bs ≡ suc m = omega (arith, size untagged there .0, size untagged there .1) in q),
+              ap (λ (x : Eols). x .count) (one-eol m bs (f .start) (f .eol .zeros) (f .eol .run) (f .eol .many)),
+              ap (λ (a : ℕ). readEols m bs a .count) (f .to),
+              eols-least bs 5 e rest there m (omega (arith, size untagged there .0, size untagged there .1)),
+            )
+        least tagged there =
+            omega (arith, ap (λ (x : Eols). withTags bs tagged x .count) (one-read there), tags-least bs (length bs) 5 1 e rest there (omega (arith, size tagged there .0, size tagged there .1)))
+
+        last : (t : Tagging) → rest ≡ [] → drop e bs ≡ endBits t ++ rest → length bs ≤ eols3 bs t (f .start) .at
+        last untagged z there =
+            omega (
+              arith,
+              ap length z,
+              size untagged there .1,
+              ap (λ (x : Eols). x .at) (chain-all (eol-then (f .eol) (subst (λ (a : ℕ). Chain bs 5 a (e + length (times 5 eolBits))) (sym (f .to)) (eols-chain bs 5 e rest there (ap zeroRun z))))),
+            )
+        last tagged z there =
+            omega (
+              arith,
+              ap length z,
+              size tagged there .1,
+              ap (λ (x : Eols). x .at) (ap (withTags bs tagged) (one-read there) ∙ tags-chain bs (length bs) 5 1 e rest there (ap zeroRun z) (omega (arith, size tagged there .0, size tagged there .1)) (omega arith)),
+            )
 
     -- the end of the page
-    row-ends : (room : ℕ) (lost : Bool) (st : State) (e : ℕ) (above : List ℕ) (rest : List Bool) → 0 < n → Stands lost st e above [] rest → (a : ℕ) × (row3 S t bs room st ≡ finished a)
+    row-ends : (room : ℕ) (lost : Bool) (st : State) (e : ℕ) (above : List ℕ) → 0 < n → Stands lost st e above [] → (a : ℕ) × (row3 S t bs room st ≡ finished a)
     unfolding Behind row3
-    row-ends room lost st e above rest some-rows h =
+    row-ends room lost st e above some-rows h =
         (r .0, ap (λ (b : Bool). rowFrom S t bs room st (before S t bs st b)) (ne-eqb (st .count) 0 (λ z. omega arith)) ∙ ap (rowFrom S t bs room st) (r .1))
       where
         some-read : 0 < st .count
         some-read = omega (arith, h .counted)
 
-        blocks : (b : Bool) → eqb (S .rows) 0 ≡ b → (e′ : ℕ) × (S .rows ≡ 0 → eols3 bs t (h .facing .start) ≡ eolsTo 6 e′)
-        blocks true q = let s = six-read st e rest (h .facing) (h .there) (h .closed (eqb-true (S .rows) 0 q)) in (s .0, λ _. s .1)
-        blocks false q = (0, λ z. absurd (eqb-false (S .rows) 0 q z))
-
         r : (a : ℕ) × (before S t bs st false ≡ end-at a)
         r =
-            let s = blocks (eqb (S .rows) 0) refl in
-            to-end t S n mending bs st (s .0) (h .facing) (h .expected some-read) some-read (omega (arith, h .counted)) (s .1)
+            let s = six-read st e (h .facing) (h .there) in
+            to-end t S n rest mending bs st (s .more-than) (s .to) (h .facing) (h .expected some-read) some-read (omega (arith, h .counted)) (s .six) (s .read) (s .nothing)
 
-    module _ (room : ℕ) (roomy : W ≤ room) (lost : Bool) (st : State) (e : ℕ) (above : List ℕ) (l : Arrived2D) (ls : List Arrived2D) (rest : List Bool)
-        (may : May t W l) (h : Stands lost st e above (l ∷ ls) rest) where
+    module _ (room : ℕ) (roomy : W ≤ room) (lost : Bool) (st : State) (e : ℕ) (above : List ℕ) (l : Arrived2D) (ls : List Arrived2D)
+        (may : May t W l) (stops : Stops t S fill l) (h : Stands lost st e above (l ∷ ls)) where
       abbrev later : List Bool
       later = Behind W t fill (sentRow l) ls rest
 
@@ -129,19 +173,20 @@ module _ (t : Tagging) (S : Settings) (n : ℕ) (mending : Mends t S n) (fill : 
       e′ = e + length (tagBits t (arrivedTag l) ++ arrivedBits2D W above l) + (fill + 12)
 
       fit : Fit t (arrivedTag l) (arrivedBits2D W above l)
-      fit = may-fit t S n mending bs fill three above (h .rises) l may
+      fit = may-fit t S n rest mending bs fill above (h .rises) l may
 
       stands-there : drop e bs ≡ (tagBits t (arrivedTag l) ++ arrivedBits2D W above l) ++ (replicate fill false ++ (eolBits ++ later))
       unfolding Behind
       stands-there = h .there
 
       -- a row
-      row-goes : Rowed t S n mending bs fill three R st (kindRead t (arrivedTag l) (st .reference)) (codesFrom t e) e′ (row3 S t bs room st)
+      row-goes : Rowed t S n rest mending bs fill R st (kindRead t (arrivedTag l) (st .reference)) (codesFrom t e) e′ (row3 S t bs room st)
       unfolding row3
       row-goes =
-          subst (Rowed t S n mending bs fill three R st (kindRead t (arrivedTag l) (st .reference)) (codesFrom t e) e′)
-          (sym (ap (rowFrom S t bs room st) (to-line t S n mending bs st (h .facing) (h .first) (h .expected) (omega (arith, h .counted)) (arrivedTag l) (arrivedBits2D W above l) _ fit stands-there)))
-          (read-piece t S n mending bs fill three room roomy st e later (arrivedTag l) (arrivedBits2D W above l) fit stands-there)
+          subst (Rowed t S n rest mending bs fill R st (kindRead t (arrivedTag l) (st .reference)) (codesFrom t e) e′)
+          (sym (ap (rowFrom S t bs room st) (to-line t S n rest mending bs st (h .facing) (h .first) (h .expected) (omega (arith, h .counted)) (arrivedTag l) (arrivedBits2D W above l) _ fit stands-there)))
+          (read-piece t S n rest mending bs fill room roomy st e later (arrivedTag l) (arrivedBits2D W above l) fit stands-there
+          (stops bs room above (st .reference) e later roomy (h .rises) stands-there))
 
       -- its own, where the line is whole and its reference the one that was sent
       row-fits : Fits (st .reference) above l (row-goes .given) (row-goes .mark)
@@ -198,14 +243,14 @@ module _ (t : Tagging) (S : Settings) (n : ℕ) (mending : Mends t S n) (fill : 
     known-on lost m (own2D false r) f k q = f (k q) .0
     known-on lost m (other2D r tag bits) f k q = absurd (true≢false q)
 
-    arrived-rows : (ls : List Arrived2D) (room : ℕ) (lost : Bool) (st : State) (e : ℕ) (above : List ℕ) (rest : List Bool) → 0 < n → MayAll t W ls → length ls * W ≤ room
-        → Stands lost st e above ls rest → Mended room lost st ls
+    arrived-rows : (ls : List Arrived2D) (room : ℕ) (lost : Bool) (st : State) (e : ℕ) (above : List ℕ) → 0 < n → MayAll t W ls → StopAll t S fill ls → length ls * W ≤ room
+        → Stands lost st e above ls → Mended room lost st ls
     unfolding Behind
-    arrived-rows [] room lost st e above rest some-rows none-left roomy h =
-        let r = row-ends room lost st e above rest some-rows h in
+    arrived-rows [] room lost st e above some-rows none-left none-goes roomy h =
+        let r = row-ends room lost st e above some-rows h in
         record { rows = []; marks = []; at = r .0; given = page-ends (r .1); spared = no-lines }
-    arrived-rows (l ∷ ls) room lost st e above rest some-rows (and-then may mays) roomy h =
-        let m = arrived-rows ls (room - length (r .given)) (lostAfter lost l) (r .after) e″ (sentRow l) rest some-rows mays (omega (arith, enough, r .short)) stands in
+    arrived-rows (l ∷ ls) room lost st e above some-rows (and-then may mays) (stops-and stops all) roomy h =
+        let m = arrived-rows ls (room - length (r .given)) (lostAfter lost l) (r .after) e″ (sentRow l) some-rows mays all (omega (arith, enough, r .short)) stands in
         record {
           rows = r .given ∷ m .rows;
           marks = r .mark ∷ m .marks;
@@ -220,13 +265,13 @@ module _ (t : Tagging) (S : Settings) (n : ℕ) (mending : Mends t S n) (fill : 
         enough : W + length ls * W ≤ room
         enough = omega (arith, suc-mul (length ls) W)
 
-        r : Rowed t S n mending bs fill three (rulesOf S room) st (kindRead t (arrivedTag l) (st .reference)) (codesFrom t e) e″ (row3 S t bs room st)
-        r = row-goes room (omega (arith, enough)) lost st e above l ls rest may h
+        r : Rowed t S n rest mending bs fill (rulesOf S room) st (kindRead t (arrivedTag l) (st .reference)) (codesFrom t e) e″ (row3 S t bs room st)
+        r = row-goes room (omega (arith, enough)) lost st e above l ls may stops h
 
         fits : Fits (st .reference) above l (r .given) (r .mark)
-        fits = row-fits room (omega (arith, enough)) lost st e above l ls rest may h
+        fits = row-fits room (omega (arith, enough)) lost st e above l ls may stops h
 
-        stands : Stands (lostAfter lost l) (r .after) e″ (sentRow l) ls rest
+        stands : Stands (lostAfter lost l) (r .after) e″ (sentRow l) ls
         stands = record {
           facing = r .facing;
           first = λ z. absurd (omega (arith, r .counted));
@@ -234,7 +279,6 @@ module _ (t : Tagging) (S : Settings) (n : ℕ) (mending : Mends t S n) (fill : 
           counted = omega (arith, h .counted, r .counted);
           there = fill-after bs fill (e + length (tagBits t (arrivedTag l) ++ arrivedBits2D W above l)) (Behind W t fill (sentRow l) ls rest)
               (drop-after bs (tagBits t (arrivedTag l) ++ arrivedBits2D W above l) (replicate fill false ++ (eolBits ++ Behind W t fill (sentRow l) ls rest)) e (h .there));
-          closed = h .closed;
           rises = sent-rises t W l may;
           known = λ q. r .reference ∙ known-on lost (r .mark) l fits (h .known) q;
         }
@@ -249,9 +293,8 @@ spared-count (unchanged-2D s) = ap suc (spared-count s)
 spared-count (under-lost s) = ap suc (spared-count s)
 spared-count (bad-line s) = ap suc (spared-count s)
 
-module _ (t : Tagging) (S : Settings) (fill : ℕ) (three : 3 ≤ fill)
-    (ls : List Arrived2D) (some-lines : 0 < length ls) (mays : MayAll t (S .columns) ls) (mending : Mends t S (length ls))
-    (rest : List Bool) (closed : S .rows ≡ 0 → zeroRun rest ≡ none)
+module _ (t : Tagging) (S : Settings) (fill : ℕ) (rest : List Bool)
+    (ls : List Arrived2D) (some-lines : 0 < length ls) (mays : MayAll t (S .columns) ls) (stops : StopAll t S fill ls) (mending : Mends t S (length ls) rest)
     (bs : List Bool) (page : bs ≡ replicate fill false ++ (eolBits ++ Behind (S .columns) t fill [] ls rest)) where
   abbrev pub Done : Answer → Type 0
   Done a = (a .number ≡ 0) × SparedTo1D false ls (a .rows) (a .marks)
@@ -267,14 +310,13 @@ module _ (t : Tagging) (S : Settings) (fill : ℕ) (three : 3 ≤ fill)
       tail′ : List Bool
       tail′ = Behind (S .columns) t fill [] ls rest
 
-      m : Mended t S (length ls) mending fill three bs store false pageStart ls
-      m = arrived-rows t S (length ls) mending fill three bs ls store false pageStart (0 + (fill + 12)) [] rest some-lines mays roomy (record {
+      m : Mended t S (length ls) rest mending fill bs store false pageStart ls
+      m = arrived-rows t S (length ls) rest mending fill bs ls store false pageStart (0 + (fill + 12)) [] some-lines mays stops roomy (record {
         facing = record { start = 0; past = here; eol = fill-eol bs fill 0 tail′ page; to = omega arith };
         first = λ _. refl;
         expected = λ h. absurd (omega arith);
         counted = omega arith;
         there = fill-after bs fill 0 tail′ page;
-        closed = closed;
         rises = no-changes;
         known = λ _. refl;
       })

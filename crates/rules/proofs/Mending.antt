@@ -1,10 +1,10 @@
--- Bad lines between EOLs with at least three zeros of fill (02 A13), 1D or tagged: a row for each line, and a line's own row where it arrived whole and the row before it is the one it was coded
--- under. One argument over the tagging. A line is bounded by the zeros of the next EOL, of which it takes three at most, so that an EOL is left; from wherever it ends, or from its start, the
--- search finds that EOL. Assumes nothing.
+-- Bad lines between EOLs with fill (02 A13), 1D or tagged: a row for each line, and a line's own row where it arrived whole and the row before it is the one it was coded
+-- under. One argument over the tagging. A line that takes no more zeros than the fill leaves an EOL; from wherever it ends, or from its start, the search finds that EOL. With three zeros of fill
+-- every line is such: it is bounded by the zeros of the next EOL, of which it takes three at most. Assumes nothing.
 use mathlib.Core.Path.{_≡_, refl, sym, ap, ap₂, _∙_, subst}
 use mathlib.Core.Bool.{Bool, true, false, cond, not, _&&_, _||_, and-false}
 use mathlib.Core.List.{List, [], _∷_, _++_}
-use mathlib.Core.Logic.{_⊎_, inl, inr}
+use mathlib.Core.Logic.{_⊎_, inl, inr, ⊎-elim}
 use mathlib.Core.Option.{Option, none, some}
 use Prim.Native.Nat.{ℕ, suc, _+_, _-_, _≤_, _<_}
 use native.Mathlib.Omega.{arith}
@@ -21,7 +21,7 @@ use Rattle.rules.specs.Damage.{found, noEol, stray}
 use Rattle.rules.specs.Damage2D.{Arrived2D, own2D, other2D, sentRow, arrivedTag, kindOf, arrivedBits2D}
 use Rattle.rules.specs.Rising.{Rising}
 use Rattle.rules.proofs.Ascending.{rises-length}
-use Rattle.rules.proofs.Lines.{Bound, read-whole}
+use Rattle.rules.proofs.Lines.{data-bound, read-whole}
 use Rattle.rules.proofs.Barrier.{eol-bound}
 use Rattle.rules.proofs.Rows.{line3-damaged, mended}
 use Rattle.rules.proofs.ReadBack.{Proper}
@@ -35,13 +35,17 @@ use Rattle.rules.proofs.NoEolInside.{line-stays, written-one, written-n
 
 -- ---- Settings
 
--- lenient Group 3; the true number of rows, or none with end_of_block. End_of_line and alignment do not matter.
-pub record Mends (t : Tagging) (S : Settings) (n : ℕ) : Type 0 where
+-- the rows do not end the page before its end
+abbrev pub NoFewer : ℕ → ℕ → Type 0
+NoFewer rows n = (rows ≡ 0) ⊎ (n < rows)
+
+-- lenient Group 3; the true number of rows, or none or more with end_of_block, or with nothing behind the page. End_of_line and alignment do not matter.
+pub record Mends (t : Tagging) (S : Settings) (n : ℕ) (rest : List Bool) : Type 0 where
   pub encoded : S .encoding ≡ encodingOf t
   pub lenient : S .strict ≡ false
   pub wide : 0 < S .columns
   pub narrow : S .columns ≤ 4294967295
-  pub counted : (S .rows ≡ n) ⊎ ((S .rows ≡ 0) × (S .endOfBlock ≡ true))
+  pub counted : (S .rows ≡ n) ⊎ (NoFewer (S .rows) n × ((S .endOfBlock ≡ true) ⊎ (rest ≡ [])))
 
 -- ---- What stands between two EOLs
 
@@ -98,7 +102,11 @@ own-fit width wide narrow t tag told above r up up′ = (written-one width wide 
 
 -- ---- Before a row
 
-module _ (t : Tagging) (S : Settings) (n : ℕ) (mending : Mends t S n) (bs : List Bool) (st : State) where
+no-fewer : (count : ℕ) → 0 < count → {n : ℕ} → count ≤ n → (rows : ℕ) → NoFewer rows n → eqb count rows ≡ false
+no-fewer count h k rows (inl y) = ne-eqb count rows (λ z. omega arith)
+no-fewer count h k rows (inr y) = ne-eqb count rows (λ z. omega arith)
+
+module _ (t : Tagging) (S : Settings) (n : ℕ) (tail′ : List Bool) (mending : Mends t S n tail′) (bs : List Bool) (st : State) where
   -- more rows are to come: the reader goes past what is left of the last line, to the EOLs
   meets : {e e′ j : ℕ} (f : Facing bs (st .at) e) → st .eols ≡ true → eqb (st .count) (S .rows) ≡ false → eols3 bs t (f .start) ≡ eolsTo (suc j) e′
       → before S t bs st false ≡ judged S t bs false true (eolsTo (suc j) e′)
@@ -162,9 +170,9 @@ module _ (t : Tagging) (S : Settings) (n : ℕ) (mending : Mends t S n) (bs : Li
           let s = subst (Soon 10) (sym there) (stray-soon (tagBits t tag ++ code) rest (fit-stray t tag code fit)) in
           omega (arith, zeros-inside (drop e bs) (s .0) (s .1), length-drop e bs)
 
-      not-all : 0 < st .count → (S .rows ≡ n) ⊎ ((S .rows ≡ 0) × (S .endOfBlock ≡ true)) → eqb (st .count) (S .rows) ≡ false
+      not-all : 0 < st .count → (S .rows ≡ n) ⊎ (NoFewer (S .rows) n × ((S .endOfBlock ≡ true) ⊎ (tail′ ≡ []))) → eqb (st .count) (S .rows) ≡ false
       not-all h (inl y) = ne-eqb (st .count) (S .rows) (λ z. omega arith)
-      not-all h (inr (y, _)) = ne-eqb (st .count) (S .rows) (λ z. omega arith)
+      not-all h (inr (y, _)) = no-fewer (st .count) h (omega arith) (S .rows) y
 
       tests : (b : Bool) → eqb (st .count) 0 ≡ b → before S t bs st b ≡ line-at e true
       tests true q = ap (leading S t bs) (ap (allEols bs) (sym (first (eqb-true (st .count) 0 q))) ∙ read .0)
@@ -174,17 +182,27 @@ module _ (t : Tagging) (S : Settings) (n : ℕ) (mending : Mends t S n) (bs : Li
           ∙ rw (and-false (S .endOfBlock), lt-leb (length bs) e inside)
 
   -- or to the end
-  pub to-end : {e : ℕ} (e′ : ℕ) (f : Facing bs (st .at) e) → st .eols ≡ true → 0 < st .count → st .count ≡ n → (S .rows ≡ 0 → eols3 bs t (f .start) ≡ eolsTo 6 e′)
+  pub to-end : {e : ℕ} (c e′ : ℕ) (f : Facing bs (st .at) e) → st .eols ≡ true → 0 < st .count → st .count ≡ n
+      → 5 ≤ c → eols3 bs t (f .start) ≡ eolsTo (suc c) e′ → (tail′ ≡ [] → length bs ≤ e′)
       → (a : ℕ) × (before S t bs st false ≡ end-at a)
-  to-end e′ f expected h all six = tests (mending .counted)
+  to-end c e′ f expected h all six read nothing = tests (mending .counted)
     where
-      tests : (S .rows ≡ n) ⊎ ((S .rows ≡ 0) × (S .endOfBlock ≡ true)) → (a : ℕ) × (before S t bs st false ≡ end-at a)
+      ends : (b d : Bool) → (b ≡ true) ⊎ (d ≡ true) → _≡_ {A = Before S t bs} (cond ((b && true) || (false || d)) (end-at e′) (line-at e′ true)) (end-at e′)
+      ends true d w = refl
+      ends false true w = refl
+      ends false false w = absurd (let z : _≡_ {A = ℕ} 0 1 = ⊎-elim (λ y. cc) (λ y. cc) w in omega arith)
+
+      ways : (S .endOfBlock ≡ true) ⊎ (tail′ ≡ []) → (S .endOfBlock ≡ true) ⊎ (leb (length bs) e′ ≡ true)
+      ways (inl y) = inl y
+      ways (inr y) = inr (le-leb (length bs) e′ (nothing y))
+
+      tests : (S .rows ≡ n) ⊎ (NoFewer (S .rows) n × ((S .endOfBlock ≡ true) ⊎ (tail′ ≡ []))) → (a : ℕ) × (before S t bs st false ≡ end-at a)
       tests (inl y) = (_, ends-rows S t bs st _ refl (eq-eqb (st .count) (S .rows) (all ∙ sym y)))
-      tests (inr (y, blocked)) = (e′, meets f expected (ne-eqb (st .count) (S .rows) (λ z. omega arith)) (six y) ∙ blocks (S .endOfBlock) blocked)
-        where
-          blocks : (b : Bool) → b ≡ true → _≡_ {A = Before S t bs} (cond ((b && true) || (false || leb (length bs) e′)) (end-at e′) (line-at e′ true)) (end-at e′)
-          blocks true z = refl
-          blocks false z = absurd (let y : _≡_ {A = ℕ} 0 1 = cc in omega arith)
+      tests (inr (y, w)) = (
+        e′,
+        meets f expected (no-fewer (st .count) h (omega arith) (S .rows) y) read
+            ∙ rw (le-leb 6 (suc c) (omega arith)) (ends (S .endOfBlock) (leb (length bs) e′) (ways w)),
+      )
 
 -- ---- A line, whole or bad
 
@@ -201,7 +219,19 @@ pub sent-rises : (t : Tagging) (width : ℕ) (l : Arrived2D) → May t width l �
 sent-rises t width (own2D tag r) (_, h) = h
 sent-rises t width (other2D r tag bits) (h, _) = h
 
-module _ (t : Tagging) (S : Settings) (n : ℕ) (mending : Mends t S n) (bs : List Bool) (fill : ℕ) (three : 3 ≤ fill) where
+-- Read where it stands, under any reference, a line takes no more of the zeros behind it than the fill has.
+abbrev pub Stops : Tagging → Settings → ℕ → Arrived2D → Type 0
+Stops t S fill l =
+    (bs : List Bool) (room : ℕ) (above reference : List ℕ) (e : ℕ) (later : List Bool) → S .columns ≤ room → Rising (S .columns) 0 above
+    → drop e bs ≡ (tagBits t (arrivedTag l) ++ arrivedBits2D (S .columns) above l) ++ (replicate fill false ++ (eolBits ++ later))
+    → (x : Line) → readLine (rulesOf S room) (kindRead t (arrivedTag l) reference) bs (codesFrom t e) ≡ went x
+    → x .at ≤ e + length (tagBits t (arrivedTag l) ++ arrivedBits2D (S .columns) above l) + fill
+
+pub data StopAll (t : Tagging) (S : Settings) (fill : ℕ) : List Arrived2D → Type 0 where
+  none-goes : StopAll t S fill []
+  stops-and : {l : Arrived2D} {ls : List Arrived2D} → Stops t S fill l → StopAll t S fill ls → StopAll t S fill (l ∷ ls)
+
+module _ (t : Tagging) (S : Settings) (n : ℕ) (tail′ : List Bool) (mending : Mends t S n tail′) (bs : List Bool) (fill : ℕ) where
   abbrev W : ℕ
   W = S .columns
 
@@ -245,7 +275,8 @@ module _ (t : Tagging) (S : Settings) (n : ℕ) (mending : Mends t S n) (bs : Li
         ap₂ (λ (a b : Bool). recovered S t bs R st e true m place l ((true && not a) && b)) (mending .lenient) (le-leb m 3 h)
         ∙ ap (kept S t bs st true e recoveredMark) q
 
-    module _ (tag : Bool) (code : List Bool) (fit : Fit t tag code) (there : drop e bs ≡ (tagBits t tag ++ code) ++ gap later) where
+    module _ (tag : Bool) (code : List Bool) (fit : Fit t tag code) (there : drop e bs ≡ (tagBits t tag ++ code) ++ gap later)
+        (stops : (x : Line) → readLine R (kindRead t tag (st .reference)) bs (codesFrom t e) ≡ went x → x .at ≤ e + length (tagBits t tag ++ code) + fill) where
       abbrev kind : Kind
       kind = kindRead t tag (st .reference)
 
@@ -286,9 +317,6 @@ module _ (t : Tagging) (S : Settings) (n : ℕ) (mending : Mends t S n) (bs : Li
             to = omega (arith, d .size);
           }
 
-          bound : Bound bs (d .start + 3)
-          bound = eol-bound bs (d .start) (f .eol .zeros) (f .eol .run) (f .eol .many)
-
           inside : e + 11 < length bs
           inside = omega (arith, eol-inside bs (d .start) (f .eol), towards-ahead bs (d .past))
 
@@ -301,7 +329,7 @@ module _ (t : Tagging) (S : Settings) (n : ℕ) (mending : Mends t S n) (bs : Li
 
           cases : (v : Went) → line3 S t bs R (st .reference) e t ≡ v → Rowed R st kind start e′ (outcome v)
           cases (went l) g =
-              let b = line-stays R kind bs (d .start + 3) bound start (omega (arith, towards-ahead bs (d .past), start-near t .1)) l (sym reading ∙ g) in
+              let began = line-stays R kind bs (length bs) (data-bound bs) start (omega (arith, inside, start-near t .1)) l (sym reading ∙ g) in
               let few = rises-length {width = W} (omega arith) (read-whole R (mending .wide) kind bs start l (sym reading ∙ g) .rising) in
               record {
                 given = l .changes;
@@ -310,7 +338,7 @@ module _ (t : Tagging) (S : Settings) (n : ℕ) (mending : Mends t S n) (bs : Li
                 is = refl;
                 same = λ x q. let y : l ≡ x = cc (sym g ∙ reading ∙ q) in (ap (λ (z : Line). z .changes) y, ap (λ (z : Line). readMark z) y);
                 short = omega arith;
-                facing = facing-on bs f (omega arith) (l .at) (omega (arith, b .0, start-near t .0)) (b .1);
+                facing = facing-on bs f (l .at) (omega (arith, began .0, start-near t .0)) (omega (arith, d .size, stops l (sym reading ∙ g)));
                 counted = refl;
                 expected = refl;
                 reference = refl;
@@ -333,3 +361,33 @@ module _ (t : Tagging) (S : Settings) (n : ℕ) (mending : Mends t S n) (bs : Li
                 expected = refl;
                 reference = refl;
               }
+
+-- ---- With three zeros of fill
+
+module _ (t : Tagging) (S : Settings) (n : ℕ) (tail′ : List Bool) (mending : Mends t S n tail′) (fill : ℕ) (three : 3 ≤ fill) where
+  three-stops : (l : Arrived2D) → May t (S .columns) l → Stops t S fill l
+  three-stops l may bs room above reference e later roomy up there x g =
+      omega (arith, d .size, line-stays (rulesOf S room) _ bs (d .start + 3) (eol-bound bs (d .start) zeros run (omega arith)) (codesFrom t e) (near t) x g .1)
+    where
+      code : List Bool
+      code = tagBits t (arrivedTag l) ++ arrivedBits2D (S .columns) above l
+
+      later′ : List Bool
+      later′ = replicate fill false ++ (eolBits ++ later)
+
+      d : Leads bs e 0 code later′
+      d = leads bs later′ code 0 e (may-fit t S n tail′ mending bs fill above up l may .1) there
+
+      zeros : ℕ
+      zeros = d .trailing + (fill + 11)
+
+      run : zeroRun (drop (d .start) bs) ≡ some zeros
+      run = ap zeroRun (d .there) ∙ zeros-then (d .trailing) later′ (fill + 11) (zeros-then fill (eolBits ++ later) 11 (eol-zeros later))
+
+      near : (t : Tagging) → codesFrom t e ≤ d .start + 3
+      near untagged = omega (arith, towards-ahead bs (d .past))
+      near tagged = omega (arith, towards-ahead bs (d .past))
+
+  pub three-stop : (ls : List Arrived2D) → MayAll t (S .columns) ls → StopAll t S fill ls
+  three-stop [] none-left = none-goes
+  three-stop (l ∷ ls) (and-then may mays) = stops-and (three-stops l may) (three-stop ls mays)

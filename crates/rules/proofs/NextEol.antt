@@ -79,9 +79,9 @@ module _ (bs : List Bool) where
           (subst (λ (n : ℕ). Towards bs n p) (let y : at + suc z ≡ a + suc (at + z - a) = omega (arith, leb-true a (at + z) q) in y) t)
       tests false q later = later (omega (arith, leb-false a (at + z) q))
 
-  -- no further than its third zero, if eleven are left
-  pub facing-on : {at e : ℕ} (f : Facing bs at e) → 14 ≤ f .eol .zeros → (a : ℕ) → at ≤ a → a ≤ f .start + 3 → Facing bs a e
-  facing-on {at} {e} f many a h k = tests (leb a (f .start)) refl
+  -- as long as eleven of its zeros are left
+  pub facing-on : {at e : ℕ} (f : Facing bs at e) → (a : ℕ) → at ≤ a → a + 11 ≤ f .start + f .eol .zeros → Facing bs a e
+  facing-on {at} {e} f a h k = tests (leb a (f .start)) refl
     where
       tests : (b : Bool) → leb a (f .start) ≡ b → Facing bs a e
       tests true q = record { start = f .start; past = towards-on (f .past) a h (leb-true a (f .start) q); eol = f .eol; to = f .to }

@@ -3,13 +3,11 @@ use mathlib.Core.Path.{_≡_, refl, sym, ap, _∙_, subst}
 use mathlib.Core.Bool.{Bool, true, false, _&&_}
 use mathlib.Core.List.{List, [], _∷_, _++_, append-assoc}
 use mathlib.Core.Logic.{inl, inr}
-use mathlib.Core.Option.{none}
 use Prim.Native.Nat.{ℕ, zero, suc, _+_, _≤_, _<_}
 use native.Mathlib.Omega.{arith}
 use lib.ListN.{length, replicate, length-append}
 use Rattle.rules.specs.Bits.{bitsOf}
 use Rattle.rules.specs.Lines.{one}
-use Rattle.rules.specs.Eols.{zeroRun}
 use Rattle.rules.specs.Rows.{Settings}
 use Rattle.rules.specs.Pages.{Answer, mostBytes, ascends, decode, readPage}
 use Rattle.rules.specs.Write.{lineBits, eolBits}
@@ -18,14 +16,14 @@ use Rattle.rules.specs.Damage.{stray, Arrived, own, other, owns, arrived
 use Rattle.rules.proofs.Ascending.{rises-ascends}
 use Rattle.rules.specs.Rising.{Rows, no-rows, row-then}
 use Rattle.rules.proofs.ExactPages.{exact-off}
-use Rattle.rules.proofs.BadLines.{Mending, Done, bad-lines, bad-lines-room}
+use Rattle.rules.proofs.BadLines.{Mending, Stopping, Done, bad-lines, bad-lines-room}
 
 -- ---- In bytes
 
 -- Any lines may be bad. Read leniently is without strict, and without exact, which implies it (A12).
-module _ (S : Settings) (inexact : S .exact ≡ false) (fill : ℕ) (three : 3 ≤ fill)
-    (ls : List Arrived) (some-lines : 0 < length ls) (goods : mayAll (S .columns) ls ≡ true) (mending : Mending S (length ls)) (narrow : S .columns < 4294967295)
-    (bytes : List ℕ) (small : length bytes ≤ mostBytes) (rest : List Bool) (closed : S .rows ≡ 0 → zeroRun rest ≡ none)
+module _ (S : Settings) (inexact : S .exact ≡ false) (fill : ℕ) (rest : List Bool)
+    (ls : List Arrived) (some-lines : 0 < length ls) (goods : mayAll (S .columns) ls ≡ true) (stopping : Stopping S fill ls) (mending : Mending S (length ls) rest) (narrow : S .columns < 4294967295)
+    (bytes : List ℕ) (small : length bytes ≤ mostBytes)
     (there : bitsOf bytes ≡ arrivedPage (S .columns) fill ls ++ rest) (store places : ℕ) where
   pub bad-lines-decode : RoomFor (length ls) (S .columns) store places (decode S bytes store places .number)
       → (decode S bytes store places .number ≡ 0) × Spared ls (decode S bytes store places .rows) (decode S bytes store places .marks)
@@ -37,9 +35,9 @@ module _ (S : Settings) (inexact : S .exact ≡ false) (fill : ℕ) (three : 3 �
           ∙ ap (λ (bs : List Bool). readPage S bs store places) there
 
       by : RoomFor (length ls) (S .columns) store places (readPage S (arrivedPage (S .columns) fill ls ++ rest) store places .number)
-          → Done S fill three ls some-lines goods mending rest closed (readPage S (arrivedPage (S .columns) fill ls ++ rest) store places)
-      by (inl h) = bad-lines-room S fill three ls some-lines goods mending rest closed store places h
-      by (inr (roomy, placed)) = bad-lines S fill three ls some-lines goods mending rest closed store places roomy placed
+          → Done S fill rest ls some-lines goods stopping mending (readPage S (arrivedPage (S .columns) fill ls ++ rest) store places)
+      by (inl h) = bad-lines-room S fill rest ls some-lines goods stopping mending store places h
+      by (inr (roomy, placed)) = bad-lines S fill rest ls some-lines goods stopping mending store places roomy placed
 
 -- ---- Where a line stands
 
@@ -118,14 +116,14 @@ length-owns (r ∷ rs) = ap suc (length-owns rs)
 
 -- Of a page's rows, one line's code bits may be any stray bits: every row but that one is unchanged, and clean.
 module _ (S : Settings) (inexact : S .exact ≡ false) (fill : ℕ) (three : 3 ≤ fill)
-    (first : List (List ℕ)) (r : List ℕ) (last : List (List ℕ)) (rises : Rows (S .columns) (first ++ r ∷ last)) (mending : Mending S (length (first ++ r ∷ last))) (narrow : S .columns < 4294967295)
-    (bits : List Bool) (strays : stray bits ≡ true) (bytes : List ℕ) (small : length bytes ≤ mostBytes) (rest : List Bool) (closed : S .rows ≡ 0 → zeroRun rest ≡ none)
+    (first : List (List ℕ)) (r : List ℕ) (last : List (List ℕ)) (rises : Rows (S .columns) (first ++ r ∷ last)) (rest : List Bool) (mending : Mending S (length (first ++ r ∷ last)) rest) (narrow : S .columns < 4294967295)
+    (bits : List Bool) (strays : stray bits ≡ true) (bytes : List ℕ) (small : length bytes ≤ mostBytes)
     (there : bitsOf bytes ≡ upTo (S .columns) fill (owns first) ++ (bits ++ (page3Bits (S .columns) (filled fill) last ++ rest))) (store places : ℕ) where
   pub one-bad-line : RoomFor (length (first ++ r ∷ last)) (S .columns) store places (decode S bytes store places .number)
       → (decode S bytes store places .number ≡ 0) × AllButOne first last (decode S bytes store places .rows) (decode S bytes store places .marks)
   one-bad-line room =
-      let d = bad-lines-decode S inexact fill three ls (omega (arith, size, length-append first (r ∷ last))) (may-one (S .columns) first last r bits rises strays)
-      (subst (Mending S) size mending) narrow bytes small rest closed (there ∙ page) store places
+      let d = bad-lines-decode S inexact fill rest ls (omega (arith, size, length-append first (r ∷ last))) (may-one (S .columns) first last r bits rises strays)
+      (inl three) (subst (λ (n : ℕ). Mending S n rest) size mending) narrow bytes small (there ∙ page) store places
       (subst (λ (n : ℕ). RoomFor n (S .columns) store places (decode S bytes store places .number)) size room) in
       (d .0, spared-but-one first last bits _ _ (d .1))
     where

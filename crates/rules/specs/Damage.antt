@@ -4,10 +4,10 @@ use mathlib.Core.Logic.{_⊎_}
 use mathlib.Core.Bool.{Bool, true, false, _&&_}
 use mathlib.Core.List.{List, [], _∷_, _++_}
 use mathlib.Core.Option.{Option, none, some}
-use Prim.Native.Nat.{ℕ, suc, _*_, _≤_}
-use lib.Dec.{ltb}
+use Prim.Native.Nat.{ℕ, suc, _+_, _*_, _≤_}
+use lib.Dec.{leb, ltb}
 use lib.ListN.{length, replicate}
-use Rattle.rules.specs.Lines.{one}
+use Rattle.rules.specs.Lines.{Went, went, failed, one, readLine}
 use Rattle.rules.specs.Eols.{zeroRun}
 use Rattle.rules.specs.Pages.{ascends}
 use Rattle.rules.specs.Write.{lineBits, eolBits}
@@ -68,6 +68,24 @@ mayArrive width (other bits) = stray bits
 unfoldable pub mayAll : ℕ → List Arrived → Bool
 mayAll width [] = true
 mayAll width (l ∷ ls) = mayArrive width l && mayAll width ls
+
+-- ---- With less fill
+
+-- a line's reading ends no further than a bit, or it fails
+abbrev pub endsBy : ℕ → Went → Bool
+endsBy size (went l) = leb (l .at) size
+endsBy size (failed n place l) = true
+
+-- Read leniently, with the fill and the EOL that stand behind them, other bits end no further than the fill: so eleven zeros are left to the EOL.
+unfoldable pub stopsBy : ℕ → ℕ → List Bool → Bool
+stopsBy width fill bits =
+    endsBy (length bits + fill) (readLine (record { width = width; strict = false; exact = false; room = width }) one (bits ++ (replicate fill false ++ eolBits)) 0)
+
+-- no bad line goes further
+unfoldable pub allStop : ℕ → ℕ → List Arrived → Bool
+allStop width fill [] = true
+allStop width fill (own row ∷ ls) = allStop width fill ls
+allStop width fill (other bits ∷ ls) = stopsBy width fill bits && allStop width fill ls
 
 -- ---- What it costs
 
