@@ -9,6 +9,8 @@ use lib.IntN.{pos}
 use lib.ListN.{length, getD}
 use borrow.Author.Tests.{eqb-true, eqb-false, leb-true, ltb-true, lt-ltb, not-true, not-false}
 use Rattle.rules.specs.Pages as Page
+use Rattle.rules.specs.Proper.{isProper, partsIn}
+use Rattle.settings.specs.Settings.{settingsOf}
 use Rattle.settings.specs.declared.DecodeSettings.{DecodeSettings}
 use Rattle.heads.specs.Form as Heads
 use Rattle.heads.specs.Form.{touches, cleanUnder, headsOn}
@@ -146,23 +148,37 @@ module _ (form : Form) (boxes places : List ℕ) (s : DecodeSettings) (page : He
 
 -- ---- The verdict
 
-module _ (form : Form) (boxes places : List ℕ) (s : DecodeSettings) (src : List ℕ) (a : Page.Answer) where
+module _ (form : Form) (boxes places : List ℕ) (s : DecodeSettings) (src : List ℕ) (gave : Bool) (a : Page.Answer) where
   abbrev size : ℕ
   size = length src
 
   abbrev page : Heads.Page
   page = pageOf form boxes places s size a
 
-  means : judged form boxes places s size a .number ≡ 0 → Counts form boxes places s src a (judged form boxes places s size a .heads)
+  abbrev proper : Bool
+  proper = isProper (settingsOf s) src a
+
+  abbrev parts : ℕ
+  parts = partsIn (settingsOf s) src a
+
+  -- a page that is not found at fault for it is proper, where the form asks for it
+  asked : (t p : Bool) → (t && not p) ≡ false → t ≡ true → p ≡ true
+  asked true true e z = refl
+  asked true false e z = absurd (let z : _≡_ {A = ℕ} 0 1 = cc in omega arith)
+  asked false p e z = absurd (let z : _≡_ {A = ℕ} 0 1 = cc in omega arith)
+
+  means : judged form boxes places s size gave proper parts a .number ≡ 0 → Counts form boxes places s src gave a (judged form boxes places s size gave proper parts a .heads)
   unfolding judged
   means e =
       let p0 = true-arm (fits form s) _ _ (λ t z. omega arith) e in
       let p1 = true-arm (eqb (a .number) 0) _ _ (λ t z. eqb-false (a .number) 0 t z) (p0 .1) in
       let p2 = true-arm (eqb (s .columns) (form .columns)) _ _ (λ t z. omega arith) (p1 .1) in
       let p3 = true-arm (eqb (a .bytes) size) _ _ (λ t z. omega arith) (p2 .1) in
-      let p4 = true-arm (leb (form .least) (length (a .rows)) && leb (length (a .rows)) (form .most)) _ _ (λ t z. omega arith) (p3 .1) in
+      let g = false-arm gave _ _ (λ z. omega arith) (p3 .1) in
+      let p4 = true-arm (leb (form .least) (length (a .rows)) && leb (length (a .rows)) (form .most)) _ _ (λ t z. omega arith) (g .1) in
+      let p5 = false-arm (form .proper && not proper) _ _ (λ z. omega arith) (p4 .1) in
       let b = both _ _ (p4 .0) in
-      let on = passes form boxes places s page (a .marks) (p4 .1) in
+      let on = passes form boxes places s page (a .marks) (p5 .1) in
       record {
         fitting = p0 .0;
         read = eqb-true (a .number) 0 (p1 .0);
@@ -170,10 +186,12 @@ module _ (form : Form) (boxes places : List ℕ) (s : DecodeSettings) (src : Lis
         all-bytes = eqb-true (a .bytes) size (p3 .0);
         enough-rows = leb-true (form .least) (length (a .rows)) (b .0);
         few-rows = leb-true (length (a .rows)) (form .most) (b .1);
+        eols-kept = g .0;
+        proper-if = asked (form .proper) proper (p5 .0);
         boxed = on .boxed;
         placed = on .placed;
         answer = on .answer;
-        heads-are = rw (judged, p0 .0, p1 .0, p2 .0, p3 .0, p4 .0) (on .is);
+        heads-are = rw (judged, p0 .0, p1 .0, p2 .0, p3 .0, g .0, p4 .0, p5 .0) (on .is);
         clean-above = clean-above form boxes places s page (a .marks) (on .rests);
         clean-places = clean-places form boxes places s page (a .marks) (on .rests);
         places-hold = λ k l. not-false _ (none-passes (λ k. not (T.placeHolds form boxes places (s .encoding) page (a .marks) k)) (form .places) (on .right) k l);
@@ -182,4 +200,4 @@ module _ (form : Form) (boxes places : List ℕ) (s : DecodeSettings) (src : Lis
 
 pub counted-means : CountedMeans
 unfolding verdictOn
-counted-means form boxes places s src a e = means form boxes places s src a e
+counted-means form boxes places s src gave a e = means form boxes places s src gave a e

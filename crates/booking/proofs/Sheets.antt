@@ -24,8 +24,8 @@ boxesFrom : ℕ → ℕ → ℕ → ℕ → List ℕ
 boxesFrom width units zero top = []
 boxesFrom width units (suc n) top = 0 ∷ width ∷ top ∷ suc top ∷ units ∷ (units + width) ∷ top ∷ suc top ∷ boxesFrom width units n (suc top)
 
-formFor : ℕ → ℕ → ℕ → ℕ → ℕ → Form
-formFor least most tick doubt places = record { columns = 4; least = least; most = most; tick = tick; doubt = doubt; places = places }
+formFor : ℕ → ℕ → ℕ → ℕ → ℕ → Bool → Form
+formFor least most tick doubt places proper = record { columns = 4; least = least; most = most; tick = tick; doubt = doubt; places = places; proper = proper }
 
 -- in the last of four columns a place that must be black in the first row (the form's line 3), and one that must be white below it (line 4)
 placed : List ℕ
@@ -72,32 +72,36 @@ numbered f = f .number ∷ f .heads ∷ []
 
 -- on the form with places, of ten rows
 on : EncodingMode → ℕ → List (List ℕ) → List ℕ → Finding
-on e size rows marks = judged (formFor 10 10 1 1 2) (boxesFrom 1 2 10 0) placed (settings 4 e true) size (answered 0 rows marks)
+on e size rows marks = judged (formFor 10 10 1 1 2 false) (boxesFrom 1 2 10 0) placed (settings 4 e true) size false false 0 (answered 0 rows marks)
 
 -- on one without places, whose boxes begin a row lower
 below : EncodingMode → List (List ℕ) → List ℕ → Finding
-below e rows marks = judged (formFor 11 11 1 1 0) (boxesFrom 1 2 10 1) [] (settings 4 e true) 5 (answered 0 rows marks)
+below e rows marks = judged (formFor 11 11 1 1 0 false) (boxesFrom 1 2 10 1) [] (settings 4 e true) 5 false false 0 (answered 0 rows marks)
 
 -- on one whose boxes are two columns wide: two pixels are a tick, and one is a doubt
 wide : List (List ℕ) → Finding
-wide rows = judged (formFor 10 10 2 1 0) (boxesFrom 2 2 10 0) [] (settings 4 Group4 true) 5 (answered 0 rows (clean 10))
+wide rows = judged (formFor 10 10 2 1 0 false) (boxesFrom 2 2 10 0) [] (settings 4 Group4 true) 5 false false 0 (answered 0 rows (clean 10))
 
 -- on one of nine rows or ten, without places
 loose : Bool → List (List ℕ) → Finding
-loose exact rows = judged (formFor 9 10 1 1 0) (boxesFrom 1 2 10 0) [] (settings 4 Group4 exact) 5 (answered 0 rows (clean 10))
+loose exact rows = judged (formFor 9 10 1 1 0 false) (boxesFrom 1 2 10 0) [] (settings 4 Group4 exact) 5 false false 0 (answered 0 rows (clean 10))
+
+-- by whether EOLs were given up, whether the form asks for proper pages, and whether it is one, which parts at bit 17 else
+watched : Bool → Bool → Bool → List (List ℕ) → Finding
+watched gave asks proper rows = judged (formFor 10 10 1 1 2 asks) (boxesFrom 1 2 10 0) placed (settings 4 Group4 true) 5 gave proper 17 (answered 0 rows (clean 10))
 
 record Sheets : Type 0 where
   counted : numbered (on Group4 5 forty (clean 10)) ≡ 0 ∷ 40 ∷ []
   -- the reading stopped with 1, in the third row
-  stopped : told (judged (formFor 10 10 1 1 2) (boxesFrom 1 2 10 0) placed (settings 4 Group4 true) 5 (answered 1 ((2 ∷ []) ∷ [] ∷ []) (clean 2))) ≡ 1 ∷ 0 ∷ 0 ∷ 3 ∷ 0 ∷ 0 ∷ 0 ∷ []
+  stopped : told (judged (formFor 10 10 1 1 2 false) (boxesFrom 1 2 10 0) placed (settings 4 Group4 true) 5 false false 0 (answered 1 ((2 ∷ []) ∷ [] ∷ []) (clean 2))) ≡ 1 ∷ 0 ∷ 0 ∷ 3 ∷ 0 ∷ 0 ∷ 0 ∷ []
   -- a form of 79 numbers
-  no-form : told (judged (formFor 10 10 1 1 2) (replicate 79 0) placed (settings 4 Group4 true) 5 (answered 0 forty (clean 10))) ≡ 11 ∷ 0 ∷ 0 ∷ 0 ∷ 0 ∷ 0 ∷ 0 ∷ []
+  no-form : told (judged (formFor 10 10 1 1 2 false) (replicate 79 0) placed (settings 4 Group4 true) 5 false false 0 (answered 0 forty (clean 10))) ≡ 11 ∷ 0 ∷ 0 ∷ 0 ∷ 0 ∷ 0 ∷ 0 ∷ []
   -- the tens boxes of 4 and 5
   two-ticks : told (on Group4 5 ((2 ∷ []) ∷ [] ∷ [] ∷ [] ∷ (0 ∷ 1 ∷ []) ∷ (0 ∷ 1 ∷ []) ∷ [] ∷ [] ∷ [] ∷ [] ∷ []) (clean 10)) ≡ 12 ∷ 0 ∷ 0 ∷ 0 ∷ 2 ∷ 1 ∷ 1 ∷ []
   -- the third row was cut to width, under the tens box of 2
   not-clean : told (on «Group3_1D» 5 forty (0 ∷ 0 ∷ 1 ∷ clean 7)) ≡ 13 ∷ 4 ∷ 0 ∷ 3 ∷ 1 ∷ 0 ∷ 0 ∷ []
   -- the form has four columns
-  five-columns : told (judged (formFor 10 10 1 1 2) (boxesFrom 1 2 10 0) placed (settings 5 Group4 true) 5 (answered 0 forty (clean 10))) ≡ 16 ∷ 0 ∷ 0 ∷ 0 ∷ 5 ∷ 4 ∷ 0 ∷ []
+  five-columns : told (judged (formFor 10 10 1 1 2 false) (boxesFrom 1 2 10 0) placed (settings 5 Group4 true) 5 false false 0 (answered 0 forty (clean 10))) ≡ 16 ∷ 0 ∷ 0 ∷ 0 ∷ 5 ∷ 4 ∷ 0 ∷ []
   -- four bytes more than were read
   second-page : told (on Group4 9 forty (clean 10)) ≡ 17 ∷ 0 ∷ 0 ∷ 0 ∷ 4 ∷ 0 ∷ 0 ∷ []
   row-lost : told (on Group4 5 ((2 ∷ []) ∷ (0 ∷ 1 ∷ []) ∷ []) (clean 2)) ≡ 18 ∷ 0 ∷ 0 ∷ 0 ∷ 2 ∷ 10 ∷ 10 ∷ []
@@ -113,9 +117,15 @@ record Sheets : Type 0 where
   -- a range of rows and no places; read exactly, it counts
   unfit : told (loose false unmarked) ≡ 41 ∷ 0 ∷ 0 ∷ 0 ∷ 0 ∷ 9 ∷ 10 ∷ []
   exact : numbered (loose true unmarked) ≡ 0 ∷ 40 ∷ []
+  -- EOLs that were given up come before the rows; a page that is not proper behind them, and before its pixels
+  given-up : told (watched true true false []) ≡ 23 ∷ 0 ∷ 0 ∷ 0 ∷ 0 ∷ 0 ∷ 0 ∷ []
+  few-rows : told (watched false true false []) ≡ 18 ∷ 0 ∷ 0 ∷ 0 ∷ 0 ∷ 10 ∷ 10 ∷ []
+  not-proper : told (watched false true false unmarked) ≡ 24 ∷ 0 ∷ 0 ∷ 0 ∷ 17 ∷ 0 ∷ 0 ∷ []
+  is-proper : numbered (watched false true true forty) ≡ 0 ∷ 40 ∷ []
+  not-asked : numbered (watched false false false forty) ≡ 0 ∷ 40 ∷ []
 
 sheets : Sheets
-unfolding on below wide loose told numbered settings answered clean forty unmarked placed formFor boxesFrom judged T.onPage T.tested T.badRow T.lowest T.wrongAt T.notOne firstOf countOf H.sum H.every H.all H.pixel H.blackIn H.tickTable H.ticks H.headsIn H.given H.cleanUnder H.clean H.headsOn N.formFrom P.colourAt
+unfolding on below wide loose watched told numbered settings answered clean forty unmarked placed formFor boxesFrom judged T.onPage T.tested T.badRow T.lowest T.wrongAt T.notOne firstOf countOf H.sum H.every H.all H.pixel H.blackIn H.tickTable H.ticks H.headsIn H.given H.cleanUnder H.clean H.headsOn N.formFrom P.colourAt
 sheets = record {
   counted = refl;
   stopped = refl;
@@ -133,4 +143,9 @@ sheets = record {
   doubted = refl;
   unfit = refl;
   exact = refl;
+  given-up = refl;
+  few-rows = refl;
+  not-proper = refl;
+  is-proper = refl;
+  not-asked = refl;
 }

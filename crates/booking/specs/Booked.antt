@@ -14,7 +14,7 @@ use Rattle.form_file.specs.declared.Formed.{Formed}
 use Rattle.ledger.specs.Entered.{entryLine, booksAfter}
 use Rattle.ledger.specs.declared.Ledger.{Ledger}
 use Rattle.ledger.specs.declared.Verdict.{Verdict}
-use Rattle.booking.specs.Verdict.{readAs, readingOf, verdictOn}
+use Rattle.booking.specs.Verdict.{readAs, readingOf, gaveUpIn, verdictOn}
 use Rattle.booking.specs.declared.Booked.{Booked}
 
 -- ---- The verdict
@@ -59,11 +59,14 @@ module _ (g : Given) where
   abbrev pub pageRead : Page.Answer
   pageRead = readingOf pageSettings (g .src) (g .changes) (g .ends) (g .marks)
 
+  abbrev pub pageGaveUp : Bool
+  pageGaveUp = gaveUpIn pageSettings (g .src) (g .changes) (g .ends) (g .marks)
+
   unfoldable pub verdictFrom : Verdict
   verdictFrom =
       elim (isSound (formRead .formed)) [
         | false ↦ unsound (formRead .formed)
-        | true ↦ verdictOn (formRead .formed .form) boxesAfter placesAfter pageSettings (g .src) pageRead
+        | true ↦ verdictOn (formRead .formed .form) boxesAfter placesAfter pageSettings (g .src) pageGaveUp pageRead
       ]
 
   -- an array that the page is read into: by a form that is not sound none is, and it stays as it was

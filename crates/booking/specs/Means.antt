@@ -1,11 +1,13 @@
 -- What a page that is counted means. (That each row under a box or place is read by its own line is `HeadsOfPage`, crates/promises, from the marks that are 0 here.)
 use mathlib.Core.Path.{_≡_}
-use mathlib.Core.Bool.{true, false}
+use mathlib.Core.Bool.{Bool, true, false}
 use mathlib.Core.List.{List}
 use Prim.Native.Nat.{ℕ, _/_, _≤_, _<_}
 use lib.IntN.{pos}
 use lib.ListN.{length, getD}
 use Rattle.rules.specs.Pages as Page
+use Rattle.rules.specs.Proper.{isProper}
+use Rattle.settings.specs.Settings.{settingsOf}
 use Rattle.settings.specs.declared.DecodeSettings.{DecodeSettings}
 use Rattle.heads.specs.Form.{cleanUnder, headsOn}
 use Rattle.heads.specs.Numbers.{formIn}
@@ -15,7 +17,7 @@ use Rattle.form_file.specs.declared.Form.{Form}
 use Rattle.booking.specs.Tests.{underAbove, lowestOfAll, placeHolds, doubts}
 use Rattle.booking.specs.Verdict.{fits, pageOf, verdictOn}
 
-module _ (form : Form) (boxes places : List ℕ) (s : DecodeSettings) (src : List ℕ) (a : Page.Answer) where
+module _ (form : Form) (boxes places : List ℕ) (s : DecodeSettings) (src : List ℕ) (gave : Bool) (a : Page.Answer) where
   -- A11's answer on the page that was read
   abbrev pub askedHeads : HeadsAnswer
   askedHeads = headsOn (pageOf form boxes places s (length src) a) (a .marks) (formIn boxes) (form .tick) (pos 0)
@@ -29,6 +31,9 @@ module _ (form : Form) (boxes places : List ℕ) (s : DecodeSettings) (src : Lis
     pub all-bytes : a .bytes ≡ length src
     pub enough-rows : form .least ≤ length (a .rows)
     pub few-rows : length (a .rows) ≤ form .most
+    -- EOLs were not given up in it; and where the form asks for proper pages, it is one
+    pub eols-kept : gave ≡ false
+    pub proper-if : form .proper ≡ true → isProper (settingsOf s) src a ≡ true
     -- there are twenty boxes, and the places are there
     pub boxed : length boxes ≡ 80
     pub placed : form .places ≤ length places / 7
@@ -47,6 +52,6 @@ module _ (form : Form) (boxes places : List ℕ) (s : DecodeSettings) (src : Lis
 -- A page whose verdict is 0 counts these heads.
 abbrev pub CountedMeans : Type 0
 CountedMeans =
-    (form : Form) (boxes places : List ℕ) (s : DecodeSettings) (src : List ℕ) (a : Page.Answer)
-    → verdictOn form boxes places s src a .number ≡ 0
-    → Counts form boxes places s src a (verdictOn form boxes places s src a .heads)
+    (form : Form) (boxes places : List ℕ) (s : DecodeSettings) (src : List ℕ) (gave : Bool) (a : Page.Answer)
+    → verdictOn form boxes places s src gave a .number ≡ 0
+    → Counts form boxes places s src gave a (verdictOn form boxes places s src gave a .heads)

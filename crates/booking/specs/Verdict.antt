@@ -8,13 +8,15 @@ use lib.ListN.{length}
 use Rattle.rules.specs.Answers.{complete}
 use Rattle.rules.specs.Pages as Page
 use Rattle.rules.specs.Pages.{decode, placesIn, changesAfter, endsAfter, marksAfter}
+use Rattle.rules.specs.Standing.{gaveUp}
+use Rattle.rules.specs.Proper.{isProper, partsIn}
 use Rattle.settings.specs.Settings.{settingsOf}
 use Rattle.settings.specs.declared.DecodeSettings.{DecodeSettings}
 use Rattle.settings.specs.declared.EncodingMode.{EncodingMode}
 use Rattle.settings.specs.declared.EncodingMode.the-variants.{Group4, «Group3_1D», «Group3_2D»}
 use Rattle.heads.specs.Form as Heads
 use Rattle.form_file.specs.declared.Form.{Form}
-use Rattle.ledger.specs.Verdicts.{otherColumns, bytesBehind, otherRows, unfitForm}
+use Rattle.ledger.specs.Verdicts.{otherColumns, bytesBehind, otherRows, eolsGivenUp, notProper, unfitForm}
 use Rattle.ledger.specs.declared.Verdict.{Verdict}
 use Rattle.booking.specs.Tests.{finding, plainly, onPage}
 use Rattle.booking.specs.declared.Finding.{Finding}
@@ -77,6 +79,8 @@ module _ (form : Form) (boxes places : List ℕ) (s : DecodeSettings) (size : �
   abbrev pub pageOf : Heads.Page
   pageOf = record { columns = s .columns; rows = a .rows }
 
+-- and with it whether EOLs were given up in it, whether it is proper, and else the first bit at which it parts from what would be written
+module _ (form : Form) (boxes places : List ℕ) (s : DecodeSettings) (size : ℕ) (gave proper : Bool) (parts : ℕ) (a : Page.Answer) where
   unfoldable pub judged : Finding
   judged =
       elim (fits form s) [
@@ -92,9 +96,19 @@ module _ (form : Form) (boxes places : List ℕ) (s : DecodeSettings) (size : �
                         elim (eqb (a .bytes) size) [
                           | false ↦ finding bytesBehind 0 0 0 (size - a .bytes) 0 0
                           | true ↦
-                              elim (leb (form .least) (length (a .rows)) && leb (length (a .rows)) (form .most)) [
-                                | false ↦ finding otherRows 0 0 0 (length (a .rows)) (form .least) (form .most)
-                                | true ↦ onPage form boxes places (s .encoding) pageOf (a .marks)
+                              -- a row that is read behind EOLs that were given up may hang on bytes far behind it
+                              elim gave [
+                                | true ↦ plainly eolsGivenUp
+                                | false ↦
+                                    elim (leb (form .least) (length (a .rows)) && leb (length (a .rows)) (form .most)) [
+                                      | false ↦ finding otherRows 0 0 0 (length (a .rows)) (form .least) (form .most)
+                                      | true ↦
+                                          -- only where the form asks for it
+                                          elim (form .proper && not proper) [
+                                            | true ↦ finding notProper 0 0 0 parts 0 0
+                                            | false ↦ onPage form boxes places (s .encoding) (pageOf form boxes places s size a) (a .marks)
+                                          ]
+                                    ]
                               ]
                         ]
                   ]
@@ -123,12 +137,17 @@ verdictOf a f = record {
 abbrev pub readingOf : DecodeSettings → List ℕ → List ℕ → List ℕ → List ℕ → Page.Answer
 readingOf s src changes ends marks = decode (settingsOf s) src (length changes) (placesIn ends marks)
 
-unfoldable pub verdictOn : Form → List ℕ → List ℕ → DecodeSettings → List ℕ → Page.Answer → Verdict
-verdictOn form boxes places s src a = verdictOf a (judged form boxes places s (length src) a)
+-- and whether EOLs are given up in one of the rows
+abbrev pub gaveUpIn : DecodeSettings → List ℕ → List ℕ → List ℕ → List ℕ → Bool
+gaveUpIn s src changes ends marks = gaveUp (settingsOf s) src (length changes) (placesIn ends marks)
+
+unfoldable pub verdictOn : Form → List ℕ → List ℕ → DecodeSettings → List ℕ → Bool → Page.Answer → Verdict
+verdictOn form boxes places s src gave a =
+    verdictOf a (judged form boxes places s (length src) gave (isProper (settingsOf s) src a) (partsIn (settingsOf s) src a) a)
 
 -- the verdict, and the arrays behind it: they hold what was read
 pub record Judges (form : Form) (boxes places : List ℕ) (s : DecodeSettings) (src : List ℕ) (xs es ms : List ℕ) (r : Verdict) (ys fs ns : List ℕ) : Type 0 where
-  pub verdict : r ≡ verdictOn form boxes places s src (readingOf s src xs es ms)
+  pub verdict : r ≡ verdictOn form boxes places s src (gaveUpIn s src xs es ms) (readingOf s src xs es ms)
   pub changes : ys ≡ changesAfter (readingOf s src xs es ms) xs
   pub ends : fs ≡ endsAfter (readingOf s src xs es ms) es
   pub marks : ns ≡ marksAfter (readingOf s src xs es ms) ms

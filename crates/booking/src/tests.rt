@@ -61,7 +61,7 @@ pub(crate) fn found(
 }
 
 // The number alone.
-fn plainly(number: u32) -> Finding
+pub(crate) fn plainly(number: u32) -> Finding
     ensures { λ r. ⌜ r ≡ Tests.plainly number ⌝ }
 {
     found(number, 0, 0, 0, 0, 0, 0)

@@ -33,7 +33,7 @@ oneSaid said ns = elim (eqb (length ns) 1) [ true ↦ said (getD ns 0 0) | false
 abbrev pub placeSaid : ℕ → List ℕ → Said
 placeSaid kind ns = elim (eqb (length ns) 5) [ true ↦ place kind (boxIn ns 0) (getD ns 4 0) | false ↦ wrong ]
 
--- `proper`, and no number: a page is to be, to the last bit, what a fax machine writes for its rows
+-- `proper`, and no number: a page is to be, to the last bit, what a writer of T.6 or T.4 writes for its rows
 abbrev pub properSaid : List ℕ → Said
 properSaid ns = elim (eqb (length ns) 0) [ true ↦ proper | false ↦ wrong ]
 

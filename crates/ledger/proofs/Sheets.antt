@@ -69,7 +69,7 @@ gave-up : said (looked 23 0 0 0 0 0 0 0) ≡ ascii "b\t23\t-\t30\t23: the page's
 unfolding said looked ascii digits decimal S.fill S.shown S.pageLine P.words P.reasonAt P.plainAt books
 gave-up = refl
 
-not-proper : said (looked 24 0 0 0 0 871 0 0) ≡ ascii "b\t24\t-\t30\t24: the page's bits are not those that a fax machine writes for its rows: they part at bit 871\n"
+not-proper : said (looked 24 0 0 0 0 871 0 0) ≡ ascii "b\t24\t-\t30\t24: the page's bits are not those that a writer writes for its rows: they part at bit 871\n"
 unfolding said looked ascii digits decimal S.fill S.shown S.pageLine P.words P.reasonAt P.plainAt books
 not-proper = refl
 

@@ -71,7 +71,7 @@ words =
     -- 23
     "the page's end-of-line marks stop before its end" ∷
     -- 24
-    "the page's bits are not those that a fax machine writes for its rows: they part at bit C" ∷
+    "the page's bits are not those that a writer writes for its rows: they part at bit C" ∷
     -- 32
     "the form's line F is none of a form" ∷
     -- 33

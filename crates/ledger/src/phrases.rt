@@ -27,7 +27,7 @@ const MISSING: usize = 63;
 
 pub(crate) const ALONE: usize = 67;
 
-pub(crate) fn phrases() -> [u8; 2807]
+pub(crate) fn phrases() -> [u8; 2802]
     ensures { λ r. ⌜ r ≡ lined words ⌝ }
 {
     *b"\tA\tH\tN\tcounted\n\
@@ -61,7 +61,7 @@ pub(crate) fn phrases() -> [u8; 2807]
         the place of the form's line F has C black pixels, and may have M at most\n\
         (said by its lines below)\n\
         the page's end-of-line marks stop before its end\n\
-        the page's bits are not those that a fax machine writes for its rows: they part at bit C\n\
+        the page's bits are not those that a writer writes for its rows: they part at bit C\n\
         the form's line F is none of a form\n\
         the form's line F says what a line above it says\n\
         the form's line F has numbers out of order\n\

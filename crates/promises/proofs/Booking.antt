@@ -1,6 +1,7 @@
 -- The steward's number: a line that says counted means what it should, and a form that we wrote has the verdict of its rows. Assumes nothing.
 use mathlib.Core.Path.{_≡_, refl, sym, ap, _∙_, subst}
-use mathlib.Core.Bool.{Bool, true, false}
+use mathlib.Core.Bool.{Bool, true, false, not, _&&_}
+use mathlib.Core.Logic.{inl}
 use mathlib.Core.List.{List}
 use Prim.Native.Nat.{ℕ, _≤_}
 use native.Mathlib.Omega.{arith}
@@ -9,15 +10,17 @@ use lib.Seq.{take-take}
 use borrow.Author.Tests.{eqb-false}
 use Rattle.rules.specs.Pages as Page
 use Rattle.rules.specs.Pages.{mostBytes, placesIn, changesAfter, endsAfter, marksAfter}
+use Rattle.rules.specs.Proper.{isProper, partsIn}
 use Rattle.rules.specs.Write.{rowsIn, writePage}
 use Rattle.rules.proofs.RoundTrip.{page-written}
 use Rattle.rules.proofs.Store.{length-rowsIn}
 use Rattle.answer.specs.Answer.{answerOf}
 use Rattle.answer.specs.declared.Answer.{Answer}
-use Rattle.settings.specs.Settings.{settingsOf}
+use Rattle.settings.specs.Settings.{encodingOf, settingsOf}
 use Rattle.settings.specs.declared.DecodeSettings.{DecodeSettings}
 use Rattle.settings.specs.declared.EncodingMode.{EncodingMode}
 use Rattle.settings.specs.declared.EncodingMode.the-variants.{Group4}
+use Rattle.ccitt.specs.Decode.{Decodes}
 use Rattle.writer.specs.Outcome as Writer
 use Rattle.heads.specs.Form as Heads
 use Rattle.ledger.specs.Books.{booked}
@@ -26,12 +29,15 @@ use Rattle.form_file.specs.FormFile.{boxAt}
 use Rattle.form_file.specs.declared.Form.{Form}
 use Rattle.booking.specs.Tests.{onPage}
 use Rattle.booking.specs.Verdict.{verdictOf, verdictOn}
-use Rattle.booking.specs.Booked.{Given, formRead, boxesAfter, placesAfter, pageSettings, pageRead, unsound, isSound, verdictFrom}
+use Rattle.booking.specs.Booked.{Given, formRead, boxesAfter, placesAfter, pageSettings, pageRead, pageGaveUp, unsound, isSound, verdictFrom}
 use Rattle.booking.proofs.Findings.{rows-fit, is-whole}
 use Rattle.booking.proofs.Means as Means
 use Rattle.rules.proofs.Stored.{decode-modest}
+use Rattle.promises.specs.Rooms.{Call}
 use Rattle.promises.specs.Booking.{formOf, Ticked, Counted, CountedLine, CountedMeans, Arrived, WrittenFormIsCounted}
 use Rattle.promises.proofs.Demand3.{page-is-whole, written-page-reads-back}
+use Rattle.promises.proofs.NeverBack.{sure-gives-none-up}
+use Rattle.promises.proofs.Proper.{written-page-is-proper}
 use Rattle.promises.proofs.Ledgers.{entered}
 use Rattle.promises.proofs.CountedTicks.{Alone, ticks, clean-boxes}
 use Rattle.promises.proofs.CountedRows.{clean-place, read-row}
@@ -41,7 +47,7 @@ use Rattle.promises.proofs.CountedLine.{counted-line}
 
 module _ (g : Given) where
   abbrev onForm : Verdict
-  onForm = verdictOn (formOf g) (boxesAfter g) (placesAfter g) (pageSettings g) (g .src) (pageRead g)
+  onForm = verdictOn (formOf g) (boxesAfter g) (placesAfter g) (pageSettings g) (g .src) (pageGaveUp g) (pageRead g)
 
   -- by a form that is sound the page is judged,
   sound-verdict : isSound (formRead g .formed) ≡ true → verdictFrom g ≡ onForm
@@ -69,7 +75,7 @@ module _ (g : Given) where
 
   counted : onForm .number ≡ 0 → Counted g onForm
   counted z =
-      let c = Means.counted-means (formOf g) (boxesAfter g) (placesAfter g) (pageSettings g) (g .src) (pageRead g) z in
+      let c = Means.counted-means (formOf g) (boxesAfter g) (placesAfter g) (pageSettings g) (g .src) (pageGaveUp g) (pageRead g) z in
       let t = ticks (pageSettings g) (g .src) (length (g .changes)) places (boxesAfter g) (formOf g .tick) (c .answer) in
       record {
         tens = t .tens;
@@ -83,7 +89,7 @@ module _ (g : Given) where
             (boxAt (boxesAfter g) k) refl (u .top) (u .bottom) (u .wide) (u .left) (u .row));
         place-rows = λ k y h u.
             read-row (pageSettings g) (g .src) (length (g .changes)) places y (u .row)
-            (clean-place (formOf g) (boxesAfter g) (placesAfter g) (pageSettings g) (g .src) (pageRead g) (onForm .heads) c k y h
+            (clean-place (formOf g) (boxesAfter g) (placesAfter g) (pageSettings g) (g .src) (pageGaveUp g) (pageRead g) (onForm .heads) c k y h
             (u .top) (u .bottom) (u .wide) (u .left) (u .row));
         counts = c;
       }
@@ -148,12 +154,23 @@ found-same : (form : Form) (boxes places : List ℕ) (encoding : EncodingMode) (
     → onPage form boxes places encoding (record { columns = columns; rows = rows }) marks ≡ onPage form boxes places encoding′ (record { columns = columns′; rows = rows′ }) marks′
 found-same form boxes places encoding columns rows marks encoding′ columns′ rows′ marks′ e f g h = rw (e, f, g, h)
 
+-- a proper page is not refused for it
+unasked : (t p : Bool) → p ≡ true → (t && not p) ≡ false
+unasked t true e = either t
+  where
+    either : (b : Bool) → (b && false) ≡ false
+    either true = refl
+    either false = refl
+unasked t false e = absurd (let z : _≡_ {A = ℕ} 0 1 = cc in omega arith)
+
 pub written-form-is-counted : WrittenFormIsCounted
 unfolding verdictOn
 written-form-is-counted columns changes ends out w out′ narrow written z g came sound fit wide enough few-rows =
     sound-verdict g sound
     ∙ ap (verdictOf (pageRead g))
-    (sym (rows-fit form boxes places (s .encoding) page (a .marks) (length ends) (sym count) enough few-rows ∙ is-whole form boxes places s (length (g .src)) a fit (b .done) same-width modest all)
+    (sym
+    (rows-fit form boxes places (s .encoding) proper parts page (a .marks) (length ends) (sym count) enough few-rows (unasked (form .proper) proper is-proper)
+    ∙ is-whole form boxes places s (length (g .src)) gave proper parts a fit (b .done) same-width modest all kept)
     ∙ found-same form boxes places (s .encoding) (s .columns) (a .rows) (a .marks) Group4 columns (rowsIn 0 changes ends) (replicate (length ends) 0)
     (came .plainly .group-4) (came .plainly .same-columns) (b .rows-are) (b .marks-are))
   where
@@ -186,6 +203,41 @@ written-form-is-counted columns changes ends out w out′ narrow written z g cam
 
     modest : a .bytes ≤ length (g .src)
     modest = decode-modest (settingsOf s) (g .src) (length (g .changes)) (placesIn (g .ends) (g .marks)) .few-bytes
+
+    gave : Bool
+    gave = pageGaveUp g
+
+    proper : Bool
+    proper = isProper (settingsOf s) (g .src) a
+
+    parts : ℕ
+    parts = partsIn (settingsOf s) (g .src) a
+
+    -- a call of `check` that read the page
+    call : Call
+    call = record {
+      changes = g .changes;
+      ends = g .ends;
+      marks = g .marks;
+      answer = answerOf a;
+      changes′ = changesAfter a (g .changes);
+      ends′ = endsAfter a (g .ends);
+      marks′ = marksAfter a (g .marks);
+    }
+
+    decodes : Decodes (g .src) s (g .changes) (g .ends) (g .marks) (answerOf a) (changesAfter a (g .changes)) (endsAfter a (g .ends)) (marksAfter a (g .marks))
+    decodes = record { answer = refl; changes = refl; ends = refl; marks = refl }
+
+    -- it is proper, and Group 4 gives no EOLs up
+    is-proper : proper ≡ true
+    is-proper =
+        written-page-is-proper columns changes ends out w out′ narrow written z (g .src) (small columns changes ends out w out′ narrow written z g came)
+        (same columns changes ends out w out′ narrow written z g came) s (came .plainly) (came .all-rows) call (record { answer = answerOf a; parts = parts; «gave_up» = gave; proper = proper })
+        (record { store = came .changes-room; places = came .ends-room; marks = came .marks-room })
+        (record { checks = record { decodes = decodes; gave-up = refl; proper = refl; parts = refl }; answer = refl })
+
+    kept : gave ≡ false
+    kept = sure-gives-none-up (g .src) s call gave (record { decodes = decodes; gave-up = refl }) (inl (ap encodingOf (came .plainly .group-4)))
 
     all : length (g .src) ≤ a .bytes
     all = omega (arith, b .all-bytes, few columns changes ends out w out′ narrow written z g came)

@@ -56,10 +56,11 @@ module _ (at : ℕ → Box) where
 -- ---- The rows under a place
 
 -- on a page that is counted, each row of which a place holds a pixel is marked clean
-pub clean-place : (form : Form) (boxes places : List ℕ) (s : DecodeSettings) (src : List ℕ) (a : Page.Answer) (heads : ℕ) → Counts form boxes places s src a heads
+pub clean-place : (form : Form) (boxes places : List ℕ) (s : DecodeSettings) (src : List ℕ) (gave : Bool) (a : Page.Answer) (heads : ℕ)
+    → Counts form boxes places s src gave a heads
     → (k y : ℕ) → k < form .places → placeAt places k .top ≤ y → y < placeAt places k .bottom → placeAt places k .left < placeAt places k .right
     → placeAt places k .left < s .columns → y < length (a .rows) → getD (a .marks) y 0 ≡ 0
-clean-place form boxes places s src a heads c k y h top bottom wide left row = by (underAbove (s .encoding)) refl
+clean-place form boxes places s src gave a heads c k y h top bottom wide left row = by (underAbove (s .encoding)) refl
   where
     by : (t : Bool) → underAbove (s .encoding) ≡ t → getD (a .marks) y 0 ≡ 0
     by true e = c .clean-above e y row (let l = lowest-below (placeAt places) (form .places) 0 (lowest (boxAt boxes) 20 0 0) k (omega arith) (omega arith) in omega (arith, l))

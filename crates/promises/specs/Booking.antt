@@ -26,7 +26,7 @@ use Rattle.form_file.specs.declared.Form.{Form}
 use Rattle.booking.specs.Tests.{onPage}
 use Rattle.booking.specs.Verdict.{fits, verdictOf}
 use Rattle.booking.specs.Means.{Counts}
-use Rattle.booking.specs.Booked.{Given, formRead, boxesAfter, placesAfter, pageSettings, pageRead, isSound, verdictFrom, Books}
+use Rattle.booking.specs.Booked.{Given, formRead, boxesAfter, placesAfter, pageSettings, pageRead, pageGaveUp, isSound, verdictFrom, Books}
 use Rattle.booking.specs.declared.Booked.{Booked}
 use Rattle.promises.specs.Demand3.{Plainly}
 use Rattle.promises.specs.HeadsOfPage.{ByItsLine}
@@ -72,8 +72,8 @@ module _ (g : Given) where
     -- "every row under a box or place read by its own line"
     pub box-rows : (k y : ℕ) → k < 20 → Under (boxAt (boxesAfter g) k) y → Read y
     pub place-rows : (k y : ℕ) → k < formOf .places → Under (placeAt (placesAfter g) k) y → Read y
-    -- "as many rows as the form says, no byte left over, every place as it must be, no box in doubt"
-    pub counts : Counts formOf (boxesAfter g) (placesAfter g) (pageSettings g) (g .src) (pageRead g) (v .heads)
+    -- "as many rows as the form says, no byte left over, every place as it must be, no box in doubt"; EOLs were not given up, and the page is proper where the form asks for that
+    pub counts : Counts formOf (boxesAfter g) (placesAfter g) (pageSettings g) (g .src) (pageGaveUp g) (pageRead g) (v .heads)
 
   -- the form is sound, its text was read, and the line that was written begins with the name, the number 0 and the heads in decimal; the quota left and the words are the rest
   pub record CountedLine (name : List ℕ) (r : Booked) (out′ : List ℕ) : Type 0 where

@@ -98,8 +98,11 @@ module _ (S : Settings) (changes ends out out′ : List ℕ) (store places : ℕ
 
       -- the page lies in the output, so its bytes are there
       fits : length xs ≤ 8 * length out
-      fits = omega (arith,
-          wrote (S .columns) (endsRise (length changes) 0 ends && allAscend (S .columns) (rowsIn 0 changes ends)) xs (bytesTo (length xs)) out 0 done .fits, length-bitsOf out)
+      fits = omega (
+        arith,
+        wrote (S .columns) (endsRise (length changes) 0 ends && allAscend (S .columns) (rowsIn 0 changes ends)) xs (bytesTo (length xs)) out 0 done .fits,
+        length-bitsOf out,
+      )
 
       end-is : end ≡ bytesTo (length xs)
       end-is = page-written (S .columns) (plain .narrow) changes ends out done .end-is

@@ -5,13 +5,13 @@ use Rattle.booking.proofs.Stored.{reading-held, page-judged}
 use Rattle.booking.proofs.judging.judge.Statement.{statement}
 use Rattle.booking.proofs.judging.judge.Tie as tie
 
-decode-requires : tie.Need-decode-requires
-decode-requires c κs = search needs
+read-page-requires : tie.Need-read-page-requires
+read-page-requires c κs = search needs
 
 judged-requires : tie.Need-judged-requires
 judged-requires c κs =
     let s = c .before .before .before .before .before .before .before .before .before .before .before .before .before .before .before .before .before .before .before .args in
-    reading-held (s .settings) (now (s .src)) (now (s .changes)) (now (s .ends)) (now (s .marks)) _ _ _ _ (c .before .before .before .before .before .before .before .before .before .decode .ensures)
+    reading-held (s .settings) (now (s .src)) (now (s .changes)) (now (s .ends)) (now (s .marks)) (s .form) _ _ _ _ (c .before .before .before .before .before .before .before .before .before .read-page .ensures)
 
 verdict-of-requires : tie.Need-verdict-of-requires
 verdict-of-requires c κs = search needs
@@ -28,14 +28,14 @@ same-length-3 c = search needs
 returns : tie.Need-returns
 returns c =
     let s = c .before .before .before .before .before .before .before .before .before .before .before .before .before .before .before .before .before .before .before .before .before .args in
-    page-judged (s .settings) (now (s .src)) (now (s .changes)) (now (s .ends)) (now (s .marks)) _ _ _ _ (c .before .before .before .before .before .before .before .before .before .before .before .decode .ensures)
-    (s .form) (now (s .boxes)) (now (s .places)) _ (c .before .judged .ensures) _ (c .verdict-of .ensures)
+    page-judged (s .settings) (now (s .src)) (now (s .changes)) (now (s .ends)) (now (s .marks)) (s .form) _ _ _ _ (c .before .before .before .before .before .before .before .before .before .before .before .read-page .ensures)
+    (now (s .boxes)) (now (s .places)) _ (c .before .judged .ensures) _ (c .verdict-of .ensures)
 
 pub judge-spec : {M : Type 1} → statement M
 judge-spec =
     tie.close
     (tie.spec
-    decode-requires
+    read-page-requires
     judged-requires
     verdict-of-requires
     same-length

@@ -1,11 +1,11 @@
--- `booking::judging::on_rows` meets its contract: too few rows, too many, or what is found on the page in the store. Assumes nothing.
+-- `booking::judging::on_rows` meets its contract: too few rows, too many, a page that is not proper, or what is found on the page in the store. Assumes nothing.
 use mathlib.Core.Path.{_∙_, sym}
 use denote.Ref.{now}
 use lib.Seq.{length-take-le}
 use lib.ListN.{take}
 use borrow.Author.Needs.{needs}
 use Rattle.heads.specs.Form.{pageIn}
-use Rattle.booking.proofs.Findings.{rows-kept, rows-few, rows-many, rows-fit}
+use Rattle.booking.proofs.Findings.{rows-kept, rows-few, rows-many, rows-part, rows-fit}
 use Rattle.booking.proofs.judging.on_rows.Statement.{statement}
 use Rattle.booking.proofs.judging.on_rows.Tie as tie
 
@@ -19,7 +19,7 @@ returns : tie.Need-returns
 returns c =
     let s = c .before .before .before .before .before .before .before .before .args in
     c .other-rows .ensures
-    ∙ rows-few (s .form) (now (s .boxes)) (now (s .places)) (s .settings .encoding) (pageIn (s .settings .columns) (now (s .changes)) (take (s .rows) (now (s .ends)))) (take (s .rows) (now (s .marks))) (s .rows)
+    ∙ rows-few (s .form) (now (s .boxes)) (now (s .places)) (s .settings .encoding) (s .proper) (s .parts) (pageIn (s .settings .columns) (now (s .changes)) (take (s .rows) (now (s .ends)))) (take (s .rows) (now (s .marks))) (s .rows)
     (rows-kept (s .rows) (s .settings .columns) (now (s .changes)) (now (s .ends)) (now (s .marks)) (c .before .before .before .before .before .before .before .before .pre)) (c .before .if1 .taken)
 
 cast-if2 : tie.Need-cast-if2
@@ -32,26 +32,39 @@ returns-2 : tie.Need-returns-2
 returns-2 c =
     let s = c .before .before .before .before .before .before .before .before .before .before .args in
     c .other-rows2 .ensures
-    ∙ rows-many (s .form) (now (s .boxes)) (now (s .places)) (s .settings .encoding) (pageIn (s .settings .columns) (now (s .changes)) (take (s .rows) (now (s .ends)))) (take (s .rows) (now (s .marks))) (s .rows)
+    ∙ rows-many (s .form) (now (s .boxes)) (now (s .places)) (s .settings .encoding) (s .proper) (s .parts) (pageIn (s .settings .columns) (now (s .changes)) (take (s .rows) (now (s .ends)))) (take (s .rows) (now (s .marks))) (s .rows)
     (rows-kept (s .rows) (s .settings .columns) (now (s .changes)) (now (s .ends)) (now (s .marks)) (c .before .before .before .before .before .before .before .before .before .before .pre)) (c .before .if2 .taken)
 
-slice-aggregate-on-page : tie.Need-slice-aggregate-on-page
-slice-aggregate-on-page c = sym (length-take-le (c .before .before .before .before .before .before .before .before .before .before .args .rows) (now (c .before .before .before .before .before .before .before .before .before .before .args .ends)) (c .before .before .before .before .before .before .before .before .before .before .pre .placed))
+is-improper-requires : tie.Need-is-improper-requires
+is-improper-requires c κs = search needs
 
-slice-aggregate-on-page-2 : tie.Need-slice-aggregate-on-page-2
-slice-aggregate-on-page-2 c = sym (length-take-le (c .before .before .before .before .before .before .before .before .before .before .before .args .rows) (now (c .before .before .before .before .before .before .before .before .before .before .before .args .marks)) (c .before .before .before .before .before .before .before .before .before .before .before .pre .marked))
-
-on-page-requires : tie.Need-on-page-requires
-on-page-requires c κs =
-    let s = c .before .before .before .before .before .before .before .before .before .before .before .args in
-    (c .before .before .before .before .before .before .before .before .before .before .before .pre .sound, length-take-le (s .rows) (now (s .marks)) (c .before .before .before .before .before .before .before .before .before .before .before .pre .marked) ∙ sym (length-take-le (s .rows) (now (s .ends)) (c .before .before .before .before .before .before .before .before .before .before .before .pre .placed)))
+found-requires : tie.Need-found-requires
+found-requires c κs = search needs
 
 returns-3 : tie.Need-returns-3
 returns-3 c =
     let s = c .before .before .before .before .before .before .before .before .before .before .before .before .args in
+    c .found .ensures
+    ∙ rows-part (s .form) (now (s .boxes)) (now (s .places)) (s .settings .encoding) (s .proper) (s .parts) (pageIn (s .settings .columns) (now (s .changes)) (take (s .rows) (now (s .ends)))) (take (s .rows) (now (s .marks))) (s .rows)
+    (rows-kept (s .rows) (s .settings .columns) (now (s .changes)) (now (s .ends)) (now (s .marks)) (c .before .before .before .before .before .before .before .before .before .before .before .before .pre)) (c .before .before .before .before .before .if1 .left) (c .before .before .before .if2 .left) (sym (c .before .before .is-improper .ensures) ∙ c .before .if3 .taken)
+
+slice-aggregate-on-page : tie.Need-slice-aggregate-on-page
+slice-aggregate-on-page c = let s = c .before .before .before .before .before .before .before .before .before .before .before .before in sym (length-take-le (s .args .rows) (now (s .args .ends)) (s .pre .placed))
+
+slice-aggregate-on-page-2 : tie.Need-slice-aggregate-on-page-2
+slice-aggregate-on-page-2 c = let s = c .before .before .before .before .before .before .before .before .before .before .before .before .before in sym (length-take-le (s .args .rows) (now (s .args .marks)) (s .pre .marked))
+
+on-page-requires : tie.Need-on-page-requires
+on-page-requires c κs =
+    let s = c .before .before .before .before .before .before .before .before .before .before .before .before .before in
+    (s .pre .sound, length-take-le (s .args .rows) (now (s .args .marks)) (s .pre .marked) ∙ sym (length-take-le (s .args .rows) (now (s .args .ends)) (s .pre .placed)))
+
+returns-4 : tie.Need-returns-4
+returns-4 c =
+    let s = c .before .before .before .before .before .before .before .before .before .before .before .before .before .before .args in
     c .on-page .ensures
-    ∙ rows-fit (s .form) (now (s .boxes)) (now (s .places)) (s .settings .encoding) (pageIn (s .settings .columns) (now (s .changes)) (take (s .rows) (now (s .ends)))) (take (s .rows) (now (s .marks))) (s .rows)
-    (rows-kept (s .rows) (s .settings .columns) (now (s .changes)) (now (s .ends)) (now (s .marks)) (c .before .before .before .before .before .before .before .before .before .before .before .before .pre)) (c .before .before .before .before .before .if1 .left) (c .before .before .before .if2 .left)
+    ∙ rows-fit (s .form) (now (s .boxes)) (now (s .places)) (s .settings .encoding) (s .proper) (s .parts) (pageIn (s .settings .columns) (now (s .changes)) (take (s .rows) (now (s .ends)))) (take (s .rows) (now (s .marks))) (s .rows)
+    (rows-kept (s .rows) (s .settings .columns) (now (s .changes)) (now (s .ends)) (now (s .marks)) (c .before .before .before .before .before .before .before .before .before .before .before .before .before .before .pre)) (c .before .before .before .before .before .before .before .if1 .left) (c .before .before .before .before .before .if2 .left) (sym (c .before .before .before .before .is-improper .ensures) ∙ c .before .before .before .if3 .left)
 
 pub on-rows-spec : {M : Type 1} → statement M
 on-rows-spec =
@@ -63,7 +76,10 @@ on-rows-spec =
     cast-if2
     other-rows-requires-2
     returns-2
+    is-improper-requires
+    found-requires
+    returns-3
     slice-aggregate-on-page
     slice-aggregate-on-page-2
     on-page-requires
-    returns-3)
+    returns-4)
