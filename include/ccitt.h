@@ -84,6 +84,36 @@ ccitt_answer ccitt_decode_group3_2d(const uint8_t *src, size_t src_len, uint32_t
                                     uint32_t *changes, size_t changes_len, uint64_t *ends, size_t ends_len, uint8_t *marks,
                                     size_t marks_len);
 
+/* What a careful reader asks of a page that was read.
+   answer:  of the page, as above; so are the arrays.
+   parts:   the first bit of the data, from 0, at which the bytes that the page took part from what a writer of the encoding writes for its rows; of a
+            proper page the bit behind its bytes. 0 where the page is not read to its end.
+   gave_up: a lenient Group 3 reading gave up its end-of-line marks, because none was left in the data: from there on every row hangs on all of the data,
+            clean or not.
+   proper:  the bytes that the page took are, to the last bit, what a writer writes for its rows: ccitt_write_page, ccitt_write_group3_1d with some fill or
+            without end-of-line marks, ccitt_write_group3_2d with some K. So the page says its rows twice; damage that leaves it proper has made it, bit for bit, another
+            page's writing. */
+typedef struct {
+    ccitt_answer answer;
+    uint64_t parts;
+    bool gave_up;
+    bool proper;
+} ccitt_checked;
+
+ccitt_checked ccitt_check_group4(const uint8_t *src, size_t src_len, uint32_t columns, uint32_t rows, bool end_of_block,
+                                 bool rows_are_byte_aligned, bool strict, bool exact, bool plain, uint32_t *changes,
+                                 size_t changes_len, uint64_t *ends, size_t ends_len, uint8_t *marks, size_t marks_len);
+
+ccitt_checked ccitt_check_group3_1d(const uint8_t *src, size_t src_len, uint32_t columns, uint32_t rows, bool end_of_block,
+                                    bool end_of_line, bool rows_are_byte_aligned, bool strict, bool exact, bool plain,
+                                    uint32_t *changes, size_t changes_len, uint64_t *ends, size_t ends_len, uint8_t *marks,
+                                    size_t marks_len);
+
+ccitt_checked ccitt_check_group3_2d(const uint8_t *src, size_t src_len, uint32_t columns, uint32_t rows, bool end_of_block,
+                                    bool end_of_line, bool rows_are_byte_aligned, bool strict, bool exact, bool plain,
+                                    uint32_t *changes, size_t changes_len, uint64_t *ends, size_t ends_len, uint8_t *marks,
+                                    size_t marks_len);
+
 /* One 2D line that begins at bit `at`, under a reference. */
 ccitt_answer ccitt_read_line(const uint8_t *src, size_t src_len, uint64_t at, uint32_t columns, bool strict,
                              const uint32_t *reference, size_t reference_len, uint32_t *changes, size_t changes_len);
