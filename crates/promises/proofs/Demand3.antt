@@ -95,7 +95,7 @@ module _ (columns : ℕ) (changes ends out : List ℕ) (w : Answer) (out′ : Li
   unfolding P
   out-bits = written .bits ∙ p .there
 
-  plain : (settings : DecodeSettings) → Plainly columns settings → Plain (settingsOf settings)
+  pub plain : (settings : DecodeSettings) → Plainly columns settings → Plain (settingsOf settings)
   plain settings s = record {
     encoded = ap encodingOf (s .group-4);
     blocked = s .blocked;

@@ -37,6 +37,7 @@ pub mod BadLines2D
 pub mod BadLinesBeyond
 pub mod CutGroup3
 pub mod NeverBack
+pub mod Proper
 pub mod Heads
 pub mod HeadRuns
 pub mod HeadsOfPage

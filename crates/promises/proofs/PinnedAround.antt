@@ -17,9 +17,10 @@ use Rattle.exports.specs.UnitState as Units
 use Rattle.exports.specs.UnitState.{ReadsUnitsForC}
 use Rattle.exports.proofs.UnitState as UnitLaws
 use Rattle.listing_text.proofs.Standing.{says-once}
-use Rattle.promises.specs.PinnedAround.{ForCGroup4Pinned, ForCGroup3Pinned, ForCRowPinned, ForCUnitsPinned, PushLinePinned, ParsePinned, PrintsPinned}
+use Rattle.promises.specs.PinnedAround.{ForCGroup4Pinned, ForCGroup3Pinned, ForCCheckPinned, ForCRowPinned, ForCUnitsPinned, PushLinePinned, ParsePinned, PrintsPinned}
 use Rattle.promises.proofs.OneAnswer.{settled-with}
 use Rattle.promises.proofs.Pinned.{decode-pinned, push-pinned}
+use Rattle.promises.proofs.Proper.{check-pinned}
 use Rattle.promises.proofs.ByRow.{read-row-pinned}
 use Rattle.promises.proofs.ByUnit.{read-units-pinned}
 
@@ -28,6 +29,9 @@ for-c-group3-pinned encoding src columns rows block line aligned strict exact pl
 
 pub for-c-group4-pinned : ForCGroup4Pinned
 for-c-group4-pinned src columns rows block aligned strict exact plain = for-c-group3-pinned Group4 src columns rows block false aligned strict exact plain
+
+pub for-c-check-pinned : ForCCheckPinned
+for-c-check-pinned encoding src columns rows block line aligned strict exact plain = check-pinned src (settingsFor columns rows block line aligned encoding strict exact plain)
 
 pub for-c-row-pinned : ForCRowPinned
 for-c-row-pinned src columns rows block line aligned encoding strict exact plain state first second r s xs ys es fs ms ns = cases

@@ -115,7 +115,7 @@ module _ (W : Written) (changes ends out : List ℕ) (w : Answer) (out′ : List
       a = called .answer ∙ ap answerOf is
 
 -- the settings of the rules
-told-2d : (columns rows : ℕ) (settings : DecodeSettings) → 0 < columns → columns ≤ mostPixels → For2D columns rows settings → Told2D (settingsOf settings) rows
+pub told-2d : (columns rows : ℕ) (settings : DecodeSettings) → 0 < columns → columns ≤ mostPixels → For2D columns rows settings → Told2D (settingsOf settings) rows
 told-2d columns rows settings wide narrow s = record {
   encoded = ap encodingOf (s .group-3);
   wide = omega (arith, s .same-columns);
@@ -125,7 +125,7 @@ told-2d columns rows settings wide narrow s = record {
   counted = s .counted;
 }
 
-told : (columns : ℕ) (eols : Bool) (rows : ℕ) (settings : DecodeSettings) → 0 < columns → columns ≤ mostPixels → For1D columns eols rows settings → Told1D (settingsOf settings) eols rows
+pub told : (columns : ℕ) (eols : Bool) (rows : ℕ) (settings : DecodeSettings) → 0 < columns → columns ≤ mostPixels → For1D columns eols rows settings → Told1D (settingsOf settings) eols rows
 told columns eols rows settings wide narrow s = record {
   encoded = ap encodingOf (s .group-3);
   wide = omega (arith, s .same-columns);

@@ -6,6 +6,7 @@ use Prim.Native.Nat.{ℕ}
 use Rattle.settings.specs.declared.EncodingMode.{EncodingMode}
 use Rattle.settings.specs.declared.EncodingMode.the-variants.{Group4}
 use Rattle.ccitt.specs.Decode.{Decodes}
+use Rattle.proper.specs.Checked.{Checks}
 use Rattle.context.specs.declared.line.Line.{Line}
 use Rattle.exports.specs.Exports.{settingsFor}
 use Rattle.exports.specs.RowState.{modeOf, ReadsRowForC}
@@ -30,6 +31,12 @@ abbrev pub ForCGroup3Pinned : Type 0
 ForCGroup3Pinned =
     (encoding : EncodingMode) (src : List ℕ) (columns rows : ℕ) (block line aligned strict exact plain : Bool) (changes ends marks : List ℕ)
     → OneWithThree (Decodes src (settingsFor columns rows block line aligned encoding strict exact plain) changes ends marks)
+
+-- ccitt_check_group4, ccitt_check_group3_1d and ccitt_check_group3_2d
+abbrev pub ForCCheckPinned : Type 0
+ForCCheckPinned =
+    (encoding : EncodingMode) (src : List ℕ) (columns rows : ℕ) (block line aligned strict exact plain : Bool) (changes ends marks : List ℕ)
+    → OneWithThree (Checks src (settingsFor columns rows block line aligned encoding strict exact plain) changes ends marks)
 
 -- ccitt_read_row, whose lent arrays are the state's numbers and the two line arrays
 abbrev pub ForCRowPinned : Type 0

@@ -38,6 +38,7 @@ pub mod of_one_line_line_1d;
 pub mod of_one_line_line_2d;
 pub mod of_one_line_one_code;
 pub mod of_one_line_read;
+pub mod of_proper;
 pub mod of_reader;
 pub mod of_reader_cursor;
 pub mod of_row_store;

@@ -3,8 +3,10 @@ use answer::Answer;
 use exports::UnitAnswer;
 use heads::HeadsAnswer;
 use ledger::Verdict;
+use proper::Checked;
 ghost use Rattle.settings.specs.declared.EncodingMode.the-variants.{Group4, «Group3_1D», «Group3_2D»};
 ghost use Rattle.ccitt.specs.Decode.{Decodes};
+ghost use Rattle.proper.specs.Checked.{Checks};
 ghost use Rattle.one_line.specs.OneLine.{ReadOne};
 ghost use Rattle.rules.specs.Write.{writeLine, writePage};
 ghost use Rattle.rules.specs.WriteGroup3.{write1D, write2D};
@@ -97,6 +99,100 @@ pub fn ccitt_decode_group3_2d(
     ensures { λ r. ⌜ Decodes (now (src .entry)) (settingsFor columns rows «end_of_block» «end_of_line» «rows_are_byte_aligned» «Group3_2D» strict exact plain) (now (changes .entry)) (now (ends .entry)) (now (marks .entry)) r (now (changes .exit)) (now (ends .exit)) (now (marks .exit)) ⌝ }
 {
     exports::ccitt_decode_group3_2d(
+        src,
+        columns,
+        rows,
+        end_of_block,
+        end_of_line,
+        rows_are_byte_aligned,
+        strict,
+        exact,
+        plain,
+        changes,
+        ends,
+        marks,
+    )
+}
+
+pub fn ccitt_check_group4(
+    src: &[u8],
+    columns: u32,
+    rows: u32,
+    end_of_block: bool,
+    rows_are_byte_aligned: bool,
+    strict: bool,
+    exact: bool,
+    plain: bool,
+    changes: &mut [u32],
+    ends: &mut [u64],
+    marks: &mut [u8],
+) -> Checked
+    ensures { λ r. ⌜ Checks (now (src .entry)) (settingsFor columns rows «end_of_block» false «rows_are_byte_aligned» Group4 strict exact plain) (now (changes .entry)) (now (ends .entry)) (now (marks .entry)) r (now (changes .exit)) (now (ends .exit)) (now (marks .exit)) ⌝ }
+{
+    exports::ccitt_check_group4(
+        src,
+        columns,
+        rows,
+        end_of_block,
+        rows_are_byte_aligned,
+        strict,
+        exact,
+        plain,
+        changes,
+        ends,
+        marks,
+    )
+}
+
+pub fn ccitt_check_group3_1d(
+    src: &[u8],
+    columns: u32,
+    rows: u32,
+    end_of_block: bool,
+    end_of_line: bool,
+    rows_are_byte_aligned: bool,
+    strict: bool,
+    exact: bool,
+    plain: bool,
+    changes: &mut [u32],
+    ends: &mut [u64],
+    marks: &mut [u8],
+) -> Checked
+    ensures { λ r. ⌜ Checks (now (src .entry)) (settingsFor columns rows «end_of_block» «end_of_line» «rows_are_byte_aligned» «Group3_1D» strict exact plain) (now (changes .entry)) (now (ends .entry)) (now (marks .entry)) r (now (changes .exit)) (now (ends .exit)) (now (marks .exit)) ⌝ }
+{
+    exports::ccitt_check_group3_1d(
+        src,
+        columns,
+        rows,
+        end_of_block,
+        end_of_line,
+        rows_are_byte_aligned,
+        strict,
+        exact,
+        plain,
+        changes,
+        ends,
+        marks,
+    )
+}
+
+pub fn ccitt_check_group3_2d(
+    src: &[u8],
+    columns: u32,
+    rows: u32,
+    end_of_block: bool,
+    end_of_line: bool,
+    rows_are_byte_aligned: bool,
+    strict: bool,
+    exact: bool,
+    plain: bool,
+    changes: &mut [u32],
+    ends: &mut [u64],
+    marks: &mut [u8],
+) -> Checked
+    ensures { λ r. ⌜ Checks (now (src .entry)) (settingsFor columns rows «end_of_block» «end_of_line» «rows_are_byte_aligned» «Group3_2D» strict exact plain) (now (changes .entry)) (now (ends .entry)) (now (marks .entry)) r (now (changes .exit)) (now (ends .exit)) (now (marks .exit)) ⌝ }
+{
+    exports::ccitt_check_group3_2d(
         src,
         columns,
         rows,
