@@ -8,6 +8,7 @@ use crate::walk::Counts;
 use answer::Answer;
 use by_row::RowState;
 use ledger::Verdict;
+use proper::Checked;
 use settings::DecodeSettings;
 
 // Two readings after one call each: whether they said the same and go on, or said the same and ended, or parted.
@@ -92,14 +93,18 @@ fn row_behind(rows: u64) -> u64 {
     if rows < 4294967296 { rows + 1 } else { rows }
 }
 
+fn reason(good: bool, v: Verdict) -> bool {
+    let mut words = room::text();
+    let n = ledger::put_reason(&mut words, v);
+    say::bytes(good, &words, n)
+}
+
 // How a reading ended, in the words that a page's line has for it.
 fn ended(good: bool, answer: Answer) -> bool {
     let mut v: Verdict = ledger::unread(answer.number);
     v.place = answer.place;
     v.row = row_behind(answer.rows);
-    let mut words = room::text();
-    let n = ledger::put_reason(&mut words, v);
-    say::bytes(good, &words, n)
+    reason(good, v)
 }
 
 // A part of the answer: whether it could be written, whether all is well so far, and how the reading ended.
@@ -171,6 +176,44 @@ fn fault(before: Part, strict: Answer) -> Part {
     }
     Part {
         good: ended(good, strict),
+        well: false,
+        end,
+    }
+}
+
+// Whether a page is proper, or the bit at which it parts from what would be written, in the words of a page's line; of a page that is not
+// read to its end neither is known. That it is not proper is no fault: not all that write pages write them alike.
+fn proper_told(good: bool, checked: Checked) -> bool {
+    let end = checked.answer;
+    if end.number != answer::COMPLETE {
+        return say::text(good, b"proper\t-\n");
+    }
+    if checked.proper {
+        return say::text(good, b"proper\tyes\n");
+    }
+    let good = say::text(good, b"proper\tno\t");
+    let mut v: Verdict = ledger::unread(ledger::NOT_PROPER);
+    v.count = checked.parts;
+    reason(good, v)
+}
+
+// EOLs that were given up are told, and then the page is to be looked at.
+fn checked(before: Part, src: &[u8], settings: DecodeSettings, changes: &mut [u32]) -> Part {
+    let mut ends = room::ends();
+    let mut marks = room::marks();
+    let read = proper::check(src, settings, changes, &mut ends, &mut marks);
+    let good = proper_told(before.good, read);
+    let end = before.end;
+    if !read.gave_up {
+        return Part {
+            good,
+            well: before.well,
+            end,
+        };
+    }
+    let good = say::text(good, b"marks\t");
+    Part {
+        good: reason(good, ledger::unread(ledger::GAVE_UP)),
         well: false,
         end,
     }
@@ -262,12 +305,19 @@ fn others(before: Part, src: &[u8], settings: DecodeSettings, out: &mut [u8]) ->
     fault(rest, end)
 }
 
-pub(crate) fn page(src: &[u8], settings: DecodeSettings, name: &[u8], out: &mut [u8]) -> u32 {
+pub(crate) fn page(
+    src: &[u8],
+    settings: DecodeSettings,
+    name: &[u8],
+    changes: &mut [u32],
+    out: &mut [u8],
+) -> u32 {
     let base = read_as(settings, false, false, false);
     let read = lenient(src, base, out);
     let end = read.end;
     reading::hint(src, settings, end.number, end.place, name);
-    let all = others(read, src, base, out);
+    let rest = others(read, src, base, out);
+    let all = checked(rest, src, base, changes);
     if all.well {
         return say::status_of(all.good, say::WELL);
     }

@@ -52,7 +52,7 @@ fn large(chosen: u32, o: Options, word: &[u8], count: usize) -> u32 {
     if chosen == options::WRITE {
         return one::bitmap(o, word, &mut input, &mut changes, &mut out);
     }
-    one::page(chosen, o, word, &mut input, &mut out)
+    one::page(chosen, o, word, &mut input, &mut changes, &mut out)
 }
 
 fn small(chosen: u32, o: Options, word: &[u8], count: usize) -> u32 {
@@ -69,7 +69,7 @@ fn small(chosen: u32, o: Options, word: &[u8], count: usize) -> u32 {
     if chosen == options::WRITE {
         return one::bitmap(o, word, &mut input, &mut changes, &mut out);
     }
-    one::page(chosen, o, word, &mut input, &mut out)
+    one::page(chosen, o, word, &mut input, &mut changes, &mut out)
 }
 
 fn is_large() -> bool {

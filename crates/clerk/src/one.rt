@@ -37,6 +37,7 @@ fn of_page(
     settings: DecodeSettings,
     marks: bool,
     name: &[u8],
+    changes: &mut [u32],
     out: &mut [u8],
 ) -> u32 {
     if command == options::LIST {
@@ -45,7 +46,7 @@ fn of_page(
     if command == options::PICTURE {
         return shown(src, settings, marks, name, out);
     }
-    check::page(src, settings, name, out)
+    check::page(src, settings, name, changes, out)
 }
 
 // The bytes of the file, or a message.
@@ -71,7 +72,14 @@ fn is_one(o: Options, command: &[u8]) -> bool {
 }
 
 // A page, by its name.
-pub(crate) fn page(command: u32, o: Options, word: &[u8], input: &mut [u8], out: &mut [u8]) -> u32 {
+pub(crate) fn page(
+    command: u32,
+    o: Options,
+    word: &[u8],
+    input: &mut [u8],
+    changes: &mut [u32],
+    out: &mut [u8],
+) -> u32 {
     if !is_one(o, word) {
         return say::FAILED;
     }
@@ -97,6 +105,7 @@ pub(crate) fn page(command: u32, o: Options, word: &[u8], input: &mut [u8], out:
         settings,
         o.marks,
         &name[..n],
+        changes,
         out,
     )
 }
