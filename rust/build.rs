@@ -9,10 +9,13 @@ const FOLDER: &str = "CCITT_LIBRARY";
 const FILE: &str = "libexports.a";
 
 /// What is called of it. A library without one of these is older than this package.
-const FUNCTIONS: [&str; 12] = [
+const FUNCTIONS: [&str; 15] = [
     "ccitt_decode_group4",
     "ccitt_decode_group3_1d",
     "ccitt_decode_group3_2d",
+    "ccitt_check_group4",
+    "ccitt_check_group3_1d",
+    "ccitt_check_group3_2d",
     "ccitt_read_line",
     "ccitt_read_row",
     "ccitt_read_units",

@@ -1,8 +1,9 @@
-//! What the crate has not: marks, the place of a fault, exact reading, rows one at a time, a page a little at a time, one line alone, writers, the heads on a form,
-//! and the verdict on a faxed one.
+//! What the crate has not: marks, the place of a fault, exact reading, proper pages, rows one at a time, a page a little at a time, one line alone, writers, the
+//! heads on a form, and the verdict on a faxed one.
 //!
 //! A program that is written for the crate needs nothing of this.
 
+mod check;
 mod fault;
 mod form_fault;
 mod heads;
@@ -15,6 +16,7 @@ mod writers;
 
 pub use crate::row::{Mark, Row};
 pub use crate::settings::Settings;
+pub use check::{Checked, check};
 pub use fault::Fault;
 pub use form_fault::{BoxColumn, BoxName, FormFault, Missing};
 pub use heads::{Heads, TickBox, heads, read_heads};

@@ -58,6 +58,16 @@ pub(crate) struct UnitAnswer {
     pub(crate) units: u64,
 }
 
+/// A page that was read and checked, as C has it.
+#[repr(C)]
+#[derive(Clone, Copy, Debug, Default)]
+pub(crate) struct CheckedAnswer {
+    pub(crate) answer: Answer,
+    pub(crate) parts: u64,
+    pub(crate) gave_up: bool,
+    pub(crate) proper: bool,
+}
+
 /// What is on a form, as C has it.
 #[repr(C)]
 #[derive(Clone, Copy, Debug)]
@@ -118,6 +128,15 @@ unsafe extern "C" {
         rows_are_byte_aligned: bool, strict: bool, exact: bool, plain: bool,
         changes: *mut u32, changes_len: usize, ends: *mut u64, ends_len: usize, marks: *mut u8, marks_len: usize);
     fn ccitt_decode_group3_2d(answer: *mut Answer, src: *const u8, src_len: usize, columns: u32, rows: u32, end_of_block: bool, end_of_line: bool,
+        rows_are_byte_aligned: bool, strict: bool, exact: bool, plain: bool,
+        changes: *mut u32, changes_len: usize, ends: *mut u64, ends_len: usize, marks: *mut u8, marks_len: usize);
+    fn ccitt_check_group4(answer: *mut CheckedAnswer, src: *const u8, src_len: usize, columns: u32, rows: u32, end_of_block: bool, rows_are_byte_aligned: bool,
+        strict: bool, exact: bool, plain: bool,
+        changes: *mut u32, changes_len: usize, ends: *mut u64, ends_len: usize, marks: *mut u8, marks_len: usize);
+    fn ccitt_check_group3_1d(answer: *mut CheckedAnswer, src: *const u8, src_len: usize, columns: u32, rows: u32, end_of_block: bool, end_of_line: bool,
+        rows_are_byte_aligned: bool, strict: bool, exact: bool, plain: bool,
+        changes: *mut u32, changes_len: usize, ends: *mut u64, ends_len: usize, marks: *mut u8, marks_len: usize);
+    fn ccitt_check_group3_2d(answer: *mut CheckedAnswer, src: *const u8, src_len: usize, columns: u32, rows: u32, end_of_block: bool, end_of_line: bool,
         rows_are_byte_aligned: bool, strict: bool, exact: bool, plain: bool,
         changes: *mut u32, changes_len: usize, ends: *mut u64, ends_len: usize, marks: *mut u8, marks_len: usize);
     fn ccitt_read_line(answer: *mut Answer, src: *const u8, src_len: usize, at: u64, columns: u32, strict: bool,
@@ -201,6 +220,29 @@ unsafe fn page_into(data: &[u8], settings: &Settings, rows: &mut Rows, changes: 
             EncodingMode::Group3_1D => ccitt_decode_group3_1d(answer, src, data.len(), columns, count, end_of_block, end_of_line, aligned, strict, exact, plain,
                 to, changes, ends, places, marks, places),
             EncodingMode::Group3_2D => ccitt_decode_group3_2d(answer, src, data.len(), columns, count, end_of_block, end_of_line, aligned, strict, exact, plain,
+                to, changes, ends, places, marks, places),
+        }
+    })
+}
+
+/// Reads a page by the page form and checks it. The page is read into `rows`, which is empty afterwards; at most so much room is lent, and less where
+/// there is no memory for it.
+#[rustfmt::skip]
+pub(crate) fn check(data: &[u8], settings: &Settings, rows: &mut Rows, room: Room) -> CheckedAnswer {
+    let DecodeSettings { columns, rows: count, end_of_block, end_of_line, rows_are_byte_aligned: aligned, encoding, strict } = settings.settings;
+    let (src, exact, plain) = (data.as_ptr(), settings.exact, settings.plain);
+    let changes = emptied(&mut rows.changes, room.changes);
+    let places = emptied(&mut rows.ends, room.rows).min(emptied(&mut rows.marks, room.rows));
+    let (to, ends, marks) = (rows.changes.as_mut_ptr(), rows.ends.as_mut_ptr(), rows.marks.as_mut_ptr());
+    // SAFETY: each pointer stands with so many entries that are its vector's own, and the three and the answer are apart. The library reads no entry that
+    // it has not written.
+    told(|answer| unsafe {
+        match encoding {
+            EncodingMode::Group4 => ccitt_check_group4(answer, src, data.len(), columns, count, end_of_block, aligned, strict, exact, plain,
+                to, changes, ends, places, marks, places),
+            EncodingMode::Group3_1D => ccitt_check_group3_1d(answer, src, data.len(), columns, count, end_of_block, end_of_line, aligned, strict, exact, plain,
+                to, changes, ends, places, marks, places),
+            EncodingMode::Group3_2D => ccitt_check_group3_2d(answer, src, data.len(), columns, count, end_of_block, end_of_line, aligned, strict, exact, plain,
                 to, changes, ends, places, marks, places),
         }
     })

@@ -1,5 +1,6 @@
 //! Room for what is read: how much is lent at most, how much a page can need, and how it grows.
 
+use crate::library::Answer;
 use crate::settings::Settings;
 use alloc::vec::Vec;
 
@@ -18,6 +19,24 @@ impl Room {
     /// `RoomEnough`).
     pub(crate) fn for_any(data: &[u8]) -> Self {
         Self { changes: bits_and_one(data), rows: bits_and_one(data) }
+    }
+
+    /// What is lent at first to a function that looks at all rows at once.
+    pub(crate) fn first(data: &[u8]) -> Self {
+        let most = Self::for_any(data);
+        Self { changes: most.changes.min(MOST.changes), rows: most.rows.min(MOST.rows) }
+    }
+
+    /// Whether there is more for a page that had no room, up to what any page of so many bytes can take: then it is twice as much. A reading takes as
+    /// long as what it fills, so that all of them together take a few times as long as the last.
+    pub(crate) fn grow(&mut self, data: &[u8], number: u32) -> bool {
+        let most = Self::for_any(data);
+        match number {
+            Answer::NO_ENTRY if self.changes < most.changes => self.changes = most.changes.min(2 * self.changes),
+            Answer::NO_ROW_END if self.rows < most.rows => self.rows = most.rows.min(2 * self.rows),
+            _ => return false,
+        }
+        true
     }
 }
 

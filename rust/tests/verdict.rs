@@ -194,6 +194,45 @@ fn reasons_have_words() {
     }
 }
 
+/// A form of four columns, whose digits have a row each, below so many others.
+fn narrow(head: &str, above: u32) -> String {
+    let boxes = (0..10).map(|digit| {
+        let (top, bottom) = (above + digit, above + digit + 1);
+        format!("tens {digit} 0 1 {top} {bottom}\nunits {digit} 2 3 {top} {bottom}\n")
+    });
+    format!("page 4 {}\ntick 1\n{head}\n", above + 10) + &boxes.collect::<String>()
+}
+
+/// Forty, as a writer has it; and with its second row in horizontal mode, where a writer has three times V0.
+#[test]
+fn a_page_that_is_not_proper_is_looked_at() {
+    let own = [0x09, 0x78, 0xF2, 0x6A, 0xA3, 0xF0, 0x01, 0x00, 0x10];
+    let horizontal = [0x09, 0x4B, 0xA8, 0xF2, 0x6A, 0xA3, 0xF0, 0x01, 0x00, 0x10];
+    let reason = Reason::NotProper { place: 10 };
+    assert_eq!(reason.to_string(), "the page's bits are not those that a writer writes for its rows: they part at bit 10");
+    for reading in ALL {
+        let on = |head, data: &[u8]| verdict(narrow(head, 1).as_bytes(), data, reading, GROUP_4);
+        assert_eq!(on("", &own), counted(40));
+        assert_eq!(on("", &horizontal), counted(40));
+        assert_eq!(on("proper", &own), counted(40));
+        assert_eq!(on("proper", &horizontal), look_at(24, reason));
+    }
+    assert_eq!(on_forty(&(usual() + "\nproper")), counted(40));
+    assert_eq!(on_forty(&(usual() + "\nproper 1")), look_at(32, Reason::Form(FormFault::NoFormLine { line: 24 })));
+    assert_eq!(on_forty(&(usual() + "\nproper\nproper")), look_at(33, Reason::Form(FormFault::SaidTwice { line: 25 })));
+}
+
+/// An end-of-line mark before the first row, and none behind it.
+#[test]
+fn marks_that_are_given_up_are_looked_at() {
+    let page = [0x00, 0x17, 0x43, 0xDD, 0xD9, 0xAA, 0x8B, 0xBB, 0xBB];
+    let form = narrow("", 0);
+    assert_eq!(Reason::GaveUp.to_string(), "the page's end-of-line marks stop before its end");
+    for reading in [Reading::AsTheDesk, Reading::Leniently] {
+        assert_eq!(verdict(form.as_bytes(), &page, reading, GROUP_3), look_at(23, Reason::GaveUp));
+    }
+}
+
 /// A form whose boxes are a row high and two columns wide, but for those of tens 4 and units 0, which are higher.
 fn high_boxes(columns: u32, rows: usize) -> String {
     let mut form = format!("page {columns} {rows}\ntick 5\n");

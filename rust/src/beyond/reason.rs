@@ -162,7 +162,7 @@ impl Display for Reason {
             }
             Self::GaveUp => write!(f, "the page's end-of-line marks stop before its end"),
             Self::NotProper { place } => {
-                write!(f, "the page's bits are not those that a fax machine writes for its rows: they part at bit {place}")
+                write!(f, "the page's bits are not those that a writer writes for its rows: they part at bit {place}")
             }
             Self::Other => write!(f, "a number that has no words here"),
         }

@@ -1,6 +1,6 @@
 use super::reason::Reason;
-use crate::library::{self, Answer, VerdictAnswer};
-use crate::room::{MOST, Room};
+use crate::library::{self, VerdictAnswer};
+use crate::room::Room;
 use crate::settings::Settings;
 
 /// How a page is read for its verdict.
@@ -39,7 +39,8 @@ pub enum Verdict {
 /// The verdict on a faxed form, from the text of a form file (examples/README.md says what its lines are) and the bytes of the page.
 ///
 /// A page is counted where it was read to its end, as wide and with as many rows as the form says, to its last byte, with every row that the form rests on
-/// clean, every place as it must be, no box in doubt, and one tick in each column. That is proved of the library (`CountedMeans`). Everything else is to be
+/// clean, every place as it must be, no box in doubt, and one tick in each column, where end-of-line marks were not given up, and, if the form says `proper`,
+/// its bytes are what a writer writes for its rows. That is proved of the library (`CountedMeans`). Everything else is to be
 /// looked at, with the first reason in the order of include/ccitt.h; what is wrong with the form comes first, and no page is read by it.
 ///
 /// Of the settings `columns` may be 0: they are the form's. `strict` and `exact` are not looked at: `reading` says what they would.
@@ -88,19 +89,14 @@ pub fn verdict(form: &[u8], data: &[u8], reading: Reading, settings: impl Into<S
     }
 }
 
-/// The library's answer: 4 and 5 only where there is no memory. The tests look at all rows at once, so a page that has no room is read again with twice as
-/// much, up to what any page of so many bytes can take. A reading takes as long as what it fills, so that all of them together take a few times as long as the
-/// last.
+/// The library's answer: 4 and 5 only where there is no memory. A page that has no room is read again with more.
 fn asked(form: &[u8], data: &[u8], reading: Reading, settings: &Settings) -> VerdictAnswer {
-    let most = Room::for_any(data);
-    let mut room = Room { changes: most.changes.min(MOST.changes), rows: most.rows.min(MOST.rows) };
+    let mut room = Room::first(data);
     let mut rows = library::Rows::default();
     loop {
         let answer = library::verdict(form, data, reading as u32, settings, &mut rows, room);
-        match answer.number {
-            Answer::NO_ENTRY if room.changes < most.changes => room.changes = most.changes.min(2 * room.changes),
-            Answer::NO_ROW_END if room.rows < most.rows => room.rows = most.rows.min(2 * room.rows),
-            _ => return answer,
+        if !room.grow(data, answer.number) {
+            return answer;
         }
     }
 }
