@@ -1,6 +1,7 @@
-// libtiff's Group 4 and Group 3 writers with their file in memory, for the bench of the writers. src/linked/libtiff.rs
-// calls it.
+// libtiff's Group 4 and Group 3 writers with their file in memory, for the bench of the writers, and its readers, for the
+// measure of the marks. src/linked/libtiff.rs calls it.
 
+#include <stdarg.h>
 #include <stdint.h>
 #include <stdio.h>
 #include <string.h>
@@ -74,3 +75,79 @@ struct Strip libtiff_write_page(uint32_t scheme, uint32_t columns, uint32_t rows
     if (file.length <= strip.at + strip.length) strip.length = 0;
     return strip;
 }
+
+// ---- Reading
+
+// A file is a head, a directory and one strip.
+enum { ENTRIES = 9, HEAD = 8 + 2 + 12 * ENTRIES + 4 };
+
+static tmsize_t read_file(thandle_t handle, void *to, tmsize_t size) {
+    struct File *file = handle;
+    if ((size_t)size > file->length - file->place) size = file->length - file->place;
+    memcpy(to, file->bytes + file->place, size);
+    file->place += size;
+    return size;
+}
+
+static tmsize_t write_nothing(thandle_t handle, void *from, tmsize_t size) {
+    (void)handle, (void)from, (void)size;
+    return -1;
+}
+
+static void put_number(uint8_t *at, uint32_t number, int bytes) {
+    for (int i = 0; i < bytes; i++) at[i] = number >> 8 * i;
+}
+
+static uint8_t *put_entry(uint8_t *at, uint16_t tag, uint32_t value) {
+    put_number(at, tag, 2);
+    put_number(at + 2, TIFF_LONG, 2);
+    put_number(at + 4, 1, 4);
+    put_number(at + 8, value, 4);
+    return at + 12;
+}
+
+static void put_head(uint8_t *at, uint32_t scheme, uint32_t columns, uint32_t rows, uint32_t length) {
+    memcpy(at, "II*\0", 4);
+    put_number(at + 4, 8, 4);
+    put_number(at + 8, ENTRIES, 2);
+    at = put_entry(at + 10, TIFFTAG_IMAGEWIDTH, columns);
+    at = put_entry(at, TIFFTAG_IMAGELENGTH, rows);
+    at = put_entry(at, TIFFTAG_BITSPERSAMPLE, 1);
+    at = put_entry(at, TIFFTAG_COMPRESSION, scheme == 4 ? COMPRESSION_CCITTFAX4 : COMPRESSION_CCITTFAX3);
+    at = put_entry(at, TIFFTAG_PHOTOMETRIC, PHOTOMETRIC_MINISWHITE);
+    at = put_entry(at, TIFFTAG_STRIPOFFSETS, HEAD);
+    at = put_entry(at, TIFFTAG_ROWSPERSTRIP, rows);
+    at = put_entry(at, TIFFTAG_STRIPBYTECOUNTS, length);
+    at = put_entry(at, scheme == 4 ? TIFFTAG_GROUP4OPTIONS : TIFFTAG_GROUP3OPTIONS, scheme == 2 ? GROUP3OPT_2DENCODING : 0);
+    put_number(at, 0, 4);
+}
+
+// Whether a word was said since it was last asked, in each thread.
+static _Thread_local int said;
+
+static void say(const char *module, const char *format, va_list words) {
+    (void)module, (void)format, (void)words;
+    said = 1;
+}
+
+// Reads the rows of a strip into packed rows, as many as it gives, and beside each whether a word was said of it. `file` has
+// room for the strip and what stands before it.
+uint32_t libtiff_read_page(uint32_t scheme, uint32_t columns, uint32_t rows, const uint8_t *strip, size_t length, uint8_t *file, uint8_t *packed, uint8_t *told) {
+    TIFFSetErrorHandler(say);
+    TIFFSetWarningHandler(say);
+    put_head(file, scheme, columns, rows, length);
+    memcpy(file + HEAD, strip, length);
+    struct File lent = {file, HEAD + length, HEAD + length, 0};
+    TIFF *tiff = TIFFClientOpen("memory", "rm", &lent, read_file, write_nothing, seek_file, close_nothing, size_of_file, NULL, NULL);
+    if (!tiff) return 0;
+    uint32_t row = 0;
+    for (; row < rows; row++) {
+        said = 0;
+        if (TIFFReadScanline(tiff, packed + (size_t)row * ((columns + 7) / 8), row, 0) < 0) break;
+        told[row] = said;
+    }
+    TIFFClose(tiff);
+    return row;
+}
+
+size_t libtiff_head(void) { return HEAD; }

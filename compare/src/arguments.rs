@@ -10,6 +10,10 @@ pub enum Mode {
     Huge,
     /// Judges at least so many damaged copies of booking forms.
     Forms(u64),
+    /// Reads at least so many damaged copies of pages in each layout, and counts rows.
+    Marks(u64),
+    /// Says of each page in a folder whether it is proper.
+    Proper(String),
     /// Writes a sample of the crate's answers into a folder, for the program that replays them.
     Sample(String),
     /// Writes the listed pages into a folder, where another decoder can read them.
@@ -26,7 +30,7 @@ pub struct Arguments {
     pub mode: Mode,
 }
 
-pub const USAGE: &str = "usage: compare/run [--seed N] [--more N] [--only TEXT] [bench | huge | forms N | sample DIR | pages DIR | test]";
+pub const USAGE: &str = "usage: compare/run [--seed N] [--more N] [--only TEXT] [bench | huge | forms N | marks N | proper DIR | sample DIR | pages DIR | test]";
 
 /// Reads the words; without a seed, the clock gives one.
 pub fn parse(mut words: impl Iterator<Item = String>) -> Option<Arguments> {
@@ -41,6 +45,10 @@ pub fn parse(mut words: impl Iterator<Item = String>) -> Option<Arguments> {
             "forms" if arguments.mode == Mode::Compare => {
                 arguments.mode = Mode::Forms(words.next()?.parse().ok().filter(|&count| count > 0)?);
             }
+            "marks" if arguments.mode == Mode::Compare => {
+                arguments.mode = Mode::Marks(words.next()?.parse().ok().filter(|&count| count > 0)?);
+            }
+            "proper" if arguments.mode == Mode::Compare => arguments.mode = Mode::Proper(words.next()?),
             "sample" if arguments.mode == Mode::Compare => arguments.mode = Mode::Sample(words.next()?),
             "pages" if arguments.mode == Mode::Compare => arguments.mode = Mode::Pages(words.next()?),
             _ => return None,

@@ -4,7 +4,6 @@
 
 use std::io;
 
-mod drawn;
 mod fill;
 mod page;
 mod plain_writer;

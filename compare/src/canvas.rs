@@ -11,7 +11,7 @@ impl Canvas {
     }
 
     /// Each pixel by its place.
-    #[cfg(feature = "linked")]
+    #[cfg(any(feature = "linked", test))]
     pub fn of(height: usize, mut black: impl FnMut(usize, usize) -> bool) -> Self {
         Canvas((0..WIDTH * height).map(|at| black(at % WIDTH, at / WIDTH)).collect())
     }
@@ -36,7 +36,7 @@ impl Canvas {
     }
 
     /// A line from one point to another, drawn with a round pen.
-    #[cfg(feature = "linked")]
+    #[cfg(any(feature = "linked", test))]
     pub fn stroke(&mut self, from: (f64, f64), to: (f64, f64), pen: f64) {
         let along = (to.0 - from.0, to.1 - from.1);
         let square = (along.0 * along.0 + along.1 * along.1).max(1e-9);

@@ -12,6 +12,7 @@ use std::io;
 pub mod heads;
 #[cfg(feature = "libtiff")]
 pub mod libtiff;
+pub mod marks;
 pub mod repeated;
 pub mod verdict;
 

@@ -21,6 +21,8 @@ mod codes;
 mod complaint;
 mod copies;
 mod damage;
+#[cfg(any(feature = "linked", test))]
+mod drawn;
 mod encoder;
 #[cfg(test)]
 mod faults;
@@ -33,6 +35,8 @@ mod layouts;
 #[cfg(feature = "linked")]
 mod linked;
 mod listed;
+#[cfg(any(feature = "linked", test))]
+mod marks;
 mod ours;
 #[cfg(any(feature = "linked", test))]
 mod package;
@@ -40,6 +44,8 @@ mod pages;
 #[cfg(not(feature = "linked"))]
 mod piped;
 mod pixels;
+#[cfg(feature = "linked")]
+mod proper;
 mod random;
 mod rooms;
 mod rows;
@@ -80,8 +86,12 @@ fn main() -> ExitCode {
         Mode::Huge => huge::run(),
         #[cfg(feature = "linked")]
         Mode::Forms(count) => forms::run(&linked::verdict::LinkedDesk, arguments.seed, *count, &made()),
+        #[cfg(feature = "linked")]
+        Mode::Marks(count) => run_marks(arguments.seed, *count),
+        #[cfg(feature = "linked")]
+        Mode::Proper(folder) => proper::run(&linked::marks::LinkedPages, folder),
         #[cfg(not(feature = "linked"))]
-        Mode::Bench | Mode::Huge | Mode::Forms(_) => {
+        Mode::Bench | Mode::Huge | Mode::Forms(_) | Mode::Marks(_) | Mode::Proper(_) => {
             println!("only for a library that is linked in: under an emulator a time says nothing, and what is huge takes hours");
             Ok(true)
         }
@@ -96,6 +106,14 @@ fn main() -> ExitCode {
             ExitCode::from(2)
         }
     }
+}
+
+/// What the marks are worth, beside the other decoders that are at hand.
+#[cfg(feature = "linked")]
+fn run_marks(seed: u64, count: u64) -> io::Result<bool> {
+    let others = marks::others::at_hand();
+    let others: Vec<&dyn marks::ask::Other> = others.iter().map(AsRef::as_ref).collect();
+    marks::run(&linked::marks::LinkedPages, &others, seed, count)
 }
 
 /// Where a run leaves its files: `compare/run` names the folder.

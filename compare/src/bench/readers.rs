@@ -3,15 +3,13 @@
 
 use super::fill;
 use super::page::{Named, Page};
+use super::set;
 use super::timing::{RUNS, report};
-use super::{
-    drawn::{self, Drawn},
-    set,
-};
 use crate::by_row::{self, RowForm, STATE};
 use crate::by_unit::{self, UnitForm};
 use crate::checks::other_decoder::Text;
 use crate::copies::settings_of;
+use crate::drawn::{self, Drawn};
 use crate::linked::{self, Linked};
 use crate::settings::Encoding;
 use std::time::{Duration, Instant};

@@ -1,9 +1,9 @@
 //! The set that reading is timed on (02, A8): drawn pages, written by our own writers.
 
-use super::drawn::{Drawn, HEIGHT};
 use super::page::{Named, Page};
 use crate::call::Layout;
 use crate::canvas::WIDTH;
+use crate::drawn::{Drawn, HEIGHT};
 use crate::linked;
 use crate::settings::{Encoding, Settings};
 

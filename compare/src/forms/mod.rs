@@ -5,7 +5,7 @@
 pub mod ask;
 mod copies;
 mod counts;
-mod damages;
+pub mod damages;
 mod filled;
 mod sheet;
 #[cfg(test)]
@@ -17,9 +17,9 @@ mod tests;
 use crate::bits::hex;
 #[cfg(feature = "linked")]
 use crate::tally::Tally;
-use ask::{Ask, Desk, Judged};
 #[cfg(feature = "linked")]
 use ask::READINGS;
+use ask::{Ask, Desk, Judged};
 use copies::{FormCopy, LAYOUTS, copies_of, settings_of};
 use counts::Counts;
 use damages::DAMAGES;

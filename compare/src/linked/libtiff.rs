@@ -1,4 +1,4 @@
-//! libtiff's Group 4 and Group 3 writers, for the bench alone. libtiff.c has the other side.
+//! libtiff's Group 4 and Group 3 writers, for the bench, and its readers, for the measure of the marks. libtiff.c has the other side.
 
 use std::ops::Range;
 
@@ -27,6 +27,34 @@ unsafe extern "C" {
         out: *mut u8,
         out_len: usize,
     ) -> Strip;
+
+    fn libtiff_read_page(
+        scheme: u32,
+        columns: u32,
+        rows: u32,
+        strip: *const u8,
+        length: usize,
+        file: *mut u8,
+        packed: *mut u8,
+        told: *mut u8,
+    ) -> u32;
+
+    fn libtiff_head() -> usize;
+}
+
+/// Reads a strip: the packed rows that it gave, and of each whether libtiff said a word.
+pub fn read_page(scheme: Scheme, columns: u32, rows: u32, src: &[u8]) -> (Vec<u8>, Vec<bool>) {
+    let wide = columns.div_ceil(8) as usize;
+    // SAFETY: it only gives a number.
+    let mut file = vec![0; unsafe { libtiff_head() } + src.len()];
+    let (mut packed, mut told) = (vec![0; rows as usize * wide], vec![0; rows as usize]);
+    // SAFETY: each pointer stands with the length that is told, and the file has room for the strip and its head.
+    let given = unsafe {
+        let (file, packed, told) = (file.as_mut_ptr(), packed.as_mut_ptr(), told.as_mut_ptr());
+        libtiff_read_page(scheme as u32, columns, rows, src.as_ptr(), src.len(), file, packed, told)
+    } as usize;
+    packed.truncate(given * wide);
+    (packed, told[..given].iter().map(|&word| word != 0).collect())
 }
 
 /// Writes packed rows as a TIFF file of one strip, and says where in the output the strip lies.

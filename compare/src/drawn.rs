@@ -23,6 +23,7 @@ pub fn pages() -> Vec<Drawn> {
 }
 
 /// What no office faxes, and a reader may be slow on.
+#[cfg(feature = "linked")]
 pub fn odd_pages() -> Vec<Drawn> {
     let mut random = random("noise");
     let mut runs = random_runs();
@@ -165,6 +166,7 @@ fn drawing() -> Canvas {
 }
 
 /// Rows of runs that each take a make-up code.
+#[cfg(feature = "linked")]
 fn random_runs() -> impl FnMut() -> Vec<u32> {
     let mut random = random("runs");
     move || {
