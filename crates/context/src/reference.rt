@@ -91,22 +91,25 @@ pub fn b1_from(reference: &[u32], seen: usize, width: u32, position: u32, colour
     b1_place(stop, colour)
 }
 
-// Whether a row ascends strictly below a width, as test 8 asks.
+// Whether a row ascends strictly below a width, as test 8 asks: each change lies right of the one before it, and the last, which is then
+// the greatest, below the width. The loop only notes, so that the compiler may look at several changes at once.
 pub fn ascends(row: &[u32], width: u32) -> bool
     ensures { λ r. ⌜ r ≡ ascends width (now (row .entry)) ⌝ }
 {
-    let mut least: u32 = 0;
-    let mut place: usize = 0;
-    while place < row.len() {
-        let change = row[place];
-        if change < least {
-            return false;
+    let count = row.len();
+    if count == 0 {
+        return true;
+    }
+    if width <= row[count - 1] {
+        return false;
+    }
+    let mut rising = true;
+    let mut place: usize = 1;
+    while place < count {
+        if row[place] <= row[place - 1] {
+            rising = false;
         }
-        if width <= change {
-            return false;
-        }
-        least = change + 1;
         place += 1;
     }
-    true
+    rising
 }
