@@ -8,11 +8,11 @@ use lib.Dec.{eqb, leb}
 use lib.ListN.{length, drop}
 use lib.Seq.{drop-drop}
 use borrow.Author.Tests.{not-true, eqb-true, eqb-false, lt-leb}
-use Rattle.rules.specs.Bits.{bitsOf, peek}
-use Rattle.rules.specs.Eols.{allEols}
+use Rattle.rules.specs.Bits.{bitsOf, firstBit, peek}
+use Rattle.rules.specs.Eols.{eolsTo, allEols}
 use Rattle.rules.specs.Rows as Page
-use Rattle.rules.specs.Group3.{Tagging, eols3, row3}
-use Rattle.rules.proofs.Bits.{both-true, length-bitsOf, peek-high, peek-low}
+use Rattle.rules.specs.Group3.{Tagging, betweenTags, eols3, row3}
+use Rattle.rules.proofs.Bits.{both-true, length-bitsOf, peek-add, peek-high, peek-low}
 use Rattle.bit_reader.specs.Loaded.{Loading}
 use Rattle.bit_reader.proofs.Clear.{zeros-few, some-one}
 use Rattle.codes.specs.declared.eol.Eols.{Eols}
@@ -28,7 +28,7 @@ use Rattle.group3.specs.Tags.{isTagged}
 use Rattle.group3.specs.Ahead.{alignedFrom, singleAt, usual, beforeOf, beforeIn}
 use Rattle.group3.specs.Lined.{LineFrom, lineIn}
 use Rattle.group3.specs.Recovery.{afterLineIn}
-use Rattle.group3.proofs.TagBits.{eols-untagged}
+use Rattle.group3.proofs.TagBits.{Joined, all-read, joined-first, joined-done, joined-line, eols-untagged, eols-tagged}
 use Rattle.group3.proofs.Judging.{unaligned, lacks-none, judged-on, before-judged}
 use Rattle.group3.proofs.Outcomes.{row-line, row-gives}
 
@@ -38,28 +38,34 @@ module _ (bytes : List ℕ) (at w : ℕ) (window : w ≡ peek 32 (drop at (bitsO
   pub twelve : w / 2 ^ 20 ≡ peek 12 (drop at (bitsOf bytes))
   twelve = rw window (peek-high 12 20 (drop at (bitsOf bytes)))
 
-  pub eleven-behind : w / 2 ^ 9 % 2048 ≡ peek 11 (drop (at + 12) (bitsOf bytes))
-  eleven-behind =
-      ap (λ (n : ℕ). n % 2048) (rw window (peek-high 23 9 (drop at (bitsOf bytes))))
-      ∙ peek-low 12 11 (drop at (bitsOf bytes))
-      ∙ ap (peek 11) (drop-drop 12 at (bitsOf bytes))
+  pub ten-behind : w / 2 ^ 9 % 1024 ≡ peek 10 (drop (at + 13) (bitsOf bytes))
+  ten-behind =
+      ap (λ (n : ℕ). n % 1024) (rw window (peek-high 23 9 (drop at (bitsOf bytes))))
+      ∙ peek-low 13 10 (drop at (bitsOf bytes))
+      ∙ ap (peek 10) (drop-drop 13 at (bitsOf bytes))
 
 module _ {bytes : List ℕ} {at : ℕ} (h : Loading bytes at) (single : singleAt bytes at ≡ true) where
   abbrev bs : List Bool
   bs = bitsOf bytes
 
-  parts : (eqb (peek 12 (drop at bs)) 1 ≡ true) × (not (eqb (peek 11 (drop (at + 12) bs)) 0) ≡ true)
-  parts = both-true (eqb (peek 12 (drop at bs)) 1) (not (eqb (peek 11 (drop (at + 12) bs)) 0)) single
+  parts : (eqb (peek 12 (drop at bs)) 1 ≡ true) × (not (eqb (peek 10 (drop (at + 13) bs)) 0) ≡ true)
+  parts = both-true (eqb (peek 12 (drop at bs)) 1) (not (eqb (peek 10 (drop (at + 13) bs)) 0)) single
 
-  some-bit : 0 < peek 11 (drop (at + 12) bs)
-  some-bit = positive (peek 11 (drop (at + 12) bs)) (eqb-false (peek 11 (drop (at + 12) bs)) 0 (not-true (eqb (peek 11 (drop (at + 12) bs)) 0) (parts .1)))
+  -- a one stands behind the next bit
+  ten : 0 < peek 10 (drop (at + 12 + 1) bs)
+  ten =
+      rw (let e : at + 12 + 1 ≡ at + 13 = omega arith in e)
+      (positive (peek 10 (drop (at + 13) bs)) (not-true (eqb (peek 10 (drop (at + 13) bs)) 0) (parts .1)))
     where
-      positive : (n : ℕ) → (n ≡ 0 → ⊥) → 0 < n
-      positive zero k = absurd (k refl)
+      positive : (n : ℕ) → eqb n 0 ≡ false → 0 < n
+      positive zero k = absurd (eqb-false 0 0 k refl)
       positive (suc n) k = omega arith
 
+  eleven : 0 < peek 11 (drop (at + 12) bs)
+  eleven = omega (arith, peek-add 1 10 (drop (at + 12) bs), ap (peek 10) (drop-drop 1 (at + 12) bs), ten)
+
   pub behind-inside : at + 12 < 8 * length bytes
-  behind-inside = omega (arith, closing bytes (at + 12) (some-one 11 (drop (at + 12) bs) some-bit) .inside)
+  behind-inside = omega (arith, closing bytes (at + 12) (some-one 11 (drop (at + 12) bs) eleven) .inside)
 
   one-eol : Closed bytes at 11 (at + 12)
   one-eol = plain-eol bytes at refl (peek-high 12 20 (drop at bs) ∙ eqb-true (peek 12 (drop at bs)) 1 (parts .0))
@@ -69,8 +75,31 @@ module _ {bytes : List ℕ} {at : ℕ} (h : Loading bytes at) (single : singleAt
 
   pub single-eol : eolsOf here ≡ allEols bs at
   single-eol =
-      no-eol (eol (none-yet (length bs) (h .inside)) (omega (arith, behind-inside, length-bitsOf bytes)) one-eol (omega arith)) (omega (arith, behind-inside, length-bitsOf bytes))
-      (closing bytes (at + 12) (some-one 11 (drop (at + 12) bs) some-bit)) (zeros-few 11 (drop (at + 12) bs) some-bit)
+      no-eol (eol (none-yet (length bs) (h .inside)) (omega (arith, behind-inside, length-bitsOf bytes)) one-eol (omega arith))
+      (omega (arith, behind-inside, length-bitsOf bytes))
+      (closing bytes (at + 12) (some-one 11 (drop (at + 12) bs) eleven)) (zeros-few 11 (drop (at + 12) bs) eleven)
+
+  -- no EOL follows the next bit, so it is the line's where it is a tag bit
+  no-more : eolsTo 0 (at + 12 + 1) ≡ allEols bs (at + 12 + 1)
+  no-more =
+      let ones = closing bytes (at + 12 + 1) (some-one 10 (drop (at + 12 + 1) bs) ten) in
+      no-eol (none-yet (length bs) (omega (arith, behind-inside))) (omega (arith, behind-inside, length-bitsOf bytes)) ones
+      (omega (arith, zeros-few 10 (drop (at + 12 + 1) bs) ten))
+
+  single-tagged : eolsOf here ≡ betweenTags (length bs) bs (eolsOf here)
+  single-tagged = cases (joined-first (all-read h here single-eol .0)) (firstBit (drop (at + 12) bs)) refl
+    where
+      cases : Joined bytes 1 (at + 12) 1 (at + 12) → (b : Bool) → firstBit (drop (at + 12) bs) ≡ b
+          → eolsOf here ≡ betweenTags (length bs) bs (eolsOf here)
+      cases j false q = joined-done j q
+      cases j true q = joined-line j q (record { count = 0; at = at + 12 + 1 }) no-more refl (omega arith)
+
+  pub single-eols : (t : Tagging) → eolsOf here ≡ eols3 bs t at
+  single-eols t = cases (isTagged t) refl
+    where
+      cases : (b : Bool) → isTagged t ≡ b → eolsOf here ≡ eols3 bs t at
+      cases false q = eols-untagged bs at t (eolsOf here) single-eol q
+      cases true q = eols-tagged bs at t (eolsOf here) single-eol q (λ z. omega arith) (eolsOf here) single-tagged
 
 -- ---- The row behind it
 
@@ -85,27 +114,25 @@ module _ {w b bytes lent xs : List ℕ} {settings : DecodeSettings} {st : State}
     later : eqb (st .rows) 0 ≡ false
     expected : st .eols ≡ true
     going : eqb (st .rows) (settings .rows) ≡ false
-    bare : isTagged t ≡ false
     single : singleAt bytes (st .at) ≡ true
 
-  parts-of : (a b c d e : Bool) → (not a && (b && (not c && (not d && e)))) ≡ true → (a ≡ false) × (b ≡ true) × (c ≡ false) × (d ≡ false) × (e ≡ true)
-  parts-of false true false false true q = (refl, refl, refl, refl, refl)
-  parts-of true b c d e q = absurd (let z : _≡_ {A = ℕ} 0 1 = cc in omega arith)
-  parts-of false false c d e q = absurd (let z : _≡_ {A = ℕ} 0 1 = cc in omega arith)
-  parts-of false true true d e q = absurd (let z : _≡_ {A = ℕ} 0 1 = cc in omega arith)
-  parts-of false true false true e q = absurd (let z : _≡_ {A = ℕ} 0 1 = cc in omega arith)
-  parts-of false true false false false q = absurd (let z : _≡_ {A = ℕ} 0 1 = cc in omega arith)
+  parts-of : (a b c d : Bool) → (not a && (b && (not c && d))) ≡ true → (a ≡ false) × (b ≡ true) × (c ≡ false) × (d ≡ true)
+  parts-of false true false true q = (refl, refl, refl, refl)
+  parts-of true b c d q = absurd (let z : _≡_ {A = ℕ} 0 1 = cc in omega arith)
+  parts-of false false c d q = absurd (let z : _≡_ {A = ℕ} 0 1 = cc in omega arith)
+  parts-of false true true d q = absurd (let z : _≡_ {A = ℕ} 0 1 = cc in omega arith)
+  parts-of false true false false q = absurd (let z : _≡_ {A = ℕ} 0 1 = cc in omega arith)
 
   parts-seen : Parts
   parts-seen =
-      let (a, b, c, d, e) = parts-of (eqb (st .rows) 0) (st .eols) (eqb (st .rows) (settings .rows)) (isTagged t) (singleAt bytes (st .at)) seen in
-      record { later = a; expected = b; going = c; bare = d; single = e }
+      let (a, b, c, d) = parts-of (eqb (st .rows) 0) (st .eols) (eqb (st .rows) (settings .rows)) (singleAt bytes (st .at)) seen in
+      record { later = a; expected = b; going = c; single = d }
 
   before-is : beforeOf settings bytes (Line (st .at + 12) (st .eols)) ≡ beforeIn settings bytes st (eqb (st .rows) 0)
   before-is =
       let p = parts-seen in
       let e : Eols = record { count = 1; at = st .at + 12 } in
-      let q : eolsOf e ≡ eols3 (bitsOf bytes) t (st .at) = eols-untagged (bitsOf bytes) (st .at) t (eolsOf e) (single-eol (h .loading) (p .single)) (p .bare) in
+      let q : eolsOf e ≡ eols3 (bitsOf bytes) t (st .at) = single-eols (h .loading) (p .single) t in
       before-judged settings bytes st e (st .at) (unaligned (settings .«rows_are_byte_aligned») (st .eols) (st .at) (p .expected)) q
       (lacks-none false (st .eols) (eqb (st .rows) (settings .rows)) (leb (length (bitsOf bytes)) (st .at + 12)) refl) _
       (judged-on settings bytes (eqb (st .rows) (settings .rows)) (st .eols) e (few (settings .«end_of_block»)) (p .going)

@@ -20,7 +20,6 @@ use Rattle.settings.specs.Settings.{settingsOf, taggingOf}
 use Rattle.settings.specs.Between.{stateOf}
 use Rattle.group3.specs.declared.eob.Before.{Before}
 use Rattle.group3.specs.declared.eob.Before.the-variants.{Line, End, NoEol}
-use Rattle.group3.specs.Tags.{isTagged}
 
 -- "Without EOLs, we need to align first"
 abbrev pub alignedFrom : DecodeSettings → State → ℕ
@@ -31,15 +30,15 @@ pub record NoEolAt (bytes : List ℕ) (at : ℕ) : Type 0 where
   pub loading : Loading bytes at
   pub no-eol : eolAfter at (zeroRun (drop at (bitsOf bytes))) ≡ none
 
--- exactly one EOL begins at a bit, without fill: eleven zeros and a one, and then a one among eleven bits
+-- exactly one EOL begins at a bit, without fill: eleven zeros and a one, and behind the next bit, which may be a tag, a one among ten
 abbrev pub singleAt : List ℕ → ℕ → Bool
-singleAt bytes at = eqb (peek 12 (drop at (bitsOf bytes))) 1 && not (eqb (peek 11 (drop (at + 12) (bitsOf bytes))) 0)
+singleAt bytes at = eqb (peek 12 (drop at (bitsOf bytes))) 1 && not (eqb (peek 10 (drop (at + 13) (bitsOf bytes))) 0)
 
--- another row without a tag bit, behind an EOL that is expected
+-- another row, behind an EOL that is expected
 abbrev pub usual : DecodeSettings → List ℕ → State → Bool
 usual s bytes st =
     not (eqb (st .rows) 0)
-    && (st .eols && (not (eqb (st .rows) (s .rows)) && (not (isTagged (taggingOf (s .encoding))) && singleAt bytes (st .at))))
+    && (st .eols && (not (eqb (st .rows) (s .rows)) && singleAt bytes (st .at)))
 
 -- an EOL is lacking after the row, whatever the settings
 abbrev pub Lacks : List ℕ → Bool → State → Eols → Bool → Type 0

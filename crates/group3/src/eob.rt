@@ -137,7 +137,7 @@ pub(crate) fn between(src: &[u8], settings: DecodeSettings, state: State) -> Bef
     Before::Line(eols.at, settings.end_of_line)
 }
 
-// Whether what is usual comes before the row of a 1D page: one EOL, which was expected.
+// Whether what is usual comes before the row: one EOL, which was expected.
 pub(crate) fn is_usual(src: &[u8], settings: DecodeSettings, state: State) -> bool
     requires { ⌜ Loading (now src) (state .at) ⌝ }
     ensures { λ r. ⌜ r ≡ usual settings (now (src .entry)) state ⌝ }
@@ -149,9 +149,6 @@ pub(crate) fn is_usual(src: &[u8], settings: DecodeSettings, state: State) -> bo
         return false;
     }
     if state.rows == settings.rows as usize {
-        return false;
-    }
-    if eols::is_tagged(settings) {
         return false;
     }
     eols::is_single(src, state.at)

@@ -70,7 +70,8 @@ pub(crate) fn read_eols(src: &[u8], settings: DecodeSettings, at: usize) -> Eols
     between_tags(src, first)
 }
 
-// Whether exactly one EOL begins here, without fill: seen at once, in 32 bits.
+// Whether exactly one EOL begins here, without fill: seen at once, in 32 bits. The bit behind it may be a tag, which another EOL may
+// follow, so a one is looked for behind that bit.
 pub(crate) fn is_single(src: &[u8], at: usize) -> bool
     requires { ⌜ Loading (now src) at ⌝ }
     ensures { λ r. ⌜ r ≡ singleAt (now (src .entry)) at ⌝ }
@@ -79,5 +80,5 @@ pub(crate) fn is_single(src: &[u8], at: usize) -> bool
     if ahead >> 20 != 1 {
         return false;
     }
-    (ahead >> 9) % 2048 != 0
+    (ahead >> 9) % 1024 != 0
 }

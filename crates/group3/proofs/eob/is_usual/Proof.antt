@@ -1,5 +1,4 @@
 -- `group3::eob::is_usual` meets its contract. Assumes nothing.
-use mathlib.Core.Path.{sym, _∙_}
 use borrow.Author.Tests.{eq-eqb, ne-eqb, not-true, not-false}
 use borrow.Author.Needs.{needs}
 use Rattle.group3.proofs.eob.is_usual.Statement.{statement}
@@ -17,21 +16,17 @@ cast-if3 c = search needs
 returns-3 : tie.Need-returns-3
 returns-3 c = let a = c .before .before .before .before .before .before .before .before .args in rw (ne-eqb (a .state .rows) 0 (c .before .before .before .before .before .if1 .left), not-false (a .state .eols) (c .before .before .before .if2 .left), eq-eqb (a .state .rows) (a .settings .rows) (c .if3 .taken))
 
-is-tagged-requires : tie.Need-is-tagged-requires
-is-tagged-requires c κs = search needs
-
-returns-4 : tie.Need-returns-4
-returns-4 c =
-    let a = c .before .before .before .before .before .before .before .before .before .before .args in
-    rw (ne-eqb (a .state .rows) 0 (c .before .before .before .before .before .before .before .if1 .left), not-false (a .state .eols) (c .before .before .before .before .before .if2 .left), ne-eqb (a .state .rows) (a .settings .rows) (c .before .before .if3 .left), sym (c .before .is-tagged .ensures) ∙ c .if4 .taken)
-
 is-single-requires : tie.Need-is-single-requires
 is-single-requires c κs = search needs
 
-returns-5 : tie.Need-returns-5
-returns-5 c =
-    let a = c .before .before .before .before .before .before .before .before .before .before .before .args in
-    rw (ne-eqb (a .state .rows) 0 (c .before .before .before .before .before .before .before .before .if1 .left), not-false (a .state .eols) (c .before .before .before .before .before .before .if2 .left), ne-eqb (a .state .rows) (a .settings .rows) (c .before .before .before .if3 .left), sym (c .before .before .is-tagged .ensures) ∙ c .before .if4 .left)
+returns-4 : tie.Need-returns-4
+returns-4 c =
+    let a = c .before .before .before .before .before .before .before .before .before .args in
+    rw (
+      ne-eqb (a .state .rows) 0 (c .before .before .before .before .before .before .if1 .left),
+      not-false (a .state .eols) (c .before .before .before .before .if2 .left),
+      ne-eqb (a .state .rows) (a .settings .rows) (c .before .if3 .left),
+    )
     (c .is-single .ensures)
 
 pub is-usual-spec : {M : Type 1} → statement M
@@ -42,7 +37,5 @@ is-usual-spec =
     returns-2
     cast-if3
     returns-3
-    is-tagged-requires
-    returns-4
     is-single-requires
-    returns-5)
+    returns-4)
