@@ -1,4 +1,5 @@
 -- The laws that the functions' proofs cite.
+pub mod Beside
 pub mod Fronting
 pub mod PairEntries
 pub mod Running

@@ -14,6 +14,7 @@ use Rattle.rules.specs.Runs.{ok}
 use Rattle.rules.specs.Modes.{VR, moded, readMode}
 use Rattle.rules.specs.Lines.{headOr, recorded}
 use Rattle.tables.specs.Tables.{colourOf}
+use Rattle.bit_reader.specs.Cursor.{mostBits}
 use Rattle.bit_reader.specs.Loaded.{Ahead}
 use Rattle.bit_reader.proofs.Window.{ahead-shift}
 use Rattle.codes.proofs.Modes.{one-live, top-straight}
@@ -21,7 +22,7 @@ use Rattle.context.specs.declared.reference.Reference.the-variants.{Kept}
 use Rattle.swift_loops.specs.declared.fast_2d.BetweenCodes.{BetweenCodes}
 use Rattle.context.specs.State.{turns}
 use Rattle.context.specs.Places.{Seen}
-use Rattle.swift_loops.specs.Swift.{standing, Stands, Roomy, keptIn, Noted, Walked, Ready, Asks, Turned}
+use Rattle.swift_loops.specs.Swift.{standing, Stands, Roomy, keptIn, Noted, Walked, Ready, Turned, WentStraight}
 use Rattle.context.proofs.State.{parity}
 use Rattle.context.proofs.Search.{head-at, right-more}
 use Rattle.context.proofs.RowPart.{reference-same, row-lent}
@@ -38,7 +39,7 @@ same-parity (suc m) zero h k e = absurd (let z : _≡_ {A = ℕ} 0 1 = cc in ome
 same-parity (suc m) (suc n) h k e = omega arith
 
 -- the changes that are noted have the parity of the last pixel's colour
-noted-parity : {row : List ℕ} {s : BetweenCodes} {r : ℕ} {ys : List ℕ} → Noted row s r ys → r % 2 ≡ s .place % 2
+pub noted-parity : {row : List ℕ} {s : BetweenCodes} {r : ℕ} {ys : List ℕ} → Noted row s r ys → r % 2 ≡ s .place % 2
 noted-parity {row} {s} {r} n =
     same-parity (r % 2) (s .place % 2) (omega arith) (omega arith)
     (ap (λ (k : ℕ). colourOf (k % 2)) (n .counted) ∙ sym (parity (recorded (standing row false s))) ∙ last-recorded (standing row false s))
@@ -49,10 +50,11 @@ turning count place e = rw (ne-eqb (count % 2) (place % 2) (λ z. omega arith))
 
 -- ---- The loop
 
--- some of the data's bits, and perhaps none, lie on top of a word
-pub record Shows (bytes : List ℕ) (at rest : ℕ) : Type 0 where
+-- some of the data's bits up to an end, and perhaps none, lie on top of a word
+pub record Shows (bytes : List ℕ) (end at rest : ℕ) : Type 0 where
   pub live : ℕ
   pub next : Ahead bytes at live rest
+  pub ends : at + live ≡ end
 
 -- The line has come from s to t by V0 codes, out of `bits`, of which `rest` is left.
 pub record Along (xs : List ℕ) (start base width : ℕ) (s : BetweenCodes) (bits : ℕ) (zs : List ℕ) (t : BetweenCodes) (rest : ℕ) : Type 0 where
@@ -63,7 +65,9 @@ pub record Along (xs : List ℕ) (start base width : ℕ) (s : BetweenCodes) (bi
   pub begun : 0 < t .position
   pub turns : t .count % 2 ≡ (t .place + 1) % 2
   pub level : t .at + s .place ≡ s .at + t .place
-  pub walked : (bytes : List ℕ) (live : ℕ) → Ahead bytes (s .at) live bits → Walked (keptIn start base xs) (bitsOf bytes) base (length xs - base) width xs s zs t × Shows bytes (t .at) rest
+  pub forth : s .at ≤ t .at
+  pub walked : (bytes : List ℕ) (live : ℕ) → Ahead bytes (s .at) live bits
+      → Walked (keptIn start base xs) (bitsOf bytes) base (length xs - base) width xs s zs t × Shows bytes (s .at + live) (t .at) rest
 
 module _ {xs : List ℕ} {start base width : ℕ} {s : BetweenCodes} (g : Turned xs start base width s) where
   full : (length xs - base) + base ≡ length xs
@@ -82,7 +86,11 @@ module _ {xs : List ℕ} {start base width : ℕ} {s : BetweenCodes} (g : Turned
     begun = g .begun;
     turns = g .turns;
     level = refl;
-    walked = λ bytes live h. (walked-none full (g .stands) (omega (arith, h .there, length-bitsOf bytes)), record { live = live; next = h });
+    forth = omega arith;
+    walked = λ bytes live h. (
+      walked-none full (g .stands) (omega (arith, h .there, length-bitsOf bytes)),
+      record { live = live; next = h; ends = refl },
+    );
   }
 
   module _ {bits : ℕ} {zs : List ℕ} {t : BetweenCodes} {rest : ℕ} (a : Along xs start base width s bits zs t rest) where
@@ -92,13 +100,30 @@ module _ {xs : List ℕ} {start base width : ℕ} {s : BetweenCodes} (g : Turned
     kept : keptIn start base zs ≡ keptIn start base xs
     kept = reference-same (Kept start) base [] xs zs (g .placed) (g .placed .0, based) (a .front)
 
+    -- what the loop is left with
+    pub along-went : WentStraight xs start base width s bits t zs
+    along-went = record {
+      turned = record {
+        placed = (g .placed .0, based);
+        narrow = g .narrow;
+        rising = rw kept (g .rising);
+        stands = rw (kept, a .size) (a .stands);
+        roomy = rw (a .size) (a .roomy);
+        begun = a .begun;
+        turns = a .turns;
+        long = omega (arith, a .size, g .long);
+      };
+      forth = a .forth;
+      walked = λ bytes live h. let w = a .walked bytes live h in (w .0, omega (arith, w .1 .ends));
+    }
+
     module _ (there : t .place < base - start) where
       inside : t .place < length (keptIn start base xs)
       inside = omega (arith, length-kept)
 
       -- no sum leaves the type
-      pub along-low : t .at < 4611686018427387904
-      along-low = omega (arith, a .level, g .low, g .long, g .placed)
+      pub along-low : s .at ≤ mostBits + 71 → t .at < 4611686018427387904
+      along-low low = omega (arith, a .level, g .long, g .placed)
 
       pub along-next : (v : ℕ) → start + t .place < length (set zs (base + t .count) v)
       along-next v = omega (arith, a .size, g .placed, length-set zs (base + t .count) v)
@@ -162,11 +187,16 @@ module _ {xs : List ℕ} {start base width : ℕ} {s : BetweenCodes} (g : Turned
         begun = omega (arith, b1-right);
         turns = omega (arith, a .turns);
         level = omega (arith, a .level);
+        forth = omega (arith, a .forth);
         walked = λ bytes live h.
             let w = a .walked bytes live h in
             let shown = w .1 .next in (
               walked-then full (w .0) (next bytes (top-straight shown one)),
-              record { live = w .1 .live - 1; next = ahead-shift shown 1 (one-live shown one) },
+              record {
+                live = w .1 .live - 1;
+                next = ahead-shift shown 1 (one-live shown one);
+                ends = omega (arith, w .1 .ends, one-live shown one);
+              },
             );
       })
         where
@@ -179,44 +209,3 @@ module _ {xs : List ℕ} {start base width : ℕ} {s : BetweenCodes} (g : Turned
               (subst (λ (n : ℕ). Walked (keptIn start base xs) (bitsOf bytes) base (n - base) width zs t (putMid base (length zs - base) zs (set (midOf base (length zs - base) zs) (t .count) (t .position))) end) (a .size)
               (subst (λ (r : List ℕ). Walked r (bitsOf bytes) base (length zs - base) width zs t (putMid base (length zs - base) zs (set (midOf base (length zs - base) zs) (t .count) (t .position))) end) kept
               (straight-walked ready noted bytes read)))
-
--- ---- The first one, and those behind it
-
-module _ {xs : List ℕ} {start base width : ℕ} {s : BetweenCodes} {b : ℕ} (q : Asks xs start base width s b) {r : ℕ} {ys : List ℕ} (n : Noted (midOf base (length xs - base) xs) s r ys) where
-  abbrev g : Ready xs start base width s b
-  g = q .ready
-
-  abbrev zs : List ℕ
-  zs = putMid base (length xs - base) xs ys
-
-  abbrev first : BetweenCodes
-  first = record { at = s .at + 1; position = b; count = r; place = s .place + 1 }
-
-  pub first-turned : Turned (putMid base (length xs - base) xs ys) start base width (record { at = s .at + 1; position = b; count = r; place = s .place + 1 })
-  first-turned = record {
-    placed = (g .placed .0, omega (arith, after-length g n, g .placed));
-    narrow = g .narrow;
-    rising = rw (after-reference g n) (g .rising);
-    stands = rw (after-reference g n, after-length g n) (record {
-      fits = fits-b1 g;
-      held = omega (arith, g .roomy, noted-few g n, g .ahead, fits-b1 g);
-      seen = subst (λ (m : ℕ). Seen (keptIn start base xs) m (s .place + 1)) (right-more b (λ z. omega (arith, g .ahead)))
-          (subst (λ (x : ℕ). Seen (keptIn start base xs) (x + 1) (s .place + 1)) (sym (g .b1-is)) (seen-next (g .rising) (s .place)));
-      near = omega (arith, g .stands .near);
-    });
-    roomy = rw (after-length g n) (omega (arith, g .roomy, noted-few g n, g .ahead));
-    begun = omega (arith, g .ahead);
-    turns = omega (arith, noted-parity n);
-    low = omega (arith, q .low);
-    long = omega (arith, q .long, after-length g n);
-  }
-
-  pub first-then : (bytes : List ℕ) → readMode (bitsOf bytes) (s .at) ≡ ok (moded (s .at + 1) (VR 0)) → {t : BetweenCodes} {us : List ℕ}
-      → Walked (keptIn start base (putMid base (length xs - base) xs ys)) (bitsOf bytes) base (length (putMid base (length xs - base) xs ys) - base) width (putMid base (length xs - base) xs ys) (record { at = s .at + 1; position = b; count = r; place = s .place + 1 }) us t
-      → Walked (keptIn start base xs) (bitsOf bytes) base (length xs - base) width xs s us t × (s .at < t .at)
-  first-then bytes read {t} {us} w = (
-    walked-then (omega (arith, g .placed)) (straight-walked g n bytes read)
-        (subst (λ (m : ℕ). Walked (keptIn start base xs) (bitsOf bytes) base (m - base) width zs first us t) (after-length g n)
-        (subst (λ (l : List ℕ). Walked l (bitsOf bytes) base (length zs - base) width zs first us t) (after-reference g n) w)),
-    omega (arith, w .forth),
-  )

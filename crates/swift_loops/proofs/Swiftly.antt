@@ -20,6 +20,7 @@ use Rattle.rules.specs.Pages.{overlaid}
 use Rattle.rules.proofs.Bits.{length-bitsOf}
 use Rattle.rules.proofs.Lines.{moves, line-more}
 use Rattle.tables.specs.Tables.{colourOf}
+use Rattle.bit_reader.specs.Cursor.{mostBits}
 use Rattle.context.specs.declared.offset.Move.the-variants.{By}
 use Rattle.context.specs.declared.reference.Reference.the-variants.{Kept}
 use Rattle.swift_loops.specs.declared.fast_2d.BetweenCodes.{BetweenCodes}
@@ -129,6 +130,18 @@ module _ {reference : List ℕ} {bs : List Bool} {base room width : ℕ} {xs : L
     where
       fewer : length (take (t .count) (drop base ys)) ≤ length (take (u .count) (drop base zs))
       fewer = omega (arith, length-take (t .count) (drop base ys), length-take (u .count) (drop base zs), length-drop base zs, b .stands .held, b .longer, b .size, a .size)
+
+-- the same where the second part is told of its own array: what lies before the row is as it was, and so is the reference
+pub walked-further : {bs : List Bool} {start base width : ℕ} {xs zs us : List ℕ} {s t u : BetweenCodes}
+    → (start ≤ base) × (base ≤ length xs)
+    → Walked (keptIn start base xs) bs base (length xs - base) width xs s zs t
+    → Walked (keptIn start base zs) bs base (length zs - base) width zs t us u
+    → Walked (keptIn start base xs) bs base (length xs - base) width xs s us u
+walked-further {bs} {start} {base} {width} {xs} {zs} {us} {s} {t} {u} placed v a =
+    walked-then (omega (arith, placed)) v
+    (subst (λ (n : ℕ). Walked (keptIn start base xs) bs base (n - base) width zs t us u) (v .size)
+    (subst (λ (l : List ℕ). Walked l bs base (length zs - base) width zs t us u)
+    (reference-same (Kept start) base [] xs zs placed (placed .0, omega (arith, v .size, placed)) (v .front)) a))
 
 -- ---- The array behind a change that was noted
 
@@ -335,14 +348,14 @@ module _ {xs : List ℕ} {start base width : ℕ} {s : BetweenCodes} {b : ℕ} (
 
 module _ {w b bytes xs : List ℕ} {start base width : ℕ} {s : BetweenCodes} (h : Walks w b bytes xs start base width s) {zs : List ℕ} {t : BetweenCodes}
     (v : Walked (keptIn start base xs) (bitsOf bytes) base (length xs - base) width xs s zs t) where
-  whole : (length xs - base) + base ≡ length xs
-  whole = omega (arith, h .placed)
-
   pub walked-base : base ≤ length zs
   walked-base = omega (arith, v .size, h .placed)
 
   walked-reference : keptIn start base zs ≡ keptIn start base xs
   walked-reference = reference-same (Kept start) base [] xs zs (h .placed) (h .placed .0, walked-base) (v .front)
+
+  pub walked-low : t .at ≤ mostBits
+  walked-low = omega (arith, v .inside, length-bitsOf bytes, h .loading .size)
 
   -- left of b1 the next code may be a swift one
   pub walked-asks : {c : ℕ} → Roomy (length xs - base) width s → c ≡ headOr width (drop (t .place) (keptIn start base zs)) → t .position < c → length xs < 2305843009213693952 → Asks zs start base width t c
@@ -356,13 +369,9 @@ module _ {w b bytes xs : List ℕ} {start base width : ℕ} {s : BetweenCodes} (
       b1-is = e;
       ahead = k;
     };
-    low = omega (arith, v .inside, length-bitsOf bytes, h .loading .size);
+    low = omega (arith, walked-low);
     long = omega (arith, v .size);
   }
-
-  -- and takes the line on
-  pub walked-on : {ys : List ℕ} {u : BetweenCodes} → Walked (keptIn start base zs) (bitsOf bytes) base (length zs - base) width zs t ys u → Walked (keptIn start base xs) (bitsOf bytes) base (length xs - base) width xs s ys u
-  walked-on {ys} {u} a = walked-then whole v (subst (λ (n : ℕ). Walked (keptIn start base xs) (bitsOf bytes) base (n - base) width zs t ys u) (v .size) (subst (λ (l : List ℕ). Walked l (bitsOf bytes) base (length zs - base) width zs t ys u) walked-reference a))
 
   -- as the code is seen to be, with what it makes of the loop's measure
   module _ (r : TakenCode) (ys : List ℕ) (took : Took (keptIn start base zs) (bitsOf bytes) base (length zs - base) width zs t r ys) where
@@ -374,7 +383,7 @@ module _ {w b bytes xs : List ℕ} {start base width : ℕ} {s : BetweenCodes} (
       on = subst (λ (q : TakenCode). Took (keptIn start base zs) (bitsOf bytes) base (length zs - base) width zs t q ys) e took
 
       pub took-on : Walked (keptIn start base xs) (bitsOf bytes) base (length xs - base) width xs s ys u
-      took-on = walked-on (on .0)
+      took-on = walked-further (h .placed) v (on .0)
 
       pub took-less : 8 * length bytes - u .at < 8 * length bytes - t .at
       took-less = omega (arith, on .1, on .0 .inside, length-bitsOf bytes)

@@ -90,10 +90,6 @@ abbrev pub TookBits : List ℕ → ℕ → ℕ → ℕ → BetweenCodes → ℕ 
 TookBits xs start base width s bits least next mode r ys =
     (bytes : List ℕ) (live : ℕ) → Ahead bytes (s .at) live bits → least ≤ live → readMode (bitsOf bytes) (s .at) ≡ ok (moded next mode) → TookIn bytes xs start base width s r ys
 
--- codes walk the line in any data that has these bits at the stand, however few of them
-abbrev pub WalkedBits : List ℕ → ℕ → ℕ → ℕ → BetweenCodes → ℕ → BetweenCodes → List ℕ → Type 0
-WalkedBits xs start base width s bits t ys = (bytes : List ℕ) (live : ℕ) → Ahead bytes (s .at) live bits → Walked (keptIn start base xs) (bitsOf bytes) base (length xs - base) width xs s ys t
-
 -- in any data that has these bits at the stand, 57 of them at least
 abbrev pub TookAhead : List ℕ → ℕ → ℕ → ℕ → BetweenCodes → ℕ → TakenCode → List ℕ → Type 0
 TookAhead xs start base width s bits r ys = (bytes : List ℕ) (live : ℕ) → Ahead bytes (s .at) live bits → 57 ≤ live → TookIn bytes xs start base width s r ys
@@ -113,7 +109,7 @@ pub record Ready (xs : List ℕ) (start base width : ℕ) (s : BetweenCodes) (b1
 -- in data and in an array of which there may be so much
 pub record Asks (xs : List ℕ) (start base width : ℕ) (s : BetweenCodes) (b1 : ℕ) : Type 0 where
   pub ready : Ready xs start base width s b1
-  pub low : s .at ≤ mostBits
+  pub low : s .at ≤ mostBits + 64
   pub long : length xs < 2305843009213693952
 
 -- and a vertical code of `size` bits
@@ -135,10 +131,48 @@ pub record Turned (xs : List ℕ) (start base width : ℕ) (s : BetweenCodes) : 
   pub roomy : Roomy (length xs - base) width s
   pub begun : 0 < s .position
   pub turns : s .count % 2 ≡ (s .place + 1) % 2
-  pub low : s .at ≤ mostBits + 1
   pub long : length xs < 2305843009213693952
 
--- a line that stands anywhere
+-- behind a code, if it was taken: it has at most seven bits
+abbrev pub TurnedOn : List ℕ → ℕ → ℕ → ℕ → BetweenCodes → TakenCode → Type 0
+TurnedOn ys start base width s (On t) = Turned ys start base width t × (s .at < t .at) × (t .at ≤ s .at + 7)
+TurnedOn ys start base width s Other = Unit {0}
+
+-- a vertical code of `size` bits, and the line behind it
+abbrev pub SideTaken : List ℕ → ℕ → ℕ → ℕ → BetweenCodes → ℕ → ℕ → ℕ → TakenCode → List ℕ → Type 0
+SideTaken xs start base width s d twice size r ys =
+    TookMode xs start base width s (s .at + size) (sideMode d twice) r ys × TurnedOn ys start base width s r
+
+-- a line that goes on by codes which begin left of a bit
+pub record GoesAlong (xs : List ℕ) (start base width : ℕ) (s : BetweenCodes) (stop : ℕ) : Type 0 where
+  pub turned : Turned xs start base width s
+  pub low : s .at ≤ mostBits + 71
+  pub near : stop ≤ s .at + 50
+  pub stops : stop ≤ mostBits + 50
+
+-- ---- What codes behind one that turned the line make of it
+
+-- V0 codes, as many as the bits begin with, took it on; their bits are all of the data
+pub record WentStraight (xs : List ℕ) (start base width : ℕ) (s : BetweenCodes) (bits : ℕ) (t : BetweenCodes) (ys : List ℕ) : Type 0 where
+  pub turned : Turned ys start base width t
+  pub forth : s .at ≤ t .at
+  pub walked : (bytes : List ℕ) (live : ℕ) → Ahead bytes (s .at) live bits
+      → Walked (keptIn start base xs) (bitsOf bytes) base (length xs - base) width xs s ys t × (t .at ≤ s .at + live)
+
+-- a code that turns the line, in any data that has these bits at the stand, seven of them at least
+pub record Turns (xs : List ℕ) (start base width : ℕ) (s : BetweenCodes) (bits : ℕ) (r : TakenCode) (ys : List ℕ) : Type 0 where
+  pub took : (bytes : List ℕ) (live : ℕ) → Ahead bytes (s .at) live bits → 7 ≤ live → TookIn bytes xs start base width s r ys
+  pub turned : TurnedOn ys start base width s r
+
+-- codes in any data that has these bits at the stand, up to seven behind the bit before which codes begin
+abbrev pub WalkedTo : List ℕ → ℕ → ℕ → ℕ → BetweenCodes → ℕ → ℕ → BetweenCodes → List ℕ → Type 0
+WalkedTo xs start base width s bits stop t ys =
+    (bytes : List ℕ) (live : ℕ) → Ahead bytes (s .at) live bits → stop + 7 ≤ s .at + live
+    → Walked (keptIn start base xs) (bitsOf bytes) base (length xs - base) width xs s ys t
+
+-- ---- A line that stands anywhere
+
+-- what its codes ask
 pub record Walks (w b bytes xs : List ℕ) (start base width : ℕ) (s : BetweenCodes) : Type 0 where
   pub lookups : Lookups w b
   pub loading : Loading bytes (s .at)

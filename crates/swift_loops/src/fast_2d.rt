@@ -8,12 +8,14 @@ ghost use mathlib.Core.Bool.{cond};
 ghost use Prim.Native.Nat.{_+_, _-_, _/_, _%_, _^_, _≤_, _<_};
 ghost use lib.Dec.{eqb, leb};
 ghost use lib.ListN.{length};
+ghost use lib.Count.{leadingZeros};
 ghost use Rattle.rules.specs.Bits.{bitsOf};
-ghost use Rattle.rules.specs.Modes.{pass, horizontal, VR};
+ghost use Rattle.rules.specs.Modes.{pass, horizontal};
 ghost use Rattle.tables.specs.Tables.{Lookups};
 ghost use Rattle.context.specs.Places.{Onward, Reached, Turning, Back};
-ghost use Rattle.swift_loops.specs.Swift.{Noted, keptIn, Walked, sideMode, TookMode, TookBits, WalkedBits};
-ghost use Rattle.swift_loops.specs.Swift.{TookAhead, Asks, Sided, Turned, Walks, Roomy};
+ghost use Rattle.bit_reader.specs.Cursor.{mostBits};
+ghost use Rattle.swift_loops.specs.Swift.{Noted, keptIn, Walked, TookMode, TookBits, TookAhead, Turns, WalkedTo};
+ghost use Rattle.swift_loops.specs.Swift.{Asks, Sided, Turned, SideTaken, GoesAlong, WentStraight, Walks, Roomy};
 
 // Where a line stands between two codes: the next bit, the position, the changes it has, and b1's place on the reference. Its colour is the
 // place's parity.
@@ -98,7 +100,7 @@ fn vertical(
     size: usize,
 ) -> TakenCode
     requires { ⌜ Sided (now changes) start base width s b1 d twice size ⌝ }
-    ensures { λ r. ⌜ TookMode (now (changes .entry)) start base width s (s .at + size) (sideMode d twice) r (now (changes .exit)) ⌝ }
+    ensures { λ r. ⌜ SideTaken (now (changes .entry)) start base width s d twice size r (now (changes .exit)) ⌝ }
 {
     let to = b1 as usize + twice;
     if to <= s.position as usize + d {
@@ -128,8 +130,8 @@ fn to_each(
     from: BetweenCodes,
     ones: u64,
 ) -> BetweenCodes
-    requires { ⌜ Turned (now changes) start base width from ⌝ }
-    ensures { λ r. ⌜ WalkedBits (now (changes .entry)) start base width from ones r (now (changes .exit)) ⌝ }
+    requires { ⌜ Turned (now changes) start base width from × (from .at ≤ mostBits + 71) ⌝ }
+    ensures { λ r. ⌜ WentStraight (now (changes .entry)) start base width from ones r (now (changes .exit)) ⌝ }
 {
     let end = base - start;
     let mut s = from;
@@ -155,7 +157,115 @@ fn to_each(
     s
 }
 
-// As many V0 codes as `bits` begins with, which is one at least.
+fn bit_of(bits: u64, k: usize) -> usize
+    requires { ⌜ k < 64 ⌝ }
+    ensures { λ r. ⌜ r ≡ bits / 2 ^ k % 2 ⌝ }
+{
+    ((bits >> k) % 2) as usize
+}
+
+// VR1 or VL1, where `rest` begins with it, behind a code that turned the line: the bits are at hand, and no other mode is asked for.
+fn beside(
+    changes: &mut [u32],
+    start: usize,
+    base: usize,
+    width: u32,
+    s: BetweenCodes,
+    rest: u64,
+) -> TakenCode
+    requires { ⌜ Turned (now changes) start base width s × (s .at ≤ mostBits + 64) ⌝ }
+    ensures { λ r. ⌜ Turns (now (changes .entry)) start base width s rest r (now (changes .exit)) ⌝ }
+{
+    if rest >> 62 != 1 {
+        return TakenCode::Other;
+    }
+    let b1 = reference::change_or(&changes[start..base], s.place, width);
+    if b1 <= s.position {
+        return TakenCode::Other;
+    }
+    vertical(
+        changes,
+        start,
+        base,
+        width,
+        s,
+        b1,
+        1,
+        2 * bit_of(rest, 61),
+        3,
+    )
+}
+
+// V0, VR1 and VL1 codes while they come and their bits are at hand: none but V0 begins at `stop` or behind it.
+fn along(
+    changes: &mut [u32],
+    start: usize,
+    base: usize,
+    width: u32,
+    from: BetweenCodes,
+    bits: u64,
+    stop: usize,
+) -> BetweenCodes
+    requires { ⌜ GoesAlong (now changes) start base width from stop ⌝ }
+    ensures { λ r. ⌜ WalkedTo (now (changes .entry)) start base width from bits stop r (now (changes .exit)) ⌝ }
+{
+    let mut s = from;
+    let mut rest = bits;
+    loop {
+        let t = to_each(changes, start, base, width, s, rest);
+        if stop <= t.at {
+            return t;
+        }
+        let left = rest << (t.at - s.at);
+        match beside(changes, start, base, width, t, left) {
+            TakenCode::Other => {
+                return t;
+            }
+            TakenCode::On(next) => {
+                rest = left << (next.at - t.at);
+                s = next;
+            }
+        }
+    }
+}
+
+// To b1, or a pixel beside it: V0 where no zeros come first, VR1 or VL1 where one does.
+fn to_b1(
+    changes: &mut [u32],
+    start: usize,
+    base: usize,
+    width: u32,
+    s: BetweenCodes,
+    b1: u32,
+    bits: u64,
+    zeros: u32,
+) -> TakenCode
+    requires { ⌜ Asks (now changes) start base width s b1 × (zeros ≡ leadingZeros 64 bits) × (zeros ≤ 1) ⌝ }
+    ensures { λ r. ⌜ Turns (now (changes .entry)) start base width s bits r (now (changes .exit)) ⌝ }
+{
+    if zeros == 0 {
+        let count = note(&mut changes[base..], s);
+        return TakenCode::On(BetweenCodes {
+            at: s.at + 1,
+            position: b1,
+            count: count,
+            place: s.place + 1,
+        });
+    }
+    vertical(
+        changes,
+        start,
+        base,
+        width,
+        s,
+        b1,
+        1,
+        2 * bit_of(bits, 61),
+        3,
+    )
+}
+
+// A code to b1 or a pixel beside it, and those of the kind that follow in the same bits: of these, 57 are the data's.
 fn straight(
     changes: &mut [u32],
     start: usize,
@@ -164,19 +274,19 @@ fn straight(
     s: BetweenCodes,
     b1: u32,
     bits: u64,
+    zeros: u32,
 ) -> TakenCode
-    requires { ⌜ Asks (now changes) start base width s b1 ⌝ }
-    ensures { λ r. ⌜ TookBits (now (changes .entry)) start base width s bits 1 (s .at + 1) (VR 0) r (now (changes .exit)) ⌝ }
+    requires { ⌜ Asks (now changes) start base width s b1 × (s .at ≤ mostBits) × (zeros ≡ leadingZeros 64 bits) × (zeros ≤ 1) ⌝ }
+    ensures { λ r. ⌜ TookAhead (now (changes .entry)) start base width s bits r (now (changes .exit)) ⌝ }
 {
-    let count = note(&mut changes[base..], s);
-    let first = BetweenCodes {
-        at: s.at + 1,
-        position: b1,
-        count: count,
-        place: s.place + 1,
-    };
-    let last = to_each(changes, start, base, width, first, bits << 1);
-    TakenCode::On(last)
+    match to_b1(changes, start, base, width, s, b1, bits, zeros) {
+        TakenCode::Other => TakenCode::Other,
+        TakenCode::On(first) => {
+            let rest = bits << (first.at - s.at);
+            let last = along(changes, start, base, width, first, rest, s.at + 50);
+            TakenCode::On(last)
+        }
+    }
 }
 
 // To b2, in the same colour.
@@ -252,13 +362,6 @@ fn two_runs<'a>(
     })
 }
 
-fn bit_of(bits: u64, k: usize) -> usize
-    requires { ⌜ k < 64 ⌝ }
-    ensures { λ r. ⌜ r ≡ bits / 2 ^ k % 2 ⌝ }
-{
-    ((bits >> k) % 2) as usize
-}
-
 // One code, by its leading zeros. `two_runs` picks its tables itself, so that it has one call alone and is compiled in place:
 // otherwise the stand would go through memory at every code.
 fn code<'a>(
@@ -272,22 +375,14 @@ fn code<'a>(
     b1: u32,
     bits: u64,
 ) -> TakenCode
-    requires { ⌜ Lookups (now white) (now black) × Asks (now changes) start base width s b1 ⌝ }
+    requires { ⌜ Lookups (now white) (now black) × Asks (now changes) start base width s b1 × (s .at ≤ mostBits) ⌝ }
     ensures { λ r. ⌜ TookAhead (now (changes .entry)) start base width s bits r (now (changes .exit)) ⌝ }
 {
-    match u64::leading_zeros(bits) {
-        0 => straight(changes, start, base, width, s, b1, bits),
-        1 => vertical(
-            changes,
-            start,
-            base,
-            width,
-            s,
-            b1,
-            1,
-            2 * bit_of(bits, 61),
-            3,
-        ),
+    let zeros = u64::leading_zeros(bits);
+    if zeros < 2 {
+        return straight(changes, start, base, width, s, b1, bits, zeros);
+    }
+    match zeros {
         2 => two_runs(white, black, changes, start, base, width, s, b1, bits),
         3 => to_b2(changes, start, base, width, s, b1),
         4 => vertical(
@@ -312,7 +407,7 @@ fn code<'a>(
             6 * bit_of(bits, 57),
             7,
         ),
-        6.. => TakenCode::Other,
+        _ => TakenCode::Other,
     }
 }
 

@@ -6,7 +6,7 @@ use denote.Ref.{now}
 use borrow.Author.Needs.{needs}
 use Rattle.rules.specs.Bits.{bitsOf}
 use Rattle.swift_loops.specs.Swift.{keptIn, Walked}
-use Rattle.swift_loops.proofs.Swiftly.{walks-none, walked-base, walked-asks, took-other, took-on, took-less}
+use Rattle.swift_loops.proofs.Swiftly.{walks-none, walked-base, walked-low, walked-asks, took-other, took-on, took-less}
 use Rattle.swift_loops.proofs.fast_2d.codes.Statement.{statement}
 use Rattle.swift_loops.proofs.fast_2d.codes.Tie as tie
 
@@ -54,8 +54,13 @@ ahead-requires c κs = omega (arith, c .before .before .before .before .before .
 
 code-requires : tie.Need-code-requires Inv-loop μ-loop
 code-requires c κs =
-    let asks = c .before .before .before .before .before .before .before .before .before .before .before .before .before .pre in
-    (asks .0 .lookups, walked-asks (asks .0) (c .before .before .before .before .before .before .before .before .before .loop .inv) (asks .1) (c .before .before .before .before .change-or .ensures) (c .before .before .if3 .left) (omega (arith, c .before .before .before .before .before .before .before .before .before .before .before .before .before .good .1 .1 .1 .0 .1)))
+    let asks = c .before .before .before .before .before .before .before .before .before .before .before .before .before in
+    let inv = c .before .before .before .before .before .before .before .before .before .loop .inv in (
+      asks .pre .0 .lookups,
+      walked-asks (asks .pre .0) inv (asks .pre .1) (c .before .before .before .before .change-or .ensures) (c .before .before .if3 .left)
+          (omega (arith, asks .good .1 .1 .1 .0 .1)),
+      walked-low (asks .pre .0) inv,
+    )
 
 enum-told : tie.Need-enum-told Inv-loop μ-loop
 enum-told c = search needs

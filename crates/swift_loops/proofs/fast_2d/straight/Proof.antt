@@ -1,53 +1,75 @@
--- The first V0 by itself, the others behind it.
+-- A code that turns the line, and those behind it.
+use Rattle.swift_loops.proofs.Beside.{first-other, first-short, first-goes, first-then}
 use native.Mathlib.Omega.{arith}
 use borrow.Author.Needs.{needs}
-use Rattle.bit_reader.proofs.Window.{ahead-shift}
-use Rattle.swift_loops.proofs.StraightLoop.{first-turned, first-then}
-use Rattle.swift_loops.proofs.Swiftly.{ready-note, after-length, asks-place}
 use Rattle.swift_loops.proofs.fast_2d.straight.Statement.{statement}
 use Rattle.swift_loops.proofs.fast_2d.straight.Tie as tie
 
-mul-note : tie.Need-mul-note
-mul-note c = omega (arith, c .before .good .0 .1, c .before .pre .ready .placed)
+to-b1-requires : tie.Need-to-b1-requires
+to-b1-requires c κs = search needs
 
-sub-note : tie.Need-sub-note
-sub-note c = omega (arith, c .before .pre .ready .placed)
+enum-told : tie.Need-enum-told
+enum-told c = search needs
 
-part-note-start : tie.Need-part-note-start
-part-note-start c = omega (arith, c .before .pre .ready .placed)
+enum-known-first : tie.Need-enum-known-first
+enum-known-first c = search needs
 
-part-note-end : tie.Need-part-note-end
-part-note-end c = search needs
+sub-rest : tie.Need-sub-rest
+sub-rest c =
+    let code = c .before .before .before in
+    let first = code .before .before .before .before in
+    let start = first .before .before .before in
+    omega (arith, first-short (start .pre .0) (start .pre .1) (first .to-b1 .ensures) (code .first .given .1))
 
-note-requires : tie.Need-note-requires
-note-requires c κs = ready-note (c .before .before .pre .ready)
+shl-rest : tie.Need-shl-rest
+shl-rest c =
+    let code = c .before .before .before in
+    let first = code .before .before .before .before in
+    let start = first .before .before .before in
+    omega (arith, first-short (start .pre .0) (start .pre .1) (first .to-b1 .ensures) (code .first .given .1))
 
-add-t11 : tie.Need-add-t11
-add-t11 c = omega (arith, c .before .before .before .before .before .before .pre .low)
+add-along : tie.Need-add-along
+add-along c = search needs
 
-add-t13 : tie.Need-add-t13
-add-t13 c = omega (arith, asks-place (c .before .before .before .before .before .before .before .pre))
-
-to-each-requires : tie.Need-to-each-requires
-to-each-requires c κs = first-turned (c .before .before .before .before .before .before .before .before .pre) (c .before .before .before .before .before .note .ensures)
+along-requires : tie.Need-along-requires
+along-requires c κs =
+    let code = c .before .before .before .before .before in
+    let first = code .before .before .before .before in
+    let start = first .before .before .before in
+    first-goes (start .pre .0) (start .pre .1) (first .to-b1 .ensures) (code .first .given .1)
 
 same-length : tie.Need-same-length
-same-length c = omega (arith, c .before .before .to-each .kept .0, after-length (c .before .before .before .before .before .before .before .before .before .before .before .pre .ready) (c .before .before .before .before .before .before .before .before .note .ensures))
+same-length c = search needs
 
 returns : tie.Need-returns
-returns c = λ bytes live h k read. first-then (c .before .before .before .before .before .before .before .before .before .before .before .pre) (c .before .before .before .before .before .before .before .before .note .ensures) bytes read (c .before .before .to-each .ensures bytes _ (ahead-shift h 1 k))
+returns c =
+    let first = c .before .before .before .before in
+    let start = first .before .before .before in
+    first-other (start .pre .0) (start .pre .1) (first .to-b1 .ensures) (c .enum-told .given .1)
+
+same-length-2 : tie.Need-same-length-2
+same-length-2 c = search needs
+
+returns-2 : tie.Need-returns-2
+returns-2 c =
+    let rest = c .before .before in
+    let code = rest .before .before .before .before .before .before in
+    let first = code .before .before .before .before in
+    let start = first .before .before .before in
+    first-then (start .pre .0) (start .pre .1) (first .to-b1 .ensures) (code .first .given .1) (rest .along .ensures)
 
 pub straight-spec : {M : Type 1} → statement M
 straight-spec =
     tie.close
     (tie.spec
-    mul-note
-    sub-note
-    part-note-start
-    part-note-end
-    note-requires
-    add-t11
-    add-t13
-    to-each-requires
+    to-b1-requires
+    enum-told
+    enum-known-first
+    sub-rest
+    shl-rest
+    add-along
+    along-requires
     same-length
-    returns)
+    returns
+    same-length-2
+    returns-2)

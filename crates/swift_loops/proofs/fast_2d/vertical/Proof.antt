@@ -2,6 +2,7 @@
 use mathlib.Core.Path.{refl}
 use native.Mathlib.Omega.{arith}
 use borrow.Author.Needs.{needs}
+use Rattle.swift_loops.proofs.Beside.{side-turned}
 use Rattle.swift_loops.proofs.Swiftly.{ready-note, after-length, side-turning, side-walked}
 use Rattle.swift_loops.proofs.fast_2d.vertical.Statement.{statement}
 use Rattle.swift_loops.proofs.fast_2d.vertical.Tie as tie
@@ -16,13 +17,13 @@ add-if1 : tie.Need-add-if1
 add-if1 c = search needs
 
 returns : tie.Need-returns
-returns c = λ bytes read. refl
+returns c = (λ bytes read. refl, tt)
 
 add-if2 : tie.Need-add-if2
 add-if2 c = search needs
 
 returns-2 : tie.Need-returns-2
-returns-2 c = λ bytes read. refl
+returns-2 c = (λ bytes read. refl, tt)
 
 sub-a1 : tie.Need-sub-a1
 sub-a1 c = search needs
@@ -67,7 +68,15 @@ same-length : tie.Need-same-length
 same-length c = after-length (c .before .before .before .before .before .before .before .before .before .before .before .before .pre .asks .ready) (c .before .before .before .before .before .before .note .ensures)
 
 returns-3 : tie.Need-returns-3
-returns-3 c = λ bytes read. (side-walked (c .before .before .before .before .before .before .before .before .before .before .before .before .pre) (c .before .before .before .before .before .before .before .before .before .if1 .left) (c .before .before .before .before .before .before .before .before .if2 .left) (c .before .before .before .before .before .before .note .ensures) _ (c .before .behind .ensures) bytes read, omega (arith, c .before .before .before .before .before .before .before .before .before .before .before .before .pre .some-bits))
+returns-3 c =
+    let s = c .before .before .before .before .before .before .before .before .before .before .before .before in
+    let far = c .before .before .before .before .before .before .before .before .before .if1 .left in
+    let within = c .before .before .before .before .before .before .before .before .if2 .left in
+    let noted = c .before .before .before .before .before .before .note .ensures in
+    let reached = c .before .behind .ensures in (
+      λ bytes read. (side-walked (s .pre) far within noted _ reached bytes read, omega (arith, s .pre .some-bits)),
+      side-turned (s .pre) far within noted _ reached,
+    )
 
 pub vertical-spec : {M : Type 1} → statement M
 vertical-spec =
