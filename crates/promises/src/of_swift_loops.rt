@@ -3,9 +3,10 @@ use context::line::Line;
 use swift_loops::fast_1d::BetweenRuns;
 use swift_loops::fast_2d::BetweenCodes;
 ghost use mathlib.Core.Path.{_≡_};
-ghost use Prim.Native.Nat.{_-_};
+ghost use Prim.Native.Nat.{_+_, _-_};
 ghost use lib.ListN.{length};
 ghost use Rattle.rules.specs.Bits.{bitsOf};
+ghost use Rattle.context.specs.Places.{Onward, Reached, Turning};
 ghost use Rattle.swift_loops.specs.Pairs.{haltLine, startAt, Ran, Pairing};
 ghost use Rattle.swift_loops.specs.Swift.{keptIn, Walks, Walked};
 
@@ -45,4 +46,18 @@ pub fn swift_codes<'a>(
     ensures { λ r. ⌜ Walked (keptIn start base (now (changes .entry))) (bitsOf (now (src .entry))) base (length (now (changes .entry)) - base) width (now (changes .entry)) from (now (changes .exit)) r ⌝ }
 {
     swift_loops::fast_2d::swift_codes(white, black, src, changes, start, base, width, from)
+}
+
+pub fn onward(reference: &[u32], from: usize, position: u32) -> usize
+    requires { ⌜ Onward (now reference) from position ⌝ }
+    ensures { λ r. ⌜ Reached (now (reference .entry)) (position + 1) from r ⌝ }
+{
+    swift_loops::fast_2d::onward(reference, from, position)
+}
+
+pub fn behind(reference: &[u32], place: usize, d: usize, a1: u32) -> usize
+    requires { ⌜ Turning (now reference) place d a1 ⌝ }
+    ensures { λ r. ⌜ Reached (now (reference .entry)) (a1 + 1) (place + 1) r ⌝ }
+{
+    swift_loops::fast_2d::behind(reference, place, d, a1)
 }

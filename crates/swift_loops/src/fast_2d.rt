@@ -47,7 +47,7 @@ fn note(row: &mut [u32], s: BetweenCodes) -> usize
 }
 
 // The first place right of `position`, from `from` on, of the same parity.
-fn onward(reference: &[u32], from: usize, position: u32) -> usize
+pub fn onward(reference: &[u32], from: usize, position: u32) -> usize
     requires { ⌜ Onward (now reference) from position ⌝ }
     ensures { λ r. ⌜ Reached (now (reference .entry)) (position + 1) from r ⌝ }
 {
@@ -77,7 +77,7 @@ fn goes_back(reference: &[u32], place: usize, d: usize, a1: u32) -> bool
 }
 
 // b1's place behind a vertical code to a1.
-fn behind(reference: &[u32], place: usize, d: usize, a1: u32) -> usize
+pub fn behind(reference: &[u32], place: usize, d: usize, a1: u32) -> usize
     requires { ⌜ Turning (now reference) place d a1 ⌝ }
     ensures { λ r. ⌜ Reached (now (reference .entry)) (a1 + 1) (place + 1) r ⌝ }
 {

@@ -1,24 +1,30 @@
 -- A line that is being put: what holds between its codes, and what each code does. Assumes nothing.
-use mathlib.Core.Path.{_≡_, refl, sym, _∙_, subst}
-use mathlib.Core.Bool.{Bool}
+use mathlib.Core.Path.{_≡_, refl, sym, ap, _∙_, subst}
+use mathlib.Core.Bool.{Bool, true}
 use mathlib.Core.List.{List, [], _++_}
-use Prim.Native.Nat.{ℕ, _+_, _-_, _≤_, _<_}
+use Prim.Native.Nat.{ℕ, _+_, _-_, _%_, _≤_, _<_}
 use native.Mathlib.Omega.{arith}
-use lib.ListN.{length, drop}
+use lib.ListN.{length, getD, drop, replicate}
 use Rattle.rules.specs.Bits.{bitsFor, bitsOf}
 use Rattle.rules.specs.Codes.{Colour, opposite}
-use Rattle.rules.specs.Modes.{horizontal, modeBits}
-use Rattle.rules.specs.Lines.{rightOfA0}
-use Rattle.rules.specs.Write.{runBits}
+use Rattle.rules.specs.Modes.{pass, horizontal, modeBits}
+use Rattle.rules.specs.Lines.{headOr}
+use Rattle.rules.specs.Write.{runBits, verticalTo}
+use Rattle.rules.proofs.Ascending.{head-fits, rises-length}
+use Rattle.rules.proofs.Ahead.{leftOver}
 use Rattle.tables.specs.Tables.{colourOf}
 use Rattle.tables.specs.declared.Code.{Code}
-use Rattle.context.specs.Reference.{Passed}
+use Rattle.context.specs.Reference.{Finds}
+use Rattle.context.specs.Places.{Onward, Reached, Turning}
+use Rattle.context.proofs.Search.{passed-none}
 use Rattle.writer.specs.Putting.{inked, Sound, Spells, Room, Puts}
-use Rattle.writer.specs.Coding.{across, lineOf, Lined}
-use Rattle.writer.proofs.Owing.{Owes, owes-all, first-room, owes-put, first-code, owes-code, puts-zeros}
+use Rattle.writer.specs.Coding.{Alike, apart, across, lineOf, Lined}
+use Rattle.writer.proofs.Owing.{Owes, owes-all, first-room, owes-put, first-code, owes-code, code-puts, puts-zeros}
 use Rattle.writer.proofs.Turns.{Turn}
 use Rattle.writer.proofs.AlongLine as Line
-use Rattle.writer.proofs.AlongLine.{Along, toCome, fuelFor, start-all, none-left, left-is, left-then, onward}
+use Rattle.writer.proofs.AlongLine.{Along, toCome, fuelFor, start-all, none-left, left-is, left-then, onward, a1-low, a2-low, passes, verticals, horizontals}
+use Rattle.writer.proofs.Above.{Above, Straight, foundAt, above-start, above-finds, above-few, above-onward, above-turning}
+use Rattle.writer.proofs.Above.{above-pass, above-across, above-vertical, alike-straight}
 
 -- ---- A horizontal code and its runs
 
@@ -42,25 +48,26 @@ module _ {write : Bool} {at : ℕ} (colour : Colour) (first second : ℕ) (start
 
 -- ---- Between two codes
 
-pub record Going (write : Bool) (width : ℕ) (reference row : List ℕ) (from : ℕ) (start : List ℕ) (next position colour place seen : ℕ)
-    (out : List ℕ) : Type 0 where
+pub record Going (write : Bool) (width : ℕ) (reference row : List ℕ) (from : ℕ) (start : List ℕ) (next position place above : ℕ) (out : List ℕ) : Type 0 where
   pub fuel : ℕ
-  pub along : Along width reference row position colour place seen fuel
-  pub owes : Owes write next (toCome width reference row position colour place fuel) out from (lineOf width reference row) start
+  pub along : Along width reference row position (above % 2) place 0 fuel
+  pub stands : Above reference position place above
+  pub owes : Owes write next (toCome width reference row position (above % 2) place fuel) out from (lineOf width reference row) start
   pub zeros : 0 < position → inked write next [] (bitsOf out) ≡ bitsOf out
 
 -- before the first
 pub begin : {write : Bool} {width : ℕ} {reference row : List ℕ} {at bytes : ℕ} (out : List ℕ) → Lined write width reference row at bytes
-    → Going write width reference row at out at 0 0 0 0 out
+    → Going write width reference row at out at 0 0 0 out
 begin {write} {width} {reference} {row} {at} out l = record {
   fuel = fuelFor width row;
   along = Line.start width reference row (l .rises′);
+  stands = above-start reference;
   owes = subst (λ (xs : List Bool). Owes write at xs out at (lineOf width reference row) out) (start-all width reference row) (owes-all write at _ out);
   zeros = λ h. absurd (omega arith);
 }
 
-module _ {write : Bool} {width : ℕ} {reference row : List ℕ} {from : ℕ} {start : List ℕ} {next position colour place seen : ℕ} {out : List ℕ}
-    (g : Going write width reference row from start next position colour place seen out) (l : Lined write width reference row from (length start)) where
+module _ {write : Bool} {width : ℕ} {reference row : List ℕ} {from : ℕ} {start : List ℕ} {next position place above : ℕ} {out : List ℕ}
+    (g : Going write width reference row from start next position place above out) (l : Lined write width reference row from (length start)) where
   -- at the width all is put
   pub ended : width ≤ position → Puts write from (lineOf width reference row) start next out
   ended h = record {
@@ -73,9 +80,41 @@ module _ {write : Bool} {width : ℕ} {reference row : List ℕ} {from : ℕ} {s
       o : Owes write next [] out from (lineOf width reference row) start
       o = subst (λ (xs : List Bool). Owes write next xs out from (lineOf width reference row) start) (none-left (g .along) h) (g .owes)
 
+  -- the places are small numbers
+  pub few : (above + 2 < 9223372036854775808) × (place + 2 < 9223372036854775808)
+  few = above-few (g .stands) (g .along) (l .narrow) (l .rises) (l .rises′)
+
+  -- ones can be put for the changes that both rows have, and then it goes on behind them
+  module _ {k : ℕ} (h : position < width) (same : Alike reference above row place k) (some : 0 < k) where
+    pub many : Straight width reference row (toCome width reference row position (above % 2) place (g .fuel)) (leftOver width position (drop place row)) k
+        (getD row (place + k - 1) 0) (place + k) (above + k)
+    many = alike-straight (l .wide) (l .rises) (l .rises′) (g .along) (g .stands) h same some
+
+    pub last-inside : place + k - 1 < length row
+    last-inside = omega (arith, same .each (k - 1) (omega arith) .1)
+
+    pub ones-few : (place + k < 4294967296) × (above + k < 4294967296)
+    ones-few =
+        let (i, j, _) = same .each (k - 1) (omega arith) in
+        (omega (arith, rises-length (omega arith) (l .rises′), l .narrow), omega (arith, rises-length (omega arith) (l .rises), l .narrow))
+
+    module _ {code : Code} (s : Spells code (replicate k true)) where
+      pub ones-code : Room write next (code .size) (length out) × Sound code
+      ones-code = first-code (g .owes) s _ (many .bits) (l .room)
+
+      pub ones-put : {r : ℕ} {out′ : List ℕ} → Puts write next (bitsFor (code .size) (code .word)) out r out′
+          → Going write width reference row from start r (getD row (place + k - 1) 0) (place + k) (above + k) out′
+      ones-put p = record {
+        fuel = many .fuel;
+        along = many .along;
+        stands = many .stands;
+        owes = owes-code (g .owes) s _ (many .bits) (l .room .inside) p;
+        zeros = λ _. puts-zeros (first-room (g .owes) (replicate k true) _ (many .bits) (l .room) .inside) (code-puts s p);
+      }
+
   -- a code can be put, and then it goes on behind it
   module _ {xs : List Bool} {c′ : Colour} {p′ : ℕ} (place′ : ℕ)
-      (t : Turn width reference (colourOf colour) position (drop place row) xs c′ p′ (drop place′ row)) where
+      (t : Turn width reference (colourOf (above % 2)) position (drop place row) xs c′ p′ (drop place′ row)) where
     -- its bits have room, or its code where it is one
     pub turn-room : Room write next (length xs) (length out)
     turn-room = first-room (g .owes) xs _ (left-is (g .along) place′ t) (l .room)
@@ -84,11 +123,68 @@ module _ {write : Bool} {width : ℕ} {reference row : List ℕ} {from : ℕ} {s
     turn-code s = first-code (g .owes) s _ (left-is (g .along) place′ t) (l .room)
 
     -- once they are put, the rest of the line is left
-    pub turn-put : {colour′ seen′ : ℕ} → c′ ≡ colourOf colour′ → colour′ ≤ 1 → place′ ≤ place + 2 → Passed (rightOfA0 position) seen′ reference
-        → {r : ℕ} {out′ : List ℕ} → Puts write next xs out r out′ → Going write width reference row from start r p′ colour′ place′ seen′ out′
-    turn-put {colour′} e h k passed p = record {
+    pub turn-put : {above′ : ℕ} → c′ ≡ colourOf (above′ % 2) → place′ ≤ place + 2 → Above reference p′ place′ above′
+        → {r : ℕ} {out′ : List ℕ} → Puts write next xs out r out′ → Going write width reference row from start r p′ place′ above′ out′
+    turn-put {above′} e k stands p = record {
       fuel = g .fuel - 1;
-      along = onward (g .along) place′ t colour′ e h k passed;
-      owes = owes-put (g .owes) xs _ (left-then (g .along) place′ t colour′ e h k) (l .room .inside) p;
+      along = onward (g .along) place′ t (above′ % 2) e (omega arith) k (passed-none _ reference);
+      stands = stands;
+      owes = owes-put (g .owes) xs _ (left-then (g .along) place′ t (above′ % 2) e (omega arith) k) (l .room .inside) p;
       zeros = λ _. puts-zeros (turn-room .inside) p;
     }
+
+  -- The codes by what the rows have at their places.
+  module _ (h : position < width) {a1 b1 b2 : ℕ} (is-a1 : a1 ≡ headOr width (drop place row)) (is-b1 : b1 ≡ headOr width (drop above reference))
+      (is-b2 : b2 ≡ headOr width (drop (above + 1) reference)) where
+    finds : Finds reference width position (colourOf (above % 2)) (foundAt b1 b2)
+    finds = above-finds (g .stands) is-b1 is-b2
+
+    pub low : position ≤ a1
+    low = a1-low (g .along) (l .rises) h finds is-a1
+
+    -- pass
+    module _ (k : b2 < a1) where
+      pub passing : Turn width reference (colourOf (above % 2)) position (drop place row) (modeBits pass) (colourOf (above % 2)) b2 (drop place row)
+      passing = passes (g .along) (l .rises) h finds is-a1 k
+
+      pub pass-put : {code : Code} → Spells code (modeBits pass) → {r : ℕ} {out′ : List ℕ} → Puts write next (bitsFor (code .size) (code .word)) out r out′
+          → Going write width reference row from start r b2 place (above + 2) out′
+      pass-put s p =
+          turn-put place passing (ap colourOf (let q : above % 2 ≡ (above + 2) % 2 = omega arith in q)) (omega arith)
+          (above-pass (g .stands) (l .wide) (l .rises) is-b2 (omega (arith, is-a1, head-fits (g .along .rises)))) (code-puts s p)
+
+    module _ (k : a1 ≤ b2) where
+      -- vertical
+      module _ (near : apart b1 a1 ≤ 3) where
+        pub nearing : Turn width reference (colourOf (above % 2)) position (drop place row) (modeBits (verticalTo b1 a1)) (colourOf (1 - above % 2)) a1
+            (drop (place + 1) row)
+        nearing = verticals (g .along) (l .rises) h finds is-a1 k near
+
+        pub turning : {d : ℕ} → d ≡ apart b1 a1 → Turning reference above d a1
+        turning e = above-turning (g .stands) low (l .rises) is-b1 e (omega arith) (omega (arith, few .0))
+
+        pub vertical-put : {above′ : ℕ} → Reached reference (a1 + 1) (above + 1) above′ → {code : Code} → Spells code (modeBits (verticalTo b1 a1))
+            → {r : ℕ} {out′ : List ℕ} → Puts write next (bitsFor (code .size) (code .word)) out r out′
+            → Going write width reference row from start r a1 (place + 1) above′ out′
+        vertical-put {above′} reached s p =
+            turn-put (place + 1) nearing (ap colourOf (let q : 1 - above % 2 ≡ above′ % 2 = omega (arith, reached .parity) in q)) (omega arith)
+            (above-vertical (g .stands) (l .wide) (l .rises) (l .rises′) is-a1 low reached) (code-puts s p)
+
+      -- horizontal
+      module _ (far : 3 < apart b1 a1) {a2 : ℕ} (is-a2 : a2 ≡ headOr width (drop (place + 1) row)) where
+        pub second-low : a1 ≤ a2
+        second-low = a2-low (g .along) (l .rises) h finds is-a1 k far is-a2
+
+        pub crossing : Turn width reference (colourOf (above % 2)) position (drop place row) (across (colourOf (above % 2)) (a1 - position) (a2 - a1))
+            (colourOf (above % 2)) a2 (drop (place + 2) row)
+        crossing = horizontals (g .along) (l .rises) h finds is-a1 k far is-a2
+
+        pub going-on : Onward reference above a2
+        going-on = above-onward (g .stands) (omega (arith, low, second-low)) (l .rises)
+
+        pub horizontal-put : {above′ : ℕ} → Reached reference (a2 + 1) above above′
+            → {r : ℕ} {out′ : List ℕ} → Puts write next (across (colourOf (above % 2)) (a1 - position) (a2 - a1)) out r out′
+            → Going write width reference row from start r a2 (place + 2) above′ out′
+        horizontal-put {above′} reached p =
+            turn-put (place + 2) crossing (ap colourOf (let q : above % 2 ≡ above′ % 2 = omega (arith, reached .parity) in q)) (omega arith)
+            (above-across (g .stands) (l .wide) (l .rises) (l .rises′) is-a2 reached) p

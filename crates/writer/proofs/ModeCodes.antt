@@ -1,9 +1,11 @@
 -- The codes of modes and of an EOL, and how near a1 lies to b1. Assumes nothing.
 use mathlib.Core.Path.{_≡_, refl}
 use mathlib.Core.Bool.{Bool, true, false, _&&_}
-use Prim.Native.Nat.{ℕ, zero, suc, _+_, _-_, _^_, _≤_, _<_}
+use Prim.Native.Nat.{ℕ, zero, suc, _+_, _-_, _*_, _%_, _^_, _≤_, _<_}
 use native.Mathlib.Omega.{arith}
 use lib.Dec.{leb}
+use lib.ListN.{replicate}
+use lib.Pow.{pow-pos, shl-exact}
 use borrow.Author.Tests.{le-leb, lt-leb, leb-true}
 use Rattle.rules.specs.Bits.{bit, bitsFor}
 use Rattle.rules.specs.Modes.{Mode, pass, horizontal, VR, VL, modeBits}
@@ -33,6 +35,36 @@ horizontal-spells = record { sound = sound 3 1 (omega arith) (omega arith) (omeg
 pub eol-spells : Spells (code 12 1) eolBits
 unfolding bit bitsFor eolBits
 eol-spells = record { sound = sound 12 1 (omega arith) (omega arith) (omega arith); bits = refl }
+
+-- ones, as a shift makes them
+abbrev ones : ℕ → ℕ
+ones k = 1 * 2 ^ k % 4294967296
+
+pub ones-some : (k : ℕ) → k ≤ 8 → 1 ≤ ones k
+ones-some k h = rw (shl-exact {a = 1} 1 k 32 (omega arith) (omega arith)) (omega (arith, pow-pos k))
+
+ones-bits : (k : ℕ) → k ≤ 8 → bitsFor k (ones k - 1) ≡ replicate k true
+unfolding bit bitsFor
+ones-bits zero h = refl
+ones-bits (suc zero) h = refl
+ones-bits (suc (suc zero)) h = refl
+ones-bits (suc (suc (suc zero))) h = refl
+ones-bits (suc (suc (suc (suc zero)))) h = refl
+ones-bits (suc (suc (suc (suc (suc zero))))) h = refl
+ones-bits (suc (suc (suc (suc (suc (suc zero)))))) h = refl
+ones-bits (suc (suc (suc (suc (suc (suc (suc zero))))))) h = refl
+ones-bits (suc (suc (suc (suc (suc (suc (suc (suc zero)))))))) h = refl
+ones-bits (suc (suc (suc (suc (suc (suc (suc (suc (suc k))))))))) h = absurd (omega arith)
+
+-- as many V0 codes
+pub ones-spell : (k : ℕ) → 1 ≤ k → k ≤ 8 → Spells (code k (ones k - 1)) (replicate k true)
+ones-spell k h l = record {
+  sound = sound k (ones k - 1) h (omega arith) (omega (arith, ones-some k l, ones-few));
+  bits = ones-bits k l;
+}
+  where
+    ones-few : ones k ≤ 2 ^ k
+    ones-few = rw (shl-exact {a = 1} 1 k 32 (omega arith) (omega arith)) (omega arith)
 
 -- no vertical code has more bits
 pub size-most : (k : ℕ) → 3 ≤ k → 7 ≡ verticalSize k

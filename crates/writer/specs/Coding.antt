@@ -1,9 +1,10 @@
 -- What the writers of runs, modes and lines ask for and put.
+use mathlib.Core.Path.{_≡_}
 use mathlib.Core.Bool.{Bool, cond}
 use mathlib.Core.List.{List, _++_}
-use Prim.Native.Nat.{ℕ, zero, suc, _+_, _-_, _/_, _<_}
+use Prim.Native.Nat.{ℕ, zero, suc, _+_, _-_, _/_, _≤_, _<_}
 use lib.Dec.{leb}
-use lib.ListN.{length}
+use lib.ListN.{length, getD}
 use Rattle.rules.specs.Codes.{Colour, opposite}
 use Rattle.rules.specs.Modes.{horizontal, modeBits}
 use Rattle.rules.specs.Lines.{one, two}
@@ -24,6 +25,15 @@ largest run = cond (leb mostMakeup (run / 64)) mostMakeup (run / 64)
 -- how far a1 lies from b1: one of the differences is 0
 abbrev pub apart : ℕ → ℕ → ℕ
 apart b1 a1 = (a1 - b1) + (b1 - a1)
+
+-- so many V0 codes are put at once, at most
+abbrev pub mostAlike : ℕ
+mostAlike = 8
+
+-- k changes of two rows, each from a place of its own on, are the same
+pub record Alike (reference : List ℕ) (above : ℕ) (row : List ℕ) (place k : ℕ) : Type 0 where
+  pub few : k ≤ mostAlike
+  pub each : (j : ℕ) → j < k → (above + j < length reference) × (place + j < length row) × (getD row (place + j) 0 ≡ getD reference (above + j) 0)
 
 -- how many bits a vertical code has
 abbrev pub verticalSize : ℕ → ℕ

@@ -5,17 +5,21 @@ use crate::outcome;
 use crate::run;
 use answer::Answer;
 use context::reference;
+use swift_loops::fast_2d;
 ghost use mathlib.Core.Bool.{false};
 ghost use mathlib.Core.Path.{_≡_};
-ghost use Prim.Native.Nat.{_≤_};
+ghost use Prim.Native.Nat.{_≤_, _<_};
 ghost use lib.ListN.{length, drop};
 ghost use Rattle.rules.specs.Lines.{headOr};
 ghost use Rattle.rules.specs.Pages.{mostBytes};
 ghost use Rattle.rules.specs.Write.{writeLine};
 ghost use Rattle.tables.specs.Tables.{colourOf};
 ghost use Rattle.writer.specs.Putting.{Room, Puts};
-ghost use Rattle.writer.specs.Coding.{Lent, across, lineOf, Lined};
+ghost use Rattle.writer.specs.Coding.{Lent, Alike, across, lineOf, Lined};
 ghost use Rattle.writer.specs.Outcome.{Answers};
+
+// So many V0 codes are put at once, as one code of ones: fewer than the 13 bits that a code may have.
+const MOST_ALIKE: usize = 8;
 
 // The two runs of a horizontal code, in the line's colour and in the other.
 fn put_horizontal<'a>(
@@ -50,7 +54,29 @@ fn put_horizontal<'a>(
     )
 }
 
-// The bit after a row's codes, which begin at bit `at`; they are written only where `write` says so.
+// How many changes from here on are the same in both rows, of MOST_ALIKE at most.
+fn alike(reference: &[u32], above: usize, row: &[u32], place: usize) -> usize
+    requires { ⌜ (above < 9223372036854775808) × (place < 9223372036854775808) ⌝ }
+    ensures { λ r. ⌜ Alike (now (reference .entry)) above (now (row .entry)) place r ⌝ }
+{
+    let mut k: usize = 0;
+    while k < MOST_ALIKE {
+        if row.len() <= place + k {
+            return k;
+        }
+        if reference.len() <= above + k {
+            return k;
+        }
+        if row[place + k] != reference[above + k] {
+            return k;
+        }
+        k += 1;
+    }
+    k
+}
+
+// The bit after a row's codes, which begin at bit `at`; they are written only where `write` says so. b1's place is kept from code to
+// code, and its parity is the line's colour; changes that both rows have are one code of ones, a V0 for each.
 pub(crate) fn put_line<'a>(
     wt: &'a [[u16; 3]; 64],
     bt: &'a [[u16; 3]; 64],
@@ -69,28 +95,38 @@ pub(crate) fn put_line<'a>(
 {
     let mut next = at;
     let mut position: u32 = 0;
-    let mut colour: u32 = 0;
     let mut place: usize = 0;
-    let mut seen: usize = 0;
+    let mut above: usize = 0;
     while position < width {
-        let found = reference::find(reference, seen, width, position, colour);
-        let a1 = reference::change_or(row, place, width);
-        seen = found.seen;
-        if found.b2 < a1 {
-            next = ink::put(out, next, mode::pass(), write);
-            position = found.b2;
+        let k = alike(reference, above, row, place);
+        if 0 < k {
+            next = ink::put(out, next, mode::ones(k), write);
+            above += k;
+            place += k;
+            position = row[place - 1];
             continue;
         }
-        if mode::distance(found.b1, a1) <= 3 {
-            next = ink::put(out, next, mode::vertical(found.b1, a1), write);
+        let a1 = reference::change_or(row, place, width);
+        let b1 = reference::change_or(reference, above, width);
+        let b2 = reference::change_or(reference, above + 1, width);
+        if b2 < a1 {
+            next = ink::put(out, next, mode::pass(), write);
+            position = b2;
+            above += 2;
+            continue;
+        }
+        let d = mode::distance(b1, a1);
+        if d <= 3 {
+            next = ink::put(out, next, mode::vertical(b1, a1), write);
             position = a1;
-            colour = 1 - colour;
+            above = fast_2d::behind(reference, above, d as usize, a1);
             place += 1;
             continue;
         }
         let a2 = reference::change_or(row, place + 1, width);
         let first = a1 - position;
         let second = a2 - a1;
+        let colour = (above % 2) as u32;
         next = put_horizontal(
             wt,
             bt,
@@ -105,6 +141,7 @@ pub(crate) fn put_line<'a>(
             write,
         );
         position = a2;
+        above = fast_2d::onward(reference, above, a2);
         place += 2;
     }
     next
