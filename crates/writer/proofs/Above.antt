@@ -184,6 +184,7 @@ pub record Straight (width : ℕ) (reference row : List ℕ) (left : List Bool) 
   pub stands : Above reference position place above
   pub bits : left ≡ replicate k true ++ toCome width reference row position (above % 2) place fuel
   pub less : leftOver width position (drop place row) + k ≤ most
+  pub below : position < width
 
 -- a vertical code to b1 itself is a one
 one-there : (b1 : ℕ) → modeBits (verticalTo b1 b1) ≡ true ∷ []
@@ -266,7 +267,7 @@ module _ {width : ℕ} {reference row : List ℕ} (wide : 0 < width) (r : Rising
   straight zero {position} {place} {above} {fuel} al a h same {position′} {place′} {above′} e f p q =
       let e′ : place′ ≡ place = omega arith in
       let f′ : above′ ≡ above = omega arith in
-      rw (e′, f′, p refl) (record { fuel = fuel; along = al; stands = a; bits = refl; less = omega arith })
+      rw (e′, f′, p refl) (record { fuel = fuel; along = al; stands = a; bits = refl; less = omega arith; below = h })
   straight (suc k) {position} {place} {above} {fuel} al a h same {position′} {place′} {above′} e f p q =
       let (i, m, v) = same-first place above k same in
       let rest = straight k (one-on al a h i m v) (one-above al a h i m v) (one-below al a h i m v) (same-next place above k same) {position′ = position′} {place′ = place′} {above′ = above′}
@@ -277,11 +278,13 @@ module _ {width : ℕ} {reference row : List ℕ} (wide : 0 < width) (r : Rising
         stands = rest .stands;
         bits = one-bits al a h i m v ∙ ap (λ (l : List Bool). true ∷ l) (rest .bits);
         less = omega (arith, one-less al a h i m v, rest .less);
+        below = rest .below;
       }
 
   -- as many as both rows were seen to have
   pub alike-straight : {position place above fuel k : ℕ} → Along width reference row position (above % 2) place 0 fuel → Above reference position place above
-      → position < width → Alike reference above row place k → 0 < k
+      → position < width → Alike reference above row place k → {position′ : ℕ} → (k ≡ 0 → position′ ≡ position)
+      → (0 < k → position′ ≡ getD row (place + k - 1) 0)
       → Straight width reference row (toCome width reference row position (above % 2) place fuel) (leftOver width position (drop place row)) k
-      (getD row (place + k - 1) 0) (place + k) (above + k)
-  alike-straight {k = k} al a h same some = straight k al a h (same .each) refl refl (λ z. absurd (omega arith)) (λ z. refl)
+      position′ (place + k) (above + k)
+  alike-straight {k = k} al a h same = straight k al a h (same .each) refl refl

@@ -1,16 +1,18 @@
 -- A line that is being put: what holds between its codes, and what each code does. Assumes nothing.
 use mathlib.Core.Path.{_≡_, refl, sym, ap, _∙_, subst}
-use mathlib.Core.Bool.{Bool, true}
+use mathlib.Core.Bool.{Bool, true, cond}
 use mathlib.Core.List.{List, [], _++_}
-use Prim.Native.Nat.{ℕ, _+_, _-_, _%_, _≤_, _<_}
+use Prim.Native.Nat.{ℕ, zero, suc, _+_, _-_, _%_, _≤_, _<_}
 use native.Mathlib.Omega.{arith}
-use lib.ListN.{length, getD, drop, replicate}
+use lib.Dec.{eqb}
+use lib.ListN.{length, getD, drop, replicate, length-replicate}
+use borrow.Author.Tests.{eq-eqb, ne-eqb}
 use Rattle.rules.specs.Bits.{bitsFor, bitsOf}
 use Rattle.rules.specs.Codes.{Colour, opposite}
 use Rattle.rules.specs.Modes.{pass, horizontal, modeBits}
 use Rattle.rules.specs.Lines.{headOr}
 use Rattle.rules.specs.Write.{runBits, verticalTo}
-use Rattle.rules.proofs.Ascending.{head-fits, rises-length}
+use Rattle.rules.proofs.Ascending.{head-fits}
 use Rattle.rules.proofs.Ahead.{leftOver}
 use Rattle.tables.specs.Tables.{colourOf}
 use Rattle.tables.specs.declared.Code.{Code}
@@ -18,8 +20,8 @@ use Rattle.context.specs.Reference.{Finds}
 use Rattle.context.specs.Places.{Onward, Reached, Turning}
 use Rattle.context.proofs.Search.{passed-none}
 use Rattle.writer.specs.Putting.{inked, Sound, Spells, Room, Puts}
-use Rattle.writer.specs.Coding.{Alike, apart, across, lineOf, Lined}
-use Rattle.writer.proofs.Owing.{Owes, owes-all, first-room, owes-put, first-code, owes-code, code-puts, puts-zeros}
+use Rattle.writer.specs.Coding.{Alike, PutsOnes, apart, across, lineOf, Lined}
+use Rattle.writer.proofs.Owing.{Owes, owes-all, first-room, owes-put, first-code, owes-code, code-room, code-puts, puts-zeros}
 use Rattle.writer.proofs.Turns.{Turn}
 use Rattle.writer.proofs.AlongLine as Line
 use Rattle.writer.proofs.AlongLine.{Along, toCome, fuelFor, start-all, none-left, left-is, left-then, onward, a1-low, a2-low, passes, verticals, horizontals}
@@ -45,6 +47,10 @@ module _ {write : Bool} {at : ℕ} (colour : Colour) (first second : ℕ) (start
       → Owes write r (bothRuns colour first second) out at (across colour first second) start
   unfolding across
   across-put = owes-code (owes-all write at (across colour first second) start) s (bothRuns colour first second) refl (room .inside)
+
+-- a code of k ones fits where k bits do
+pub ones-fit : {code : Code} {k : ℕ} {write : Bool} {at bytes : ℕ} → Spells code (replicate k true) → Room write at k bytes → Room write at (code .size) bytes
+ones-fit {k = k} {write} {at} {bytes} s room = code-room s (subst (λ (n : ℕ). Room write at n bytes) (sym (length-replicate k true)) room)
 
 -- ---- Between two codes
 
@@ -85,31 +91,50 @@ module _ {write : Bool} {width : ℕ} {reference row : List ℕ} {from : ℕ} {s
   few = above-few (g .stands) (g .along) (l .narrow) (l .rises) (l .rises′)
 
   -- ones can be put for the changes that both rows have, and then it goes on behind them
-  module _ {k : ℕ} (h : position < width) (same : Alike reference above row place k) (some : 0 < k) where
-    pub many : Straight width reference row (toCome width reference row position (above % 2) place (g .fuel)) (leftOver width position (drop place row)) k
-        (getD row (place + k - 1) 0) (place + k) (above + k)
-    many = alike-straight (l .wide) (l .rises) (l .rises′) (g .along) (g .stands) h same some
+  module _ (k : ℕ) (h : position < width) (same : Alike reference above row place k) where
+    -- the places are numbers of the rows
+    pub all-inside : 0 < k → place + k ≤ length row
+    all-inside some = omega (arith, same .each (k - 1) (omega arith) .1)
 
-    pub last-inside : place + k - 1 < length row
-    last-inside = omega (arith, same .each (k - 1) (omega arith) .1)
+    module _ {position′ : ℕ} (e : position′ ≡ cond (eqb k 0) position (getD row (place + k - 1) 0)) where
+      pub many : Straight width reference row (toCome width reference row position (above % 2) place (g .fuel)) (leftOver width position (drop place row)) k
+          position′ (place + k) (above + k)
+      many =
+          alike-straight (l .wide) (l .rises) (l .rises′) (g .along) (g .stands) h same (λ z. e ∙ ap chosen (eq-eqb k 0 z))
+          (λ z. e ∙ ap chosen (ne-eqb k 0 (λ y. absurd (omega arith))))
+        where
+          chosen : Bool → ℕ
+          chosen b = cond b position (getD row (place + k - 1) 0)
 
-    pub ones-few : (place + k < 4294967296) × (above + k < 4294967296)
-    ones-few =
-        let (i, j, _) = same .each (k - 1) (omega arith) in
-        (omega (arith, rises-length (omega arith) (l .rises′), l .narrow), omega (arith, rises-length (omega arith) (l .rises), l .narrow))
+  -- they have room
+  pub ones-room : (k : ℕ) → position < width → Alike reference above row place k → Room write next k (length out)
+  ones-room k h same =
+      subst (λ (n : ℕ). Room write next n (length out)) (length-replicate k true)
+      (first-room (g .owes) (replicate k true) _ (many k h same refl .bits) (l .room))
 
-    module _ {code : Code} (s : Spells code (replicate k true)) where
-      pub ones-code : Room write next (code .size) (length out) × Sound code
-      ones-code = first-code (g .owes) s _ (many .bits) (l .room)
-
-      pub ones-put : {r : ℕ} {out′ : List ℕ} → Puts write next (bitsFor (code .size) (code .word)) out r out′
-          → Going write width reference row from start r (getD row (place + k - 1) 0) (place + k) (above + k) out′
-      ones-put p = record {
-        fuel = many .fuel;
-        along = many .along;
-        stands = many .stands;
-        owes = owes-code (g .owes) s _ (many .bits) (l .room .inside) p;
-        zeros = λ _. puts-zeros (first-room (g .owes) (replicate k true) _ (many .bits) (l .room) .inside) (code-puts s p);
+  pub ones-on : (k : ℕ) → position < width → Alike reference above row place k
+      → {position′ : ℕ} → position′ ≡ cond (eqb k 0) position (getD row (place + k - 1) 0) → {r : ℕ} {out′ : List ℕ} → PutsOnes write next k out r out′
+      → Going write width reference row from start r position′ (place + k) (above + k) out′
+  ones-on zero h same e p =
+      let m = many zero h same e in
+      let (i, j) = p .none refl in
+      rw (i, j)
+      (record {
+        fuel = m .fuel;
+        along = m .along;
+        stands = m .stands;
+        owes = subst (λ (xs : List Bool). Owes write next xs out from (lineOf width reference row) start) (m .bits) (g .owes);
+        zeros = λ z. g .zeros (omega (arith, e));
+      })
+  ones-on (suc k) h same e p =
+      let m = many (suc k) h same e in
+      let q = p .some (omega arith) in
+      record {
+        fuel = m .fuel;
+        along = m .along;
+        stands = m .stands;
+        owes = owes-put (g .owes) (replicate (suc k) true) _ (m .bits) (l .room .inside) q;
+        zeros = λ _. puts-zeros (first-room (g .owes) (replicate (suc k) true) _ (m .bits) (l .room) .inside) q;
       }
 
   -- a code can be put, and then it goes on behind it

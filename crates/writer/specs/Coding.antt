@@ -1,17 +1,17 @@
 -- What the writers of runs, modes and lines ask for and put.
 use mathlib.Core.Path.{_≡_}
-use mathlib.Core.Bool.{Bool, cond}
+use mathlib.Core.Bool.{Bool, true, cond}
 use mathlib.Core.List.{List, _++_}
 use Prim.Native.Nat.{ℕ, zero, suc, _+_, _-_, _/_, _≤_, _<_}
 use lib.Dec.{leb}
-use lib.ListN.{length, getD}
+use lib.ListN.{length, getD, replicate}
 use Rattle.rules.specs.Codes.{Colour, opposite}
 use Rattle.rules.specs.Modes.{horizontal, modeBits}
 use Rattle.rules.specs.Lines.{one, two}
 use Rattle.rules.specs.Write.{mostMakeup, runBits, lineBits}
 use Rattle.rules.specs.Rising.{Rising}
 use Rattle.tables.specs.Tables.{Terminating, Makeup}
-use Rattle.writer.specs.Putting.{Room}
+use Rattle.writer.specs.Putting.{Room, Puts}
 
 -- the code tables, as a writer is lent them
 pub record Lent (wt bt wm bm common : List (List ℕ)) : Type 0 where
@@ -34,6 +34,11 @@ mostAlike = 8
 pub record Alike (reference : List ℕ) (above : ℕ) (row : List ℕ) (place k : ℕ) : Type 0 where
   pub few : k ≤ mostAlike
   pub each : (j : ℕ) → j < k → (above + j < length reference) × (place + j < length row) × (getD row (place + j) 0 ≡ getD reference (above + j) 0)
+
+-- k ones are put from bit `at` on; where there are none, nothing is touched, not even the rest of the byte
+pub record PutsOnes (write : Bool) (at k : ℕ) (out : List ℕ) (r : ℕ) (out′ : List ℕ) : Type 0 where
+  pub none : k ≡ 0 → (r ≡ at) × (out′ ≡ out)
+  pub some : 0 < k → Puts write at (replicate k true) out r out′
 
 -- how many bits a vertical code has
 abbrev pub verticalSize : ℕ → ℕ

@@ -6,16 +6,17 @@ use crate::run;
 use answer::Answer;
 use context::reference;
 use swift_loops::fast_2d;
-ghost use mathlib.Core.Bool.{false};
+ghost use mathlib.Core.Bool.{false, cond};
 ghost use mathlib.Core.Path.{_≡_};
-ghost use Prim.Native.Nat.{_≤_, _<_};
-ghost use lib.ListN.{length, drop};
+ghost use Prim.Native.Nat.{_+_, _-_, _≤_, _<_};
+ghost use lib.Dec.{eqb};
+ghost use lib.ListN.{length, drop, getD};
 ghost use Rattle.rules.specs.Lines.{headOr};
 ghost use Rattle.rules.specs.Pages.{mostBytes};
 ghost use Rattle.rules.specs.Write.{writeLine};
 ghost use Rattle.tables.specs.Tables.{colourOf};
 ghost use Rattle.writer.specs.Putting.{Room, Puts};
-ghost use Rattle.writer.specs.Coding.{Lent, Alike, across, lineOf, Lined};
+ghost use Rattle.writer.specs.Coding.{Lent, mostAlike, Alike, PutsOnes, across, lineOf, Lined};
 ghost use Rattle.writer.specs.Outcome.{Answers};
 
 // So many V0 codes are put at once, as one code of ones: fewer than the 13 bits that a code may have.
@@ -75,6 +76,28 @@ fn alike(reference: &[u32], above: usize, row: &[u32], place: usize) -> usize
     k
 }
 
+// As many V0 codes as one code of ones, or nothing.
+fn put_ones(out: &mut [u8], at: usize, k: usize, write: bool) -> usize
+    requires { ⌜ (k ≤ mostAlike) × Room write at k (length (now out)) ⌝ }
+    ensures { λ r. ⌜ PutsOnes write at k (now (out .entry)) r (now (out .exit)) ⌝ }
+{
+    if k == 0 {
+        return at;
+    }
+    ink::put(out, at, mode::ones(k), write)
+}
+
+// The last of k changes from a place on, or the position where there are none.
+fn last_of(row: &[u32], place: usize, k: usize, position: u32) -> u32
+    requires { ⌜ (0 < k → place + k ≤ length (now row)) ⌝ }
+    ensures { λ r. ⌜ r ≡ cond (eqb k 0) position (getD (now (row .entry)) (place + k - 1) 0) ⌝ }
+{
+    if k == 0 {
+        return position;
+    }
+    row[place + k - 1]
+}
+
 // The bit after a row's codes, which begin at bit `at`; they are written only where `write` says so. b1's place is kept from code to
 // code, and its parity is the line's colour; changes that both rows have are one code of ones, a V0 for each.
 pub(crate) fn put_line<'a>(
@@ -99,13 +122,10 @@ pub(crate) fn put_line<'a>(
     let mut above: usize = 0;
     while position < width {
         let k = alike(reference, above, row, place);
-        if 0 < k {
-            next = ink::put(out, next, mode::ones(k), write);
-            above += k;
-            place += k;
-            position = row[place - 1];
-            continue;
-        }
+        next = put_ones(out, next, k, write);
+        position = last_of(row, place, k, position);
+        above += k;
+        place += k;
         let a1 = reference::change_or(row, place, width);
         let b1 = reference::change_or(reference, above, width);
         let b2 = reference::change_or(reference, above + 1, width);
