@@ -27,6 +27,14 @@ impl Canvas {
         }
     }
 
+    /// White for black in a box, and black for white.
+    #[cfg(feature = "linked")]
+    pub fn invert(&mut self, x: usize, y: usize, width: usize, height: usize) {
+        for row in y.min(self.height())..(y + height).min(self.height()) {
+            self.0[row * WIDTH..][x.min(WIDTH)..(x + width).min(WIDTH)].iter_mut().for_each(|pixel| *pixel = !*pixel);
+        }
+    }
+
     /// The edge of a box, so many pixels thick.
     pub fn frame(&mut self, x: usize, y: usize, width: usize, height: usize, thick: usize) {
         self.fill(x, y, width, thick);

@@ -36,14 +36,14 @@ pub fn odd_pages() -> Vec<Drawn> {
     ]
 }
 
-fn random(name: &str) -> Random {
+pub fn random(name: &str) -> Random {
     Random::of(SEED, name, 0)
 }
 
 /// How high a letter stands, and how far one line of text lies below another.
-struct Type {
-    size: usize,
-    pitch: usize,
+pub struct Type {
+    pub size: usize,
+    pub pitch: usize,
 }
 
 /// Lines of words between margins.
@@ -58,7 +58,7 @@ fn text(kind: Type, lines: usize) -> Canvas {
 }
 
 /// Words of two to nine letters from a place on, as far as there is room.
-fn words(page: &mut Canvas, random: &mut Random, letters: &[Letter], kind: &Type, (left, top): (usize, usize), right: usize) {
+pub fn words(page: &mut Canvas, random: &mut Random, letters: &[Letter], kind: &Type, (left, top): (usize, usize), right: usize) {
     let step = kind.size * 7 / 10;
     let mut x = left;
     while x + 9 * step < right {
@@ -71,10 +71,10 @@ fn words(page: &mut Canvas, random: &mut Random, letters: &[Letter], kind: &Type
 }
 
 /// A letter: strokes between points of a box of one by one.
-struct Letter(Vec<[f64; 4]>);
+pub struct Letter(pub Vec<[f64; 4]>);
 
 impl Letter {
-    fn draw(&self, page: &mut Canvas, x: usize, y: usize, size: usize) {
+    pub fn draw(&self, page: &mut Canvas, x: usize, y: usize, size: usize) {
         let high = size as f64;
         let (wide, pen) = (high * 0.5, high / 7.0);
         let place = |across: f64, down: f64| (x as f64 + across * wide, y as f64 + down * high);
@@ -85,7 +85,7 @@ impl Letter {
 }
 
 /// Twenty-six shapes: an upright, a bow of short strokes, or a slanted pair, joined at random.
-fn alphabet() -> Vec<Letter> {
+pub fn alphabet() -> Vec<Letter> {
     let mut random = random("alphabet");
     (0..26)
         .map(|_| {

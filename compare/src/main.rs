@@ -14,6 +14,8 @@ mod call;
 #[cfg(any(feature = "linked", test))]
 mod canvas;
 mod case;
+#[cfg(feature = "linked")]
+mod charts;
 mod check;
 mod checks;
 mod codes;

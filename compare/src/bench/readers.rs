@@ -7,11 +7,12 @@ use super::set;
 use super::timing::{RUNS, report};
 use crate::by_row::{self, RowForm, STATE};
 use crate::by_unit::{self, UnitForm};
+use crate::charts;
 use crate::checks::other_decoder::Text;
 use crate::copies::settings_of;
 use crate::drawn::{self, Drawn};
 use crate::linked::{self, Linked};
-use crate::settings::Encoding;
+use crate::settings::{ENCODINGS, Encoding};
 use std::time::{Duration, Instant};
 
 /// More than any of the pages needs; and how many of them are cleared for a page that needs no more.
@@ -118,8 +119,20 @@ fn run_set(store: &mut Store) {
     for (name, some) in by_encoding(&pages) {
         compare_forms(&format!("{name}, a row at a time"), &some, store);
     }
-    println!("pages that no office faxes");
-    compare_each(&in_both(&drawn::odd_pages(), true), store);
+    println!("pages of the kinds of ITU's charts, in each encoding");
+    let charts = in_each(&charts::pages());
+    compare_each(&charts, store);
+    for encoding in ENCODINGS {
+        let some: Vec<&Page> = charts.iter().map(|(_, page)| page).filter(|page| page.settings.encoding == encoding).collect();
+        compare(&format!("{} charts, {encoding:?}", some.len()), &some, store);
+    }
+    println!("pages that no office faxes, in each encoding");
+    compare_each(&in_each(&drawn::odd_pages()), store);
+}
+
+/// Pages in each encoding, read strictly.
+fn in_each(drawn: &[Drawn]) -> Vec<Named> {
+    ENCODINGS.into_iter().flat_map(|encoding| set::written(drawn, encoding, true)).collect()
 }
 
 /// The pages of each encoding, and all of them.
