@@ -91,8 +91,8 @@ ccitt_answer ccitt_decode_group3_2d(const uint8_t *src, size_t src_len, uint32_t
    gave_up: a lenient Group 3 reading gave up its end-of-line marks, because none was left in the data: from there on every row hangs on all of the data,
             clean or not.
    proper:  the bytes that the page took are, to the last bit, what a writer writes for its rows: ccitt_write_page, ccitt_write_group3_1d with some fill or
-            without end-of-line marks, ccitt_write_group3_2d with some K. So the page says its rows twice; damage that leaves it proper has made it, bit for bit, another
-            page's writing. */
+            without end-of-line marks, ccitt_write_group3_2d with some K. So the page says its rows twice; damage that leaves it proper has made it, bit
+            for bit, another page's writing. */
 typedef struct {
     ccitt_answer answer;
     uint64_t parts;

@@ -90,3 +90,16 @@ fn a_fault_is_told() {
     let fault = read_page(&page[..2], strictly, |_| ()).unwrap_err();
     assert_eq!(check(&page[..2], strictly), Err(fault));
 }
+
+/// EOLs behind the last row are read with `end_of_block` and without, so where the rows are told a page is proper either way.
+#[test]
+fn with_and_without_end_of_block() {
+    for encoding in [EncodingMode::Group4, EncodingMode::Group3_1D, EncodingMode::Group3_2D] {
+        for page in writings(encoding, &drawn()) {
+            for end_of_block in [true, false] {
+                let told = DecodeSettings { rows: drawn().len() as u32, end_of_block, ..settings(encoding) };
+                assert!(check(&page, told).unwrap().proper, "{encoding:?}, {end_of_block}");
+            }
+        }
+    }
+}
