@@ -10,8 +10,8 @@ use Rattle.form_file.specs.declared.Form.{Form}
 use Rattle.form_file.specs.declared.said.Said.{Said}
 use Rattle.form_file.specs.declared.said.Said.the-variants.{Nothing as nothing, Square as box, Page as page, Tick as tick, Doubt as doubt, Place as place, Proper as proper, Wrong as wrong}
 
--- The numbers of a form, 0 until they are said, and whether it asks for proper pages; the four edges of each box, and the line at which it stands, 0 where it stands at none; the places, with seven numbers for each:
--- kind, edges, count and line.
+-- The numbers of a form, 0 until they are said, and whether it asks for proper pages; the four edges of each box, and the line at which it
+-- stands, 0 where it stands at none; the places, with seven numbers for each: kind, edges, count and line.
 pub record Heard : Type 0 where
   pub form : Form
   pub boxes : List ℕ

@@ -30,7 +30,8 @@ notWhite = 21
 abbrev pub inDoubt : ℕ
 inDoubt = 22
 
--- the marks that end its lines were expected and then given up: the rows behind hang on all of its bytes (rules: specs/Standing.antt, `gaveUp`)
+-- the marks that end its lines were expected and then given up: the rows behind hang on all of its bytes (rules: specs/Standing.antt,
+-- `gaveUp`)
 abbrev pub eolsGivenUp : ℕ
 eolsGivenUp = 23
 

@@ -16,7 +16,8 @@ use Rattle.settings.specs.declared.EncodingMode.the-variants.{«Group3_1D», «
 use Rattle.promises.specs.Rooms.{Call, rowsOf, marksOf, Reading}
 use Rattle.promises.specs.BadLines.{Roomy}
 
--- What ends the page: the true number of rows; or its six EOLs, with end_of_block; or the data, with nothing behind the page. For the last two `rows` is 0, or more than there are.
+-- What ends the page: the true number of rows; or its six EOLs, with end_of_block; or the data, with nothing behind the page. For the last
+-- two `rows` is 0, or more than there are.
 abbrev pub EndsIn : ℕ → List Bool → DecodeSettings → Type 0
 EndsIn rows rest settings =
     (settings .rows ≡ rows) ⊎ (((settings .rows ≡ 0) ⊎ (rows < settings .rows)) × ((settings .«end_of_block» ≡ true) ⊎ (rest ≡ [])))
@@ -31,7 +32,8 @@ pub record ForBadLinesToo (encoding : EncodingMode) (columns rows : ℕ) (rest :
 
 -- ---- 1D lines
 
--- a page as `Arrival` has it, with three zeros of fill or more, or with any fill where no bad line is read further than to its end (`allStop`)
+-- a page as `Arrival` has it, with three zeros of fill or more, or with any fill where no bad line is read further than to its end
+-- (`allStop`)
 pub record LooseArrival (columns fill : ℕ) (lines : List Arrived) (bytes : List ℕ) (settings : DecodeSettings) (c : Call) : Type 0 where
   pub wide : 0 < columns
   pub narrow : columns < mostPixels

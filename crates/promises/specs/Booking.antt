@@ -72,7 +72,8 @@ module _ (g : Given) where
     -- "every row under a box or place read by its own line"
     pub box-rows : (k y : ℕ) → k < 20 → Under (boxAt (boxesAfter g) k) y → Read y
     pub place-rows : (k y : ℕ) → k < formOf .places → Under (placeAt (placesAfter g) k) y → Read y
-    -- "as many rows as the form says, no byte left over, every place as it must be, no box in doubt"; EOLs were not given up, and the page is proper where the form asks for that
+    -- "as many rows as the form says, no byte left over, every place as it must be, no box in doubt"; EOLs were not given up, and the page
+    -- is proper where the form asks for that
     pub counts : Counts formOf (boxesAfter g) (placesAfter g) (pageSettings g) (g .src) (pageGaveUp g) (pageRead g) (v .heads)
 
   -- the form is sound, its text was read, and the line that was written begins with the name, the number 0 and the heads in decimal; the quota left and the words are the rest

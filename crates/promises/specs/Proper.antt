@@ -44,8 +44,8 @@ ProperMeans =
     (bytes : List ℕ) (settings : DecodeSettings) (c : Call) (d : Checked) → 0 < settings .columns → Checking bytes settings c d
     → (d .proper ≡ true) ↔ IsProper (settingsOf settings) bytes (handed c)
 
--- Of a page that a writer might have written, up to the place its bits are what the writer that is found writes for its rows; and there they are not, unless one of
--- the two ends there.
+-- Of a page that a writer might have written, up to the place its bits are what the writer that is found writes for its rows; and there
+-- they are not, unless one of the two ends there.
 abbrev pub PartsMeans : Type 0
 PartsMeans =
     (bytes : List ℕ) (settings : DecodeSettings) (c : Call) (d : Checked) → Checking bytes settings c d

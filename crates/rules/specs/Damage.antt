@@ -76,7 +76,8 @@ abbrev pub endsBy : ℕ → Went → Bool
 endsBy size (went l) = leb (l .at) size
 endsBy size (failed n place l) = true
 
--- Read leniently, with the fill and the EOL that stand behind them, other bits end no further than the fill: so eleven zeros are left to the EOL.
+-- Read leniently, with the fill and the EOL that stand behind them, other bits end no further than the fill: so eleven zeros are left to
+-- the EOL.
 unfoldable pub stopsBy : ℕ → ℕ → List Bool → Bool
 stopsBy width fill bits =
     endsBy (length bits + fill) (readLine (record { width = width; strict = false; exact = false; room = width }) one (bits ++ (replicate fill false ++ eolBits)) 0)

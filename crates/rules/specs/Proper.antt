@@ -1,5 +1,5 @@
--- Proper pages: the bytes that a page took are, to the last bit, what a writer writes for the rows that were read from it. So such a page says its
--- rows twice. Which writer it was is found in the bits.
+-- Proper pages: the bytes that a page took are, to the last bit, what a writer writes for the rows that were read from it. So such a page
+-- says its rows twice. Which writer it was is found in the bits.
 use mathlib.Core.Path.{_≡_}
 use mathlib.Core.Bool.{Bool, true, false, cond, _&&_}
 use mathlib.Core.List.{List, [], _∷_, _++_}
@@ -65,8 +65,8 @@ padded xs = xs ++ toByte (length xs)
 abbrev pub taken : List ℕ → Answer → List ℕ
 taken bytes a = take (a .bytes) bytes
 
--- the page was read to its end, the writer is one of its encoding and writes as many rows, and the bytes that the page took are what that writer
--- writes for its rows
+-- the page was read to its end, the writer is one of its encoding and writes as many rows, and the bytes that the page took are what that
+-- writer writes for its rows
 pub record Proper (S : Settings) (bytes : List ℕ) (a : Answer) (w : Writer) : Type 0 where
   pub whole : a .number ≡ complete
   pub writer : writesFor (S .encoding) w ≡ true
@@ -105,8 +105,8 @@ zerosFirst [] = 0
 zerosFirst (false ∷ tags) = suc (zerosFirst tags)
 zerosFirst (true ∷ tags) = 0
 
--- K counts the first line, which is 1D, and the 2D lines behind it, as far as a writer allows it. Where no other 1D line comes, this is the least K
--- that writes the page.
+-- K counts the first line, which is 1D, and the 2D lines behind it, as far as a writer allows it. Where no other 1D line comes, this is the
+-- least K that writes the page.
 abbrev pub kBy : List Bool → ℕ
 kBy [] = 1
 kBy (tag ∷ tags) = min (suc (zerosFirst tags)) mostK
@@ -140,8 +140,8 @@ pub record Parting : Type 0 where
 abbrev pub notAsked : ℕ → Parting
 notAsked n = record { number = n; same = false; place = 0 }
 
--- Rows of a store that bytes are held against, in an encoding: 6, 7 (the bytes) and 8 (rows that its writer refuses) in this order, as the writers
--- answer them.
+-- Rows of a store that bytes are held against, in an encoding: 6, 7 (the bytes) and 8 (rows that its writer refuses) in this order, as the
+-- writers answer them.
 unfoldable pub partsFrom : Encoding → ℕ → List ℕ → List ℕ → List ℕ → Parting
 partsFrom enc columns changes ends bytes =
     elim (noLine columns) [

@@ -30,8 +30,8 @@ SettledBy p bits mark at = (WasRead mark × (at ≤ p)) ⊎ ((eol : ℕ) × (ski
 abbrev pub KeepsEols : Bool → Bool → Type 0
 KeepsEols before behind = before ≡ true → behind ≡ true
 
--- Whether EOLs are given up in one of n rows from a state on: they are expected before it, and are not behind it. `rowAt` is what one row does, given
--- the room for it.
+-- Whether EOLs are given up in one of n rows from a state on: they are expected before it, and are not behind it. `rowAt` is what one row
+-- does, given the room for it.
 unfoldable pub givesUp : (ℕ → State → RowOut) → ℕ → ℕ → State → Bool
 givesUp rowAt zero room st = false
 givesUp rowAt (suc n) room st =

@@ -34,7 +34,8 @@ everyOf bare = 1
 everyOf (filled fill) = 1
 everyOf (mixed k) = 0
 
--- a line, before which `lines` came, where K is still to be found: the first is 1D; the next that is 1D, by its tag bit or since no K is larger, gives K
+-- a line, before which `lines` came, where K is still to be found: the first is 1D; the next that is 1D, by its tag bit or since no K is
+-- larger, gives K
 abbrev pub openTurn : Bool → ℕ → Turned
 openTurn tag lines =
     cond (eqb lines 0) (record { single = true; every = 0; left = 1 })
