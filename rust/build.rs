@@ -7,6 +7,8 @@ use std::{env, fs};
 /// Names a folder with a libexports.a to take, instead of the repository's own.
 const FOLDER: &str = "CCITT_LIBRARY";
 const FILE: &str = "libexports.a";
+/// In its place: nothing is linked. Enough for `cargo doc` and `cargo check`, and for no program.
+const NO_LIBRARY: &str = "none";
 
 /// What is called of it. A library without one of these is older than this package.
 const FUNCTIONS: [&str; 15] = [
@@ -29,11 +31,15 @@ const FUNCTIONS: [&str; 15] = [
 
 /// Processors by cargo's names, and by the numbers that ELF has for them.
 const MACHINES: [(&str, u16); 2] = [(OURS, 62), ("aarch64", 183)];
-/// What `rt` builds for.
+/// What `rt` builds for; `native` compiles its library for the other one.
 const OURS: &str = "x86_64";
 
 fn main() {
     println!("cargo:rerun-if-env-changed={FOLDER}");
+    println!("cargo:rerun-if-env-changed=DOCS_RS");
+    if env::var_os("DOCS_RS").is_some() || env::var_os(FOLDER).is_some_and(|folder| folder == NO_LIBRARY) {
+        return;
+    }
     if let Err(missing) = link() {
         eprintln!("\nhayro-ccitt (the proved one): {missing}\n");
         std::process::exit(1);
@@ -44,10 +50,10 @@ fn link() -> Result<(), String> {
     let arch = target()?;
     let folder = match env::var_os(FOLDER).filter(|folder| !folder.is_empty()) {
         Some(folder) => named(PathBuf::from(folder))?,
-        None if arch == OURS => of_repository()?,
+        None if MACHINES.iter().any(|(name, _)| *name == arch) => of_repository(&arch)?,
         None => {
             return Err(format!(
-                "the library that `rt staticlib exports` builds is for x86-64, and this is a build for {arch}. \
+                "the library is for x86-64 and Arm, and this is a build for {arch}. \
                  Name a folder with a {FILE} for {arch} in {FOLDER}."
             ));
         }
@@ -89,23 +95,38 @@ fn test_machine(file: &Path, bytes: &[u8], arch: &str) -> Result<(), String> {
 }
 
 fn named(folder: PathBuf) -> Result<PathBuf, String> {
+    if !folder.is_dir() {
+        return Err(format!("{FOLDER} names {}, which is no folder.", folder.display()));
+    }
     // the linker is not started in this folder
     let whole = folder.canonicalize().unwrap_or(folder);
     if whole.join(FILE).is_file() { Ok(whole) } else { Err(format!("{FOLDER} names {}, and there is no {FILE} there.", whole.display())) }
 }
 
+/// The folder of target/ that the library for a processor is built into, and the words that build it.
+fn made_for(arch: &str) -> (String, [String; 3]) {
+    if arch == OURS {
+        return ("staticlib".into(), ["rt".into(), "staticlib".into(), "exports".into()]);
+    }
+    let host = env::var("HOST").unwrap_or_default();
+    let folder = if host.starts_with(arch) { "native".into() } else { format!("native-{arch}") };
+    (folder, ["bash".into(), "native".into(), arch.into()])
+}
+
 /// The repository's own library, which `rt` proves and builds where it is not there.
-fn of_repository() -> Result<PathBuf, String> {
+fn of_repository(arch: &str) -> Result<PathBuf, String> {
     let package = PathBuf::from(env::var_os("CARGO_MANIFEST_DIR").expect("cargo says where the package is"));
     let root = package.parent().expect("the package lies in the repository").to_path_buf();
-    let folder = root.join("target").join("staticlib");
+    let (name, words) = made_for(arch);
+    let folder = root.join("target").join(name);
     let header = root.join("include").join("ccitt.h");
     println!("cargo:rerun-if-changed={}", header.display());
     if !folder.join(FILE).is_file() {
-        prove(&root, &folder)?;
+        prove(&root, &folder, &words)?;
     } else if is_newer(&header, &folder.join(FILE)) {
         println!(
-            "cargo:warning={FILE} is older than include/ccitt.h: if the interface has changed, run `rt staticlib exports` in {}",
+            "cargo:warning={FILE} is older than include/ccitt.h: if the interface has changed, run `{}` in {}",
+            words.join(" "),
             root.display()
         );
     }
@@ -117,7 +138,7 @@ fn is_newer(one: &Path, other: &Path) -> bool {
     matches!((time(one), time(other)), (Some(one), Some(other)) if one > other)
 }
 
-fn prove(root: &Path, folder: &Path) -> Result<(), String> {
+fn prove(root: &Path, folder: &Path, words: &[String; 3]) -> Result<(), String> {
     let lacking = format!("there is no {FILE} in {}", folder.display());
     let instead = format!("Or name a folder that has one in {FOLDER}.");
     if !root.join("crates.txt").is_file() {
@@ -126,15 +147,16 @@ fn prove(root: &Path, folder: &Path) -> Result<(), String> {
             root.display()
         ));
     }
-    let run = Command::new("rt").args(["staticlib", "exports"]).current_dir(root).stdin(Stdio::null()).output();
+    let command = words.join(" ");
+    let run = Command::new(&words[0]).args(&words[1..]).current_dir(root).stdin(Stdio::null()).output();
     match run {
         Err(error) => Err(format!(
-            "{lacking}, and `rt staticlib exports`, which proves and builds it, could not be started ({error}): \
+            "{lacking}, and `{command}`, which proves and builds it, could not be started ({error}): \
              put the Rattle toolchain's rt on the PATH. {instead}"
         )),
         Ok(done) if done.status.success() && folder.join(FILE).is_file() => Ok(()),
         Ok(done) => Err(format!(
-            "{lacking}, and `rt staticlib exports` in {} did not build it ({}):\n{}{}\n{instead}",
+            "{lacking}, and `{command}` in {} did not build it ({}):\n{}{}\n{instead}",
             root.display(),
             done.status,
             String::from_utf8_lossy(&done.stdout),
@@ -148,7 +170,7 @@ fn test_functions(file: &Path, bytes: &[u8]) -> Result<(), String> {
     match FUNCTIONS.iter().find(|name| !has(name)) {
         None => Ok(()),
         Some(name) => Err(format!(
-            "{} has no {name}: it is older than this package. `rt staticlib exports` in the repository builds it anew.",
+            "{} has no {name}: it is older than this package. `rt staticlib exports` in the repository, or on Arm `./native`, builds it anew.",
             file.display()
         )),
     }

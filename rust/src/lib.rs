@@ -49,7 +49,7 @@
 //! without a row. With `rows` 0 a Group 3 page may have more than 4,294,967,295 rows,
 //! where the crate's counter wraps and ends the page. A call needs some 40 KiB of
 //! stack; on one that has less left the program ends, as it does wherever a stack
-//! overflows. The library is for x86-64.
+//! overflows. The library is for Linux on x86-64 and Arm, with 64 bits.
 //!
 //! # Safety
 //! Unsafe code stands in one module, which lends slices to the library.
