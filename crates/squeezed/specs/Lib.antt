@@ -1,0 +1,2 @@
+-- What the functions' contracts cite.
+pub mod Words
