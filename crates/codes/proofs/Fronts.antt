@@ -18,7 +18,7 @@ use Rattle.rules.proofs.Lookup.{lookup-valid, table-at}
 use Rattle.bit_reader.specs.Loaded.{Ahead}
 use Rattle.bit_reader.proofs.Window.{ahead-first, ahead-shift}
 use Rattle.codes.specs.declared.front.Front.{Front}
-use Rattle.codes.specs.Fronts.{FrontRun, noFront, frontOf}
+use Rattle.codes.specs.Fronts.{FrontRun, noFront, behindCode, frontOf, Fronted}
 use Rattle.codes.proofs.Runs.{stepBy, step-by, Summing, no-sum, sum-stops, sum-goes}
 
 -- ---- Each case of `frontOf`
@@ -33,15 +33,15 @@ module _ (table : List ℕ) (first bits : ℕ) where
     unfolding frontOf
     front-none k = rw (le-ltb (first % 4096) 64 long, eq-eqb (first % 4096) 4095 k) refl
 
-    module _ (is-run : first % 4096 ≡ 4095 → ⊥) {top : ℕ} (there : top ≡ bits * 2 ^ (first / 4096) % 2 ^ 64 / 2 ^ 51) where
-      pub front-makeups : 64 ≤ getD table top 0 % 4096 → noFront ≡ frontOf table first bits
+    module _ (is-run : first % 4096 ≡ 4095 → ⊥) {last : ℕ} (there : last ≡ getD table (behindCode first bits) 0) where
+      pub front-makeups : 64 ≤ last % 4096 → noFront ≡ frontOf table first bits
       unfolding frontOf
-      front-makeups k = rw (le-ltb (first % 4096) 64 long, ne-eqb (first % 4096) 4095 is-run, sym there, le-ltb (getD table top 0 % 4096) 64 k) refl
+      front-makeups k = rw (le-ltb (first % 4096) 64 long, ne-eqb (first % 4096) 4095 is-run, sym there, le-ltb (last % 4096) 64 k) refl
 
-      pub front-two : getD table top 0 % 4096 < 64
-          → record { pixels = first % 4096 + getD table top 0 % 4096; size = first / 4096 + getD table top 0 / 4096 } ≡ frontOf table first bits
+      pub front-two : last % 4096 < 64
+          → record { pixels = first % 4096 + last % 4096; size = first / 4096 + last / 4096 } ≡ frontOf table first bits
       unfolding frontOf
-      front-two k = rw (le-ltb (first % 4096) 64 long, ne-eqb (first % 4096) 4095 is-run, sym there, lt-ltb (getD table top 0 % 4096) 64 k) refl
+      front-two k = rw (le-ltb (first % 4096) 64 long, ne-eqb (first % 4096) 4095 is-run, sym there, lt-ltb (last % 4096) 64 k) refl
 
 -- an entry's code has 13 bits at most, but where no code begins the bits
 entry-size : (colour : Colour) (ws : List Bool) (e : ℕ) → e ≡ entryNumber (lookup colour ws) → (e % 4096 ≡ 4095 → ⊥) → e / 4096 ≤ 13
@@ -90,23 +90,20 @@ module _ (colour : Colour) {bytes : List ℕ} {at live bits : ℕ} (h : Ahead by
       }
 
   -- a make-up code, and a terminating code behind it, by the entry for the bits there
-  module _ (is-run : first % 4096 ≡ 4095 → ⊥) {table : List ℕ} (t : table ≡ lookupTable colour) {top : ℕ} (there : top ≡ bits * 2 ^ (first / 4096) % 2 ^ 64 / 2 ^ 51) where
-    second : ℕ
-    second = getD table top 0
-
+  module _ (is-run : first % 4096 ≡ 4095 → ⊥) {table : List ℕ} (t : table ≡ lookupTable colour) {second : ℕ} (there : second ≡ getD table (behindCode first bits) 0) where
     behind : Ahead bytes (at + size) (live - size) (bits * 2 ^ size % 2 ^ 64)
     behind = ahead-shift h size (omega (arith, short is-run))
 
     entered : second ≡ entryNumber (lookup colour (window 13 (drop (at + size) bs)))
-    unfolding second
     entered =
-        ap (λ (i : ℕ). getD table i 0) (there ∙ ahead-first behind 13 (omega (arith, short is-run)))
+        there
+        ∙ ap (λ (i : ℕ). getD table i 0) (ahead-first behind 13 (omega (arith, short is-run)))
         ∙ ap (λ (l : List ℕ). getD l (peek 13 (drop (at + size) bs)) 0) t
         ∙ table-at colour (drop (at + size) bs)
 
-    pub two-codes : 64 ≤ first % 4096 → getD table top 0 % 4096 < 64
-        → FrontRun colour bytes at (record { pixels = first % 4096 + getD table top 0 % 4096; size = first / 4096 + getD table top 0 / 4096 })
-    unfolding stepBy second
+    pub two-codes : 64 ≤ first % 4096 → second % 4096 < 64
+        → FrontRun colour bytes at (record { pixels = first % 4096 + second % 4096; size = first / 4096 + second / 4096 })
+    unfolding stepBy
     two-codes k l =
         let n : (second % 4096 ≡ 4095 → ⊥) = λ z. omega arith in
         let few : second / 4096 ≤ 13 = entry-size colour (window 13 (drop (at + size) bs)) second entered n in
@@ -119,3 +116,13 @@ module _ (colour : Colour) {bytes : List ℕ} {at live bits : ℕ} (h : Ahead by
           within = omega (arith, short is-run, few);
           same = sym (sum-stops on (ok (sum (at + size + second / 4096) (0 + run + second % 4096))) step) ∙ (λ i. ok (sum (end i) (total i)));
         }
+
+-- a terminating code's entry, of whatever table
+pub one-front : (table : List ℕ) {first bits run size : ℕ} → run ≡ first % 4096 → (size ≡ first / 4096) × (size ≤ 15) → run < 64
+    → Fronted table first bits (record { pixels = run; size = size })
+one-front table {first} {bits} r s k = record {
+  is = rw (r, s .0) (front-one table first bits (omega (arith, r)));
+  few = omega (arith, s .1);
+  narrow = omega (arith, r);
+  read = λ colour bytes at live t h l e p. rw (r, s .0) (one-code colour h l e (omega (arith, r)));
+}

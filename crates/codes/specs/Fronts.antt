@@ -27,11 +27,15 @@ noFront = record { pixels = 0; size = 0 }
 abbrev pub behindMakeup : ℕ → ℕ → Front
 behindMakeup first last = cond (ltb (last % 4096) 64) (record { pixels = first % 4096 + last % 4096; size = first / 4096 + last / 4096 }) noFront
 
+-- the 13 bits behind an entry's code, of 64 bits that begin with it
+abbrev pub behindCode : ℕ → ℕ → ℕ
+behindCode first bits = bits * 2 ^ (first / 4096) % 2 ^ 64 / 2 ^ 51
+
 -- One terminating code, or one make-up code and a terminating one. `first` is the table's entry for the first 13 of the bits.
 unfoldable pub frontOf : List ℕ → ℕ → ℕ → Front
 frontOf table first bits =
     cond (ltb (first % 4096) 64) (record { pixels = first % 4096; size = first / 4096 })
-    (cond (eqb (first % 4096) 4095) noFront (behindMakeup first (getD table (bits * 2 ^ (first / 4096) % 2 ^ 64 / 2 ^ 51) 0)))
+    (cond (eqb (first % 4096) 4095) noFront (behindMakeup first (getD table (behindCode first bits) 0)))
 
 -- Exactly that, and a run of the colour's, if it has pixels or bits, whatever colour's table is lent, and wherever the bits stand in some data.
 pub record Fronted (table : List ℕ) (first bits : ℕ) (r : Front) : Type 0 where
@@ -40,3 +44,7 @@ pub record Fronted (table : List ℕ) (first bits : ℕ) (r : Front) : Type 0 wh
   pub narrow : r .pixels ≤ 8190
   pub read : (colour : Colour) (bytes : List ℕ) (at live : ℕ) → table ≡ lookupTable colour → Ahead bytes at live bits → 26 ≤ live
       → first ≡ entryNumber (lookup colour (window 13 (drop at (bitsOf bytes)))) → 0 < r .pixels + r .size → FrontRun colour bytes at r
+
+-- the same by two entries: of whatever table and bits the second is behind the first
+abbrev pub Joined : ℕ → ℕ → Front → Type 0
+Joined first last r = (table : List ℕ) (bits : ℕ) → last ≡ getD table (behindCode first bits) 0 → Fronted table first bits r

@@ -3,7 +3,9 @@ use crate::run;
 ghost use mathlib.Core.Path.{_≡_};
 ghost use Prim.Native.Nat.{_/_, _%_, _^_, _≤_, _<_};
 ghost use lib.ListN.{getD};
-ghost use Rattle.codes.specs.Fronts.{Fronted};
+ghost use Rattle.rules.specs.Lookup.{lookupTable};
+ghost use Rattle.tables.specs.Tables.{colourOf};
+ghost use Rattle.codes.specs.Fronts.{Fronted, Joined, behindCode};
 
 // A run and the bits of its codes; no pixels and no bits where it is no such run.
 pub struct Front {
@@ -18,14 +20,11 @@ pub fn top13(bits: u64) -> usize
     (bits >> 51) as usize
 }
 
-// Of an entry that is no terminating code: a make-up code, and a terminating code behind it.
-fn long_run(table: &[u16; 8192], bits: u64, first: u16) -> Front
+// Of an entry that is no terminating code, and the one of the bits behind it: a make-up code, and a terminating code.
+fn joined(first: u16, last: u16) -> Front
     requires { ⌜ 64 ≤ first % 4096 ⌝ }
-    ensures { λ r. ⌜ Fronted (now (table .entry)) first bits r ⌝ }
+    ensures { λ r. ⌜ Joined first last r ⌝ }
 {
-    let size = run::size_in(first);
-    let top = top13(bits << size);
-    let last = table[top];
     let more = run::run_in(last);
     let run = run::run_in(first);
     if run == 4095 {
@@ -36,8 +35,15 @@ fn long_run(table: &[u16; 8192], bits: u64, first: u16) -> Front
     }
     Front {
         pixels: run + more,
-        size: size + run::size_in(last),
+        size: run::size_in(first) + run::size_in(last),
     }
+}
+
+// The 13 bits behind an entry's code.
+fn behind(bits: u64, first: u16) -> usize
+    ensures { λ r. ⌜ (r ≡ behindCode first bits) × (r < 8192) ⌝ }
+{
+    top13(bits << run::size_in(first))
 }
 
 // The run at the front of `bits`, of which 26 are there. `top` is the first 13 of them, which a caller may know earlier.
@@ -45,13 +51,31 @@ pub fn front_run(table: &[u16; 8192], top: usize, bits: u64) -> Front
     requires { ⌜ top < 8192 ⌝ }
     ensures { λ r. ⌜ Fronted (now (table .entry)) (getD (now (table .entry)) top 0) bits r ⌝ }
 {
-    let entry = table[top];
-    let run = run::run_in(entry);
+    let first = table[top];
+    let run = run::run_in(first);
     if run < 64 {
         return Front {
             pixels: run,
-            size: run::size_in(entry),
+            size: run::size_in(first),
         };
     }
-    long_run(table, bits, entry)
+    let last = table[behind(bits, first)];
+    joined(first, last)
+}
+
+// The same run of a colour, 0 for white, for a form that is lent no table.
+pub fn front_run_of(colour: usize, top: usize, bits: u64) -> Front
+    requires { ⌜ top < 8192 ⌝ }
+    ensures { λ r. ⌜ Fronted (lookupTable (colourOf colour)) (getD (lookupTable (colourOf colour)) top 0) bits r ⌝ }
+{
+    let first = squeezed::entry(colour, top);
+    let run = run::run_in(first);
+    if run < 64 {
+        return Front {
+            pixels: run,
+            size: run::size_in(first),
+        };
+    }
+    let last = squeezed::entry(colour, behind(bits, first));
+    joined(first, last)
 }

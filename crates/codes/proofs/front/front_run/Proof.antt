@@ -1,15 +1,18 @@
--- A terminating code is all of the run; any other entry is left to `long_run`.
-use native.Mathlib.Omega.{arith}
-use Rattle.codes.proofs.Fronts.{one-code, front-one}
+-- A terminating code is all of the run; any other entry is joined with the one behind it.
+use mathlib.Core.Path.{ap}
+use Prim.Native.Nat.{ℕ}
+use lib.ListN.{getD}
+use denote.Ref.{now}
+use Rattle.codes.proofs.Fronts.{one-front}
 use borrow.Author.Needs.{needs}
 use Rattle.codes.proofs.front.front_run.Statement.{statement}
 use Rattle.codes.proofs.front.front_run.Tie as tie
 
-mul-entry : tie.Need-mul-entry
-mul-entry c = search needs
+mul-first : tie.Need-mul-first
+mul-first c = search needs
 
-element-copy-out-entry : tie.Need-element-copy-out-entry
-element-copy-out-entry c = search needs
+element-copy-out-first : tie.Need-element-copy-out-first
+element-copy-out-first c = search needs
 
 run-in-requires : tie.Need-run-in-requires
 run-in-requires c κs = search needs
@@ -18,30 +21,34 @@ size-in-requires : tie.Need-size-in-requires
 size-in-requires c κs = search needs
 
 returns : tie.Need-returns
-returns c =
-    let run = c .before .before .run-in in
-    record {
-      is = rw (run .ensures, c .size-in .ensures .0) (front-one _ _ _ (omega (arith, run .ensures, c .before .if1 .taken)));
-      few = omega (arith, c .size-in .ensures .1);
-      narrow = omega (arith, run .ensures);
-      read = λ colour bytes at live t h k e p.
-          rw (run .ensures, c .size-in .ensures .0) (one-code colour h k e (omega (arith, run .ensures, c .before .if1 .taken)));
-    }
+returns c = one-front _ (c .before .before .run-in .ensures) (c .size-in .ensures) (c .before .if1 .taken)
 
-long-run-requires : tie.Need-long-run-requires
-long-run-requires c κs = search needs
+behind-requires : tie.Need-behind-requires
+behind-requires c κs = search needs
+
+mul-last : tie.Need-mul-last
+mul-last c = search needs
+
+element-copy-out-last : tie.Need-element-copy-out-last
+element-copy-out-last c = search needs
+
+joined-requires : tie.Need-joined-requires
+joined-requires c κs = search needs
 
 returns-2 : tie.Need-returns-2
-returns-2 c = search needs
+returns-2 c = c .joined .ensures _ _ (ap (λ (i : ℕ). getD (now (c .before .before .before .before .before .before .args .table)) i 0) (c .before .before .behind .ensures .0))
 
 pub front-run-spec : {M : Type 1} → statement M
 front-run-spec =
     tie.close
     (tie.spec
-    mul-entry
-    element-copy-out-entry
+    mul-first
+    element-copy-out-first
     run-in-requires
     size-in-requires
     returns
-    long-run-requires
+    behind-requires
+    mul-last
+    element-copy-out-last
+    joined-requires
     returns-2)
