@@ -20,7 +20,6 @@ use Rattle.rules.proofs.Bits.{length-bitsOf}
 use Rattle.rules.proofs.Ascending.{ascends-rises}
 use Rattle.rules.proofs.Budget.{whole-bytes}
 use Rattle.rules.proofs.ByRow.{Bounded, row-bounded}
-use Rattle.tables.specs.Tables.{Lookups}
 use Rattle.context.specs.declared.reference.Reference.the-variants.{Lent}
 use Rattle.settings.specs.declared.DecodeSettings.{DecodeSettings}
 use Rattle.settings.specs.declared.State.{State}
@@ -194,9 +193,8 @@ module _ (bytes : List ℕ) (settings : DecodeSettings) (st : RowState) (referen
       wide : 0 < settings .columns
       wide = omega (arith, some-columns)
 
-      pub next-asks : {w b : List ℕ} → Lookups w b → RowFrom w b bytes lentRow xs (strictFor settings) between
-      next-asks l = record {
-        lookups = l;
+      pub next-asks : RowFrom bytes lentRow xs (strictFor settings) between
+      next-asks = record {
         loading = record { size = from .size; inside = facts .inside };
         wide = wide;
         narrow = from .narrow;

@@ -11,6 +11,7 @@ ghost use Prim.Native.Nat.{_≤_};
 ghost use Rattle.rules.specs.Pages.{mostBytes};
 ghost use Rattle.rules.specs.ByRow.{ended, rowStart};
 ghost use Rattle.tables.specs.Pairs.{pairTable};
+ghost use Rattle.tables.specs.Tables.{Lookups};
 ghost use Rattle.settings.specs.Between.{RowFrom, Rowed};
 ghost use Rattle.settings.specs.Ends.{Allowed};
 ghost use Rattle.by_row.specs.ByRow.{otherSide, endOf, Ending, rowStateOf, toldFor, saidFor, refusedFor, noneFor};
@@ -232,7 +233,7 @@ fn row_under<'a>(
     changes: &mut [u32],
     state: State,
 ) -> Row
-    requires { ⌜ RowFrom (now white) (now black) (now src) (now lent) (now changes) settings state × (now both ≡ pairTable) ⌝ }
+    requires { ⌜ RowFrom (now src) (now lent) (now changes) settings state × Lookups (now white) (now black) × (now both ≡ pairTable) ⌝ }
     ensures { λ r. ⌜ Rowed (now (src .entry)) (now (lent .entry)) (now (changes .entry)) settings state r (now (changes .exit)) ⌝ }
 {
     if settings::is_group4(settings) {

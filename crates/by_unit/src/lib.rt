@@ -214,7 +214,6 @@ fn turn_of(settings: DecodeSettings, taken: TakenUnits) -> Turn
     }
 }
 
-// The lookup tables are made here, once the tests are passed: a constant is built anew wherever it is used.
 fn turn_on(
     src: &[u8],
     settings: DecodeSettings,
@@ -238,12 +237,10 @@ fn turn_on(
     if settings.columns == 0 {
         return ended(answer::refusal(answer::COMPLETE), 0);
     }
-    let white = lookups::white_lookup();
-    let black = lookups::black_lookup();
     let kept = state::kept(ends, saved);
     let at = state::stand(settings.columns, saved);
     let read = as_read(settings);
-    let taken = take::take(&white, &black, src, read, changes, ends, marks, kept, at, n);
+    let taken = take::take(src, read, changes, ends, marks, kept, at, n);
     turn_of(settings, taken)
 }
 

@@ -5,7 +5,6 @@ use crate::stand::Out;
 use crate::stand::Stand;
 use crate::unit;
 use settings::DecodeSettings;
-ghost use Rattle.tables.specs.Tables.{Lookups};
 ghost use Rattle.by_unit.specs.Taking.{TakeFrom, Takes};
 
 // Where they have come to, and how many they are.
@@ -15,9 +14,7 @@ pub(crate) struct TakenUnits {
 }
 
 // What can be closed is closed first: a state of the caller's own may stand at a row's end.
-pub(crate) fn take<'a>(
-    white: &'a [u16; 8192],
-    black: &'a [u16; 8192],
+pub(crate) fn take(
     src: &[u8],
     settings: DecodeSettings,
     changes: &mut [u32],
@@ -27,7 +24,7 @@ pub(crate) fn take<'a>(
     stand: Stand,
     n: usize,
 ) -> TakenUnits
-    requires { ⌜ (Lookups (now white) (now black)) × (TakeFrom (now src) settings (now changes) (now ends) (now marks) kept stand) ⌝ }
+    requires { ⌜ TakeFrom (now src) settings (now changes) (now ends) (now marks) kept stand ⌝ }
     ensures { λ r. ⌜ Takes (now (src .entry)) settings (now (changes .entry)) (now (ends .entry)) (now (marks .entry)) kept stand n r (now (changes .exit)) (now (ends .exit)) (now (marks .exit)) ⌝ }
 {
     let mut out = stand::settle(src, settings, ends, marks, kept, stand, 0);
@@ -41,18 +38,7 @@ pub(crate) fn take<'a>(
                 };
             }
             Out::More(next, at, seen) => {
-                out = unit::unit(
-                    white,
-                    black,
-                    src,
-                    settings,
-                    changes,
-                    ends,
-                    marks,
-                    next,
-                    at,
-                    seen,
-                );
+                out = unit::unit(src, settings, changes, ends, marks, next, at, seen);
                 left -= 1;
             }
         }

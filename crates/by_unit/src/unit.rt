@@ -15,7 +15,6 @@ use one_line::one_code;
 use one_line::one_code::OneCode;
 use settings::DecodeSettings;
 ghost use mathlib.Core.Path.{_≡_};
-ghost use Rattle.tables.specs.Tables.{Lookups};
 ghost use Rattle.bit_reader.specs.Loaded.{Loading};
 ghost use Rattle.by_unit.specs.Standing.{nextOf};
 ghost use Rattle.by_unit.specs.OneUnit.{rulesIn, eolUnitFor, CodeEnds, AfterCodes, AfterRuns, UnitFrom, UnitGives};
@@ -155,9 +154,7 @@ fn after_run(
     }
 }
 
-fn run_unit<'a>(
-    white: &'a [u16; 8192],
-    black: &'a [u16; 8192],
+fn run_unit(
     src: &[u8],
     settings: DecodeSettings,
     changes: &mut [u32],
@@ -171,11 +168,11 @@ fn run_unit<'a>(
     at: usize,
     seen: usize,
 ) -> Out
-    requires { ⌜ (Lookups (now white) (now black)) × (UnitFrom (now src) settings (now changes) (now ends) (now marks) kept (Stand.InRun half line from total at) seen) ⌝ }
+    requires { ⌜ UnitFrom (now src) settings (now changes) (now ends) (now marks) kept (Stand.InRun half line from total at) seen ⌝ }
     ensures { λ r. ⌜ UnitGives (now (src .entry)) settings (now (changes .entry)) (now (ends .entry)) (now (marks .entry)) kept (Stand.InRun half line from total at) r (now (changes .exit)) (now (ends .exit)) (now (marks .exit)) ⌝ }
 {
     let colour = line.colour as usize;
-    match one_code::run_code(white, black, colour, src, at, total, settings.plain) {
+    match one_code::run_code(colour, src, at, total, settings.plain) {
         RunCode::Bad(e, place) => {
             Out::Done(stand::said(answer::number(e), place, 0, kept, line.changes))
         }
@@ -191,9 +188,7 @@ fn run_unit<'a>(
     }
 }
 
-pub(crate) fn unit<'a>(
-    white: &'a [u16; 8192],
-    black: &'a [u16; 8192],
+pub(crate) fn unit(
     src: &[u8],
     settings: DecodeSettings,
     changes: &mut [u32],
@@ -203,7 +198,7 @@ pub(crate) fn unit<'a>(
     stand: Stand,
     seen: usize,
 ) -> Out
-    requires { ⌜ (Lookups (now white) (now black)) × (UnitFrom (now src) settings (now changes) (now ends) (now marks) kept stand seen) ⌝ }
+    requires { ⌜ UnitFrom (now src) settings (now changes) (now ends) (now marks) kept stand seen ⌝ }
     ensures { λ r. ⌜ UnitGives (now (src .entry)) settings (now (changes .entry)) (now (ends .entry)) (now (marks .entry)) kept stand r (now (changes .exit)) (now (ends .exit)) (now (marks .exit)) ⌝ }
 {
     match stand {
@@ -213,8 +208,6 @@ pub(crate) fn unit<'a>(
         }
         Stand::InRun(half, line, from, total, at) => {
             run_unit(
-                white,
-                black,
                 src,
                 settings,
                 changes,

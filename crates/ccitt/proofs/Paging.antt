@@ -27,7 +27,6 @@ use Rattle.rules.proofs.Answers.{short-rows}
 use Rattle.rules.proofs.Pages.{Onward, Moved, Goes, Does, row-goes, row-does, step, roomFor, page-kept, page-full, page-stopped, page-falls, Held, held-start, held-next, held-entries}
 use Rattle.rules.proofs.Marks.{RowMarked, row-marked}
 use Rattle.rules.proofs.Store.{length-overlaid, overlaid-nothing, overlaid-behind, overlaid-one, length-joined, joined-snoc, length-ends, ends-snoc}
-use Rattle.tables.specs.Tables.{Lookups}
 use Rattle.context.specs.declared.reference.Reference.{Reference}
 use Rattle.context.specs.declared.reference.Reference.the-variants as Reference
 use Rattle.context.specs.Coding.{Placed}
@@ -147,9 +146,8 @@ module _ (bytes : List ℕ) (settings : DecodeSettings) (size : length bytes ≤
     inside = omega (arith, g .base, g .held .roomy, length-ys)
 
     -- what a row asks
-    pub row-asked : {w b : List ℕ} → Lookups w b → RowFrom w b bytes [] ys settings st
-    row-asked l = record {
-      lookups = l;
+    pub row-asked : RowFrom bytes [] ys settings st
+    row-asked = record {
       loading = record { size = size; inside = omega (arith, ap (λ (s : Rule.State). s .at) (g .state), g .held .inside, length-bitsOf bytes) };
       wide = wide;
       narrow = narrow;
@@ -331,14 +329,14 @@ pub record Turn (bytes : List ℕ) (settings : DecodeSettings) (xs es ms ys fs n
 abbrev pub turnsLeft : List ℕ → State → ℕ
 turnsLeft bytes st = length (bitsOf bytes) - st .at + cond (eqb (st .rows) 0) 1 0
 
-pub turn-start : {w b : List ℕ} (bytes : List ℕ) (settings : DecodeSettings) (xs es ms : List ℕ) → PageFrom w b bytes settings
+pub turn-start : (bytes : List ℕ) (settings : DecodeSettings) (xs es ms : List ℕ) → PageFrom bytes settings
     → Turn bytes settings xs es ms xs es ms (record { at = 0; rows = 0; reference = Reference.Kept 0; base = 0; eols = false }) false
 unfolding going-start
 turn-start bytes settings xs es ms p = record { size = p .size; wide = p .wide; narrow = p .narrow; going = going-start bytes settings (p .size) (p .wide) (p .narrow) xs es ms; had = had-start _ _ (p .wide) _ _ (length xs) (placesIn es ms); same-changes = refl; same-ends = refl; same-marks = refl }
 
 module _ {bytes : List ℕ} {settings : DecodeSettings} {xs es ms ys fs ns : List ℕ} {st : State} {ever : Bool} (t : Turn bytes settings xs es ms ys fs ns st ever) where
-  pub turn-asked : {w b : List ℕ} → Lookups w b → RowFrom w b bytes [] ys settings st
-  turn-asked l = row-asked bytes settings (t .size) (t .wide) (t .narrow) xs es ms ys fs ns st (t .going) l
+  pub turn-asked : RowFrom bytes [] ys settings st
+  turn-asked = row-asked bytes settings (t .size) (t .wide) (t .narrow) xs es ms ys fs ns st (t .going)
 
   module _ {r : Row} {zs : List ℕ} (o : Rowed bytes [] ys settings st r zs) where
     pub turn-stopped : {n p b m : ℕ} → r ≡ Stop n p b m → Sees bytes settings xs es ms (toldOf (counted n p (st .rows) (st .base) m b) ever (st .eols)) zs fs ns

@@ -9,6 +9,7 @@ ghost use mathlib.Core.Bool.{_||_};
 ghost use mathlib.Core.List.{[]};
 ghost use Prim.Native.Nat.{min};
 ghost use Rattle.tables.specs.Pairs.{pairTable};
+ghost use Rattle.tables.specs.Tables.{Lookups};
 ghost use Rattle.settings.specs.Between.{RowFrom, Rowed};
 ghost use Rattle.ccitt.specs.Decode.{counted, behindRow, Behind, PageFrom, Sees, toldOf, shortFor, refusedWith, Decodes, Watches};
 
@@ -30,7 +31,7 @@ fn row<'a>(
     changes: &mut [u32],
     state: State,
 ) -> Row
-    requires { ⌜ RowFrom (now white) (now black) (now src) [] (now changes) settings state × (now both ≡ pairTable) ⌝ }
+    requires { ⌜ RowFrom (now src) [] (now changes) settings state × Lookups (now white) (now black) × (now both ≡ pairTable) ⌝ }
     ensures { λ r. ⌜ Rowed (now (src .entry)) [] (now (changes .entry)) settings state r (now (changes .exit)) ⌝ }
 {
     let lent: [u32; 0] = [];
@@ -110,7 +111,7 @@ fn page<'a>(
     ends: &mut [u64],
     marks: &mut [u8],
 ) -> Watched
-    requires { ⌜ PageFrom (now white) (now black) (now src) settings × (now both ≡ pairTable) ⌝ }
+    requires { ⌜ PageFrom (now src) settings × Lookups (now white) (now black) × (now both ≡ pairTable) ⌝ }
     ensures { λ r. ⌜ Sees (now (src .entry)) settings (now (changes .entry)) (now (ends .entry)) (now (marks .entry)) r (now (changes .exit)) (now (ends .exit)) (now (marks .exit)) ⌝ }
 {
     let places = places(ends.len(), marks.len());

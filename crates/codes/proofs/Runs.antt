@@ -101,16 +101,13 @@ pub record Turn (colour : Colour) (bytes : List ℕ) (start : ℕ) (b : Buffer) 
 pub begin : {colour : Colour} {bytes : List ℕ} {b : Buffer} → Loaded bytes b → Going colour bytes (b .at) b 0
 begin l = record { loaded = l; summing = no-sum }
 
--- a turn begins with a look into the colour's table
-pub look : {colour : Colour} {bytes table : List ℕ} {start top total run size : ℕ} {b : Buffer} → Going colour bytes start b total
-    → table ≡ lookupTable colour → Top b top → run ≡ getD table top 0 % 4096 → size ≡ getD table top 0 / 4096 → Turn colour bytes start b total run size
-look {colour} {bytes} {table} {top = top} {b = b} g t k r s = record {
+-- a turn begins with a look at the colour's entry
+pub look : {colour : Colour} {bytes : List ℕ} {start entry top total run size : ℕ} {b : Buffer} → Going colour bytes start b total
+    → entry ≡ getD (lookupTable colour) top 0 → Top b top → run ≡ entry % 4096 → size ≡ entry / 4096 → Turn colour bytes start b total run size
+look {colour} {bytes} {entry = entry} {b = b} g t k r s = record {
   going = g;
-  entry = getD table top 0;
-  entered =
-      ap (λ (i : ℕ). getD table i 0) (k .value bytes (g .loaded))
-      ∙ ap (λ (xs : List ℕ). getD xs (peek 13 (drop (b .at) (bitsOf bytes))) 0) t
-      ∙ table-at colour (drop (b .at) (bitsOf bytes));
+  entry = entry;
+  entered = t ∙ ap (λ (i : ℕ). getD (lookupTable colour) i 0) (k .value bytes (g .loaded)) ∙ table-at colour (drop (b .at) (bitsOf bytes));
   run-is = r;
   size-is = s;
 }
@@ -183,11 +180,11 @@ pub record At (colour : Colour) (bytes : List ℕ) (at run size : ℕ) : Type 0 
   pub run-is : run ≡ entry % 4096
   pub size-is : size ≡ entry / 4096
 
-pub look-at : {colour : Colour} {bytes table : List ℕ} {at top run size : ℕ} → table ≡ lookupTable colour → top ≡ peek 13 (drop at (bitsOf bytes))
-    → run ≡ getD table top 0 % 4096 → size ≡ getD table top 0 / 4096 → At colour bytes at run size
-look-at {colour} {bytes} {table} {at} {top} t k r s = record {
-  entry = getD table top 0;
-  entered = ap (λ (i : ℕ). getD table i 0) k ∙ ap (λ (xs : List ℕ). getD xs (peek 13 (drop at (bitsOf bytes))) 0) t ∙ table-at colour (drop at (bitsOf bytes));
+pub look-at : {colour : Colour} {bytes : List ℕ} {at entry top run size : ℕ} → entry ≡ getD (lookupTable colour) top 0 → top ≡ peek 13 (drop at (bitsOf bytes))
+    → run ≡ entry % 4096 → size ≡ entry / 4096 → At colour bytes at run size
+look-at {colour} {bytes} {at} {entry} t k r s = record {
+  entry = entry;
+  entered = t ∙ ap (λ (i : ℕ). getD (lookupTable colour) i 0) k ∙ table-at colour (drop at (bitsOf bytes));
   run-is = r;
   size-is = s;
 }

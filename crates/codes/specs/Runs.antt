@@ -12,8 +12,7 @@ use Rattle.rules.specs.Runs.{Res, ok, fault, Sum, sum, readRun}
 use Rattle.rules.specs.Pages.{mostBytes}
 use Rattle.rules.specs.Plain as Rule
 use Rattle.rules.specs.Plain.{found, lost}
-use Rattle.tables.specs.Tables.{Lookups}
-use Rattle.bit_reader.specs.Loaded.{Loaded, Loading}
+use Rattle.bit_reader.specs.Loaded.{Loaded}
 use Rattle.bit_reader.specs.declared.buffer.Buffer.{Buffer}
 use Rattle.answer.specs.Answer.{numberOf}
 use Rattle.codes.specs.declared.plain.Found.{Found}
@@ -32,9 +31,8 @@ abbrev pub LoadedAfter : List ℕ → Run → Type 0
 LoadedAfter bytes (Length n b) = Loaded bytes b
 LoadedAfter bytes (Bad e place) = Unit {0}
 
--- what the run reader asks: the tables, and a buffer that holds the data
-pub record Reading (w b : List ℕ) (bytes : List ℕ) (start : Buffer) : Type 0 where
-  pub lookups : Lookups w b
+-- what the run reader asks: a buffer that holds the data
+pub record Reading (bytes : List ℕ) (start : Buffer) : Type 0 where
   pub size : length bytes ≤ mostBytes
   pub loaded : Loaded bytes start
 
@@ -48,11 +46,6 @@ abbrev pub codeOf : RunCode → Out Sum (Res Sum)
 codeOf (RunCode.Last total at) = done (ok (sum at total))
 codeOf (RunCode.More total at) = more (sum at total)
 codeOf (RunCode.Bad e place) = done (fault (numberOf e) place)
-
--- what it asks: the tables, and a bit inside the data
-pub record CodeFrom (w b bytes : List ℕ) (at : ℕ) : Type 0 where
-  pub lookups : Lookups w b
-  pub loading : Loading bytes at
 
 -- What a code makes of the sum so far, whichever engine found it: "A sum above 4,294,967,295 is 3" (01, "Codes"), and a run of less than 64 is the last.
 abbrev pub summed : Sum → Rule.Found → Out Sum (Res Sum)

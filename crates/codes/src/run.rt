@@ -1,4 +1,5 @@
-// Runs of one colour, by its lookup table.
+// Runs of one colour, by the entries of its lookup table one by one: where runs come often the swift loops read them, by a table if one
+// is lent.
 use crate::plain::Found;
 use answer::DecodeError;
 use bit_reader::buffer;
@@ -8,12 +9,12 @@ ghost use mathlib.Core.Path.{_≡_};
 ghost use Prim.Native.Nat.{_/_, _%_, _≤_};
 ghost use lib.ListN.{drop};
 ghost use Rattle.rules.specs.Bits.{bitsOf};
-ghost use Rattle.rules.specs.Lookup.{lookupTable};
 ghost use Rattle.rules.specs.Plain.{byLookup};
 ghost use Rattle.rules.specs.Runs.{sum, runStep};
-ghost use Rattle.tables.specs.Tables.{colourOf, Lookups};
+ghost use Rattle.tables.specs.Tables.{colourOf};
+ghost use Rattle.bit_reader.specs.Loaded.{Loading};
 ghost use Rattle.codes.specs.Plain.{foundOf};
-ghost use Rattle.codes.specs.Runs.{Reading, RunRead, CodeFrom, codeOf, Addable, summed};
+ghost use Rattle.codes.specs.Runs.{Reading, RunRead, codeOf, Addable, summed};
 
 // A sum of runs, where it is counted in 64 bits.
 pub(crate) const MOST_SUM: usize = answer::MOST_PIXELS as usize;
@@ -22,13 +23,6 @@ pub(crate) const MOST_SUM: usize = answer::MOST_PIXELS as usize;
 pub enum Run {
     Length(u32, Buffer),
     Bad(DecodeError, usize),
-}
-
-fn table_of<'a>(white: &'a [u16; 8192], black: &'a [u16; 8192], colour: usize) -> &'a [u16; 8192]
-    requires { ⌜ Lookups (now white) (now black) ⌝ }
-    ensures { λ r. ⌜ now r ≡ lookupTable (colourOf colour) ⌝ }
-{
-    if colour == 0 { white } else { black }
 }
 
 // An entry has its run in the low 12 bits, and the length of its code above them.
@@ -45,23 +39,16 @@ pub(crate) fn size_in(entry: u16) -> usize
 }
 
 // The run of a colour: 0 is white, any other number black.
-pub fn read_run<'a>(
-    white: &'a [u16; 8192],
-    black: &'a [u16; 8192],
-    colour: usize,
-    src: &[u8],
-    start: Buffer,
-) -> Run
-    requires { ⌜ Reading (now white) (now black) (now src) start ⌝ }
+pub fn read_run(colour: usize, src: &[u8], start: Buffer) -> Run
+    requires { ⌜ Reading (now src) start ⌝ }
     ensures { λ r. ⌜ RunRead (colourOf colour) (now (src .entry)) (start .at) r ⌝ }
 {
-    let table = table_of(white, black, colour);
     let mut b = start;
     let mut sum: u32 = 0;
     let total = loop {
         let at = b.at;
         let top = buffer::top13(b);
-        let entry = table[top];
+        let entry = squeezed::entry(colour, top);
         let run = run_in(entry);
         // The zeros that are seen past the end never complete a code: its bits must all be there.
         let Fed::On(next) = buffer::feed(src, b, size_in(entry)) else {
@@ -92,19 +79,12 @@ pub enum RunCode {
 
 // The code of a colour that begins at a bit, by its lookup table. The zeros that are seen past the end never complete a code: its
 // bits must all be there.
-pub fn look_up<'a>(
-    white: &'a [u16; 8192],
-    black: &'a [u16; 8192],
-    colour: usize,
-    src: &[u8],
-    at: usize,
-) -> Found
-    requires { ⌜ CodeFrom (now white) (now black) (now src) at ⌝ }
+pub fn look_up(colour: usize, src: &[u8], at: usize) -> Found
+    requires { ⌜ Loading (now src) at ⌝ }
     ensures { λ r. ⌜ foundOf r ≡ byLookup (colourOf colour) (drop at (bitsOf (now (src .entry)))) ⌝ }
 {
-    let table = table_of(white, black, colour);
     let top = bit_reader::peek13(src, at);
-    let entry = table[top];
+    let entry = squeezed::entry(colour, top);
     let run = run_in(entry);
     let size = size_in(entry);
     let left = 8 * src.len() - at;
@@ -138,17 +118,10 @@ pub(crate) fn add_code(found: Found, at: usize, total: u32) -> RunCode
 }
 
 // One step of `read_run`, for a form that may stop between make-up codes (A9). The page form does not call it.
-pub fn read_code<'a>(
-    white: &'a [u16; 8192],
-    black: &'a [u16; 8192],
-    colour: usize,
-    src: &[u8],
-    at: usize,
-    total: u32,
-) -> RunCode
-    requires { ⌜ CodeFrom (now white) (now black) (now src) at ⌝ }
+pub fn read_code(colour: usize, src: &[u8], at: usize, total: u32) -> RunCode
+    requires { ⌜ Loading (now src) at ⌝ }
     ensures { λ r. ⌜ codeOf r ≡ runStep (colourOf colour) (bitsOf (now (src .entry))) (sum at total) ⌝ }
 {
-    let found = look_up(white, black, colour, src, at);
+    let found = look_up(colour, src, at);
     add_code(found, at, total)
 }

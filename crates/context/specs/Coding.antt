@@ -50,8 +50,8 @@ TwoRuns bytes xs l at next rules r ys =
     Steps (l .width) xs (unlessIdle (rulesFor (l .width) rules xs) horizontal (lineAt at xs l) (runsFrom (rulesFor (l .width) rules xs) true (bitsOf bytes) (lineAt next xs l))) r ys
 
 -- what a code asks besides: the line is short of its width, and b2 does not lie left of it
-pub record Coding (w b bytes xs : List ℕ) (l : Line) (at b2 : ℕ) : Type 0 where
-  pub reads : Reads w b bytes xs l at
+pub record Coding (bytes xs : List ℕ) (l : Line) (at b2 : ℕ) : Type 0 where
+  pub reads : Reads bytes xs l at
   pub short : l .position < l .width
   pub ahead : l .position ≤ b2
 
@@ -80,8 +80,8 @@ pub record Seeks (place : Reference) (base : ℕ) (reference xs : List ℕ) (see
   pub searches : Searches (referenceIn place base reference xs) seen (l .width) (l .position) (l .colour)
 
 -- what a line asks
-pub record Lines (w b bytes reference xs : List ℕ) (base : ℕ) (place : Reference) (width at : ℕ) : Type 0 where
-  pub starts : Starts w b bytes width at
+pub record Lines (bytes reference xs : List ℕ) (base : ℕ) (place : Reference) (width at : ℕ) : Type 0 where
+  pub starts : Starts bytes width at
   pub placed : Placed place base xs
   pub rising : Rising width 0 (referenceIn place base reference xs)
 

@@ -8,7 +8,6 @@ use Rattle.rules.specs.Bits.{bitsOf}
 use Rattle.rules.specs.Lines as Rule
 use Rattle.rules.specs.Lines.{Went, went, failed, next, pushRun, one, codeOf, lineEnd}
 use Rattle.rules.specs.Pages.{overlaid}
-use Rattle.tables.specs.Tables.{Lookups}
 use Rattle.bit_reader.specs.Loaded.{Loading}
 use Rattle.context.specs.declared.line.Line.{Line}
 use Rattle.context.specs.declared.step.Rules.{Rules}
@@ -29,15 +28,13 @@ pub record Steps (width : ℕ) (xs : List ℕ) (w : Went) (r : Step) (ys : List 
   pub answer : r ≡ stepFor width w
   pub store : ys ≡ overlaid (changesOf w) xs
 
--- what a reader asks: the tables, a bit inside the data, and a line in its slice
-pub record Reads (w b bytes xs : List ℕ) (l : Line) (at : ℕ) : Type 0 where
-  pub lookups : Lookups w b
+-- what a reader asks: a bit inside the data, and a line in its slice
+pub record Reads (bytes xs : List ℕ) (l : Line) (at : ℕ) : Type 0 where
   pub loading : Loading bytes at
   pub holds : Holds xs l
 
 -- the same of a line that begins
-pub record Starts (w b bytes : List ℕ) (width at : ℕ) : Type 0 where
-  pub lookups : Lookups w b
+pub record Starts (bytes : List ℕ) (width at : ℕ) : Type 0 where
   pub loading : Loading bytes at
   pub narrow : width < 4294967295
 

@@ -43,7 +43,7 @@ use Rattle.group3.proofs.Judging.{bytes-whole}
 
 -- ---- A row whose line was read, or is damaged
 
-module _ {w b bytes lent xs : List ℕ} {settings : DecodeSettings} {st : State} {at : ℕ} (h : LineFrom w b bytes lent xs settings st at) (expected : Bool)
+module _ {bytes lent xs : List ℕ} {settings : DecodeSettings} {st : State} {at : ℕ} (h : LineFrom bytes lent xs settings st at) (expected : Bool)
     (r : Step) (zs : List ℕ) (s : StepsAt (st .base) (settings .columns) xs (lineIn settings bytes lent xs st at) r zs) where
   abbrev base : ℕ
   base = st .base
@@ -90,7 +90,7 @@ module _ {w b bytes lent xs : List ℕ} {settings : DecodeSettings} {st : State}
 
 -- ---- A row, by what comes before it
 
-module _ {w b bytes lent xs : List ℕ} {settings : DecodeSettings} {st : State} (h : RowFrom w b bytes lent xs settings st) (a : Before) (q : beforeOf settings bytes a ≡ beforeIn settings bytes st (eqb (st .rows) 0)) where
+module _ {bytes lent xs : List ℕ} {settings : DecodeSettings} {st : State} (h : RowFrom bytes lent xs settings st) (a : Before) (q : beforeOf settings bytes a ≡ beforeIn settings bytes st (eqb (st .rows) 0)) where
   abbrev S : Page.Settings
   S = settingsOf settings
 
@@ -145,7 +145,7 @@ module _ {w b bytes lent xs : List ℕ} {settings : DecodeSettings} {st : State}
     row-lacks e = gives (NoEol at) e (Stop 1 at 0 0) xs (gives-stop (st .base) xs 1 at 0 (Stop 1 at 0 0) refl)
 
     module _ (expected : Bool) (e : a ≡ LineAt at expected) where
-      pub row-line : LineFrom w b bytes lent xs settings st at
+      pub row-line : LineFrom bytes lent xs settings st at
       row-line = record {
         row = h;
         loading = record {

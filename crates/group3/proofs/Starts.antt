@@ -80,7 +80,7 @@ module _ {bytes : List ℕ} {at : ℕ} (h : Loading bytes at) (t : Tagging) wher
 
 -- ---- The line, into the store
 
-module _ {w b bytes lent xs : List ℕ} {settings : DecodeSettings} {st : State} {at : ℕ} (h : LineFrom w b bytes lent xs settings st at) (k : LineKind) (a : KindAt bytes (taggingOf (settings .encoding)) at k) where
+module _ {bytes lent xs : List ℕ} {settings : DecodeSettings} {st : State} {at : ℕ} (h : LineFrom bytes lent xs settings st at) (k : LineKind) (a : KindAt bytes (taggingOf (settings .encoding)) at k) where
   abbrev base : ℕ
   base = st .base
 
@@ -94,8 +94,8 @@ module _ {w b bytes lent xs : List ℕ} {settings : DecodeSettings} {st : State}
   gives : (r : Step) (ys : List ℕ) → StepsAt base (settings .columns) xs (lineOf (length (drop base xs))) r ys → StepsAt base (settings .columns) xs (lineIn settings bytes lent xs st at) r ys
   gives r ys s = subst (λ (w : Went). StepsAt base (settings .columns) xs w r ys) is s
 
-  starts : (start : ℕ) → Loading bytes start → Line.Starts w b bytes (settings .columns) start
-  starts start l = record { lookups = h .row .lookups; loading = l; narrow = h .row .narrow }
+  starts : (start : ℕ) → Loading bytes start → Line.Starts bytes (settings .columns) start
+  starts start l = record { loading = l; narrow = h .row .narrow }
 
   pub line-missing : k ≡ NoTag → StepsAt base (settings .columns) xs (lineIn settings bytes lent xs st at) (Stop 2 (newFor (settings .columns)) (8 * length bytes)) xs
   line-missing e =
@@ -103,7 +103,7 @@ module _ {w b bytes lent xs : List ℕ} {settings : DecodeSettings} {st : State}
       (rw e (record { answer = ap (λ (n : ℕ). Stop 2 (newFor (settings .columns)) n) (sym (length-bitsOf bytes)); store = unchanged base xs }))
 
   module _ (start : ℕ) where
-    pub one-starts : k ≡ One start → Line.Starts w b bytes (settings .columns) start
+    pub one-starts : k ≡ One start → Line.Starts bytes (settings .columns) start
     one-starts e = starts start (subst (KindStarts bytes) e (a .starts))
 
     -- into the slice behind the base, which comes back
@@ -114,7 +114,7 @@ module _ {w b bytes lent xs : List ℕ} {settings : DecodeSettings} {st : State}
         let v = rw (row-lent xs base) at s in
         gives r _ (rw (e, row-back xs base (h .row .held) ys) (record { answer = v .answer; store = ap (λ (l : List ℕ). take base xs ++ l) (v .store) }))
 
-    pub two-asks : k ≡ Two start → Lines w b bytes lent xs base (st .reference) (settings .columns) start
+    pub two-asks : k ≡ Two start → Lines bytes lent xs base (st .reference) (settings .columns) start
     two-asks e = record { starts = starts start (subst (KindStarts bytes) e (a .starts)); placed = h .row .placed; rising = h .row .rising }
 
     pub line-two : k ≡ Two start → (r : Step) (ys : List ℕ) → Lined bytes lent xs base (st .reference) (settings .columns) start (linesBy settings) r ys

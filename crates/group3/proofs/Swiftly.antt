@@ -103,7 +103,7 @@ module _ {bytes : List ℕ} {at : ℕ} (h : Loading bytes at) (single : singleAt
 
 -- ---- The row behind it
 
-module _ {w b bytes lent xs : List ℕ} {settings : DecodeSettings} {st : State} (h : RowFrom w b bytes lent xs settings st) (seen : usual settings bytes st ≡ true) where
+module _ {bytes lent xs : List ℕ} {settings : DecodeSettings} {st : State} (h : RowFrom bytes lent xs settings st) (seen : usual settings bytes st ≡ true) where
   abbrev S : Page.Settings
   S = settingsOf settings
 
@@ -146,7 +146,7 @@ module _ {w b bytes lent xs : List ℕ} {settings : DecodeSettings} {st : State}
   pub behind-fits : st .at + 12 < 8 * length bytes
   behind-fits = behind-inside (h .loading) (parts-seen .single)
 
-  pub line-seen : LineFrom w b bytes lent xs settings st (st .at + 12)
+  pub line-seen : LineFrom bytes lent xs settings st (st .at + 12)
   line-seen = row-line h (Line (st .at + 12) (st .eols)) before-is (st .at + 12) (st .eols) refl
 
   pub row-seen : (r : Row) (ys : List ℕ) → RowGives (st .base) xs (afterLineIn settings bytes lent xs st (st .at + 12) (st .eols) (lineIn settings bytes lent xs st (st .at + 12))) r ys

@@ -38,8 +38,8 @@ pub record KindAt (bytes : List ℕ) (t : Tagging) (at : ℕ) (r : LineKind) : T
   pub same : (S : Settings) (R : Rules) (reference : List ℕ) → kindLine R reference (bitsOf bytes) at r ≡ line3 S t (bitsOf bytes) R reference at t
 
 -- what a line asks: a row that may begin, and a bit inside the data
-pub record LineFrom (w b bytes lent xs : List ℕ) (s : DecodeSettings) (st : State) (at : ℕ) : Type 0 where
-  pub row : RowFrom w b bytes lent xs s st
+pub record LineFrom (bytes lent xs : List ℕ) (s : DecodeSettings) (st : State) (at : ℕ) : Type 0 where
+  pub row : RowFrom bytes lent xs s st
   pub loading : Loading bytes at
 
 -- the line that begins at a bit, in the room that the store has

@@ -15,6 +15,7 @@ ghost use lib.ListN.{length};
 ghost use Rattle.rules.specs.Bits.{bitsOf};
 ghost use Rattle.rules.specs.Group3.{row3};
 ghost use Rattle.tables.specs.Pairs.{pairTable};
+ghost use Rattle.tables.specs.Tables.{Lookups};
 ghost use Rattle.settings.specs.Settings.{settingsOf, taggingOf};
 ghost use Rattle.settings.specs.Between.{stateOf, RowFrom, RowGives};
 ghost use Rattle.group3.specs.Lined.{LineFrom, lineIn};
@@ -33,7 +34,7 @@ fn row_at<'a>(
     at: usize,
     expected: bool,
 ) -> Row
-    requires { ⌜ LineFrom (now white) (now black) (now src) (now lent) (now changes) settings state at × (now both ≡ pairTable) ⌝ }
+    requires { ⌜ LineFrom (now src) (now lent) (now changes) settings state at × Lookups (now white) (now black) × (now both ≡ pairTable) ⌝ }
     ensures { λ r. ⌜ RowGives (state .base) (now (changes .entry)) (afterLineIn settings (now (src .entry)) (now (lent .entry)) (now (changes .entry)) state at expected (lineIn settings (now (src .entry)) (now (lent .entry)) (now (changes .entry)) state at)) r (now (changes .exit)) ⌝ }
 {
     match line::decode(white, black, both, src, settings, lent, changes, state, at) {
@@ -55,7 +56,7 @@ pub fn row<'a>(
     changes: &mut [u32],
     state: State,
 ) -> Row
-    requires { ⌜ RowFrom (now white) (now black) (now src) (now lent) (now changes) settings state × (now both ≡ pairTable) ⌝ }
+    requires { ⌜ RowFrom (now src) (now lent) (now changes) settings state × Lookups (now white) (now black) × (now both ≡ pairTable) ⌝ }
     ensures { λ r. ⌜ RowGives (state .base) (now (changes .entry)) (row3 (settingsOf settings) (taggingOf (settings .encoding)) (bitsOf (now (src .entry))) (length (now (changes .entry)) - state .base) (stateOf (now (lent .entry)) (now (changes .entry)) state)) r (now (changes .exit)) ⌝ }
 {
     match eob::between(src, settings, state) {
@@ -89,7 +90,7 @@ fn any_row<'a>(
     changes: &mut [u32],
     state: State,
 ) -> Row
-    requires { ⌜ RowFrom (now white) (now black) (now src) (now lent) (now changes) settings state × (now both ≡ pairTable) ⌝ }
+    requires { ⌜ RowFrom (now src) (now lent) (now changes) settings state × Lookups (now white) (now black) × (now both ≡ pairTable) ⌝ }
     ensures { λ r. ⌜ RowGives (state .base) (now (changes .entry)) (row3 (settingsOf settings) (taggingOf (settings .encoding)) (bitsOf (now (src .entry))) (length (now (changes .entry)) - state .base) (stateOf (now (lent .entry)) (now (changes .entry)) state)) r (now (changes .exit)) ⌝ }
 {
     row(white, black, both, src, settings, lent, changes, state)
@@ -106,7 +107,7 @@ pub fn swift_row<'a>(
     changes: &mut [u32],
     state: State,
 ) -> Row
-    requires { ⌜ RowFrom (now white) (now black) (now src) (now lent) (now changes) settings state × (now both ≡ pairTable) ⌝ }
+    requires { ⌜ RowFrom (now src) (now lent) (now changes) settings state × Lookups (now white) (now black) × (now both ≡ pairTable) ⌝ }
     ensures { λ r. ⌜ RowGives (state .base) (now (changes .entry)) (row3 (settingsOf settings) (taggingOf (settings .encoding)) (bitsOf (now (src .entry))) (length (now (changes .entry)) - state .base) (stateOf (now (lent .entry)) (now (changes .entry)) state)) r (now (changes .exit)) ⌝ }
 {
     if !eob::is_usual(src, settings, state) {

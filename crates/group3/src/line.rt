@@ -9,6 +9,7 @@ use settings::DecodeSettings;
 use settings::State;
 ghost use mathlib.Core.Path.{_≡_};
 ghost use Rattle.tables.specs.Pairs.{pairTable};
+ghost use Rattle.tables.specs.Tables.{Lookups};
 ghost use Rattle.bit_reader.specs.Loaded.{Loading};
 ghost use Rattle.context.specs.Coding.{StepsAt};
 ghost use Rattle.settings.specs.Settings.{taggingOf};
@@ -48,7 +49,7 @@ pub(crate) fn decode<'a>(
     state: State,
     at: usize,
 ) -> Step
-    requires { ⌜ LineFrom (now white) (now black) (now src) (now lent) (now changes) settings state at × (now both ≡ pairTable) ⌝ }
+    requires { ⌜ LineFrom (now src) (now lent) (now changes) settings state at × Lookups (now white) (now black) × (now both ≡ pairTable) ⌝ }
     ensures { λ r. ⌜ StepsAt (state .base) (settings .columns) (now (changes .entry)) (lineIn settings (now (src .entry)) (now (lent .entry)) (now (changes .entry)) state at) r (now (changes .exit)) ⌝ }
 {
     let columns = settings.columns;

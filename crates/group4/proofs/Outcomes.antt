@@ -57,15 +57,15 @@ module _ (S : Rule.Settings) (bs : List Bool) (st : Rule.State) (e : Eol.Eols) w
 
 -- ---- A row whose line begins at a bit
 
-module _ {w b bytes lent xs : List ℕ} {settings : DecodeSettings} {st : State} {start : ℕ} (h : LineFrom w b bytes lent xs settings st start) where
+module _ {bytes lent xs : List ℕ} {settings : DecodeSettings} {st : State} {start : ℕ} (h : LineFrom bytes lent xs settings st start) where
   abbrev S : Rule.Settings
   S = settingsOf settings
 
   abbrev bs : List Bool
   bs = bitsOf bytes
 
-  pub row-asks : Lines w b bytes lent xs (st .base) (st .reference) (settings .columns) start
-  row-asks = record { starts = record { lookups = h .row .lookups; loading = h .loading; narrow = h .row .narrow }; placed = h .row .placed; rising = h .row .rising }
+  pub row-asks : Lines bytes lent xs (st .base) (st .reference) (settings .columns) start
+  row-asks = record { starts = record { loading = h .loading; narrow = h .row .narrow }; placed = h .row .placed; rising = h .row .rising }
 
   -- the line was read
   module _ (r : Step) (ys : List ℕ)
@@ -105,7 +105,7 @@ module _ {w b bytes lent xs : List ℕ} {settings : DecodeSettings} {st : State}
 
 -- ---- A row, behind the EOLs before it
 
-module _ {w b bytes lent xs : List ℕ} {settings : DecodeSettings} {st : State} (h : RowFrom w b bytes lent xs settings st) (e : Eols) (q : eolsOf e ≡ eolsBefore (settingsOf settings) (bitsOf bytes) (stateOf [] [] st)) where
+module _ {bytes lent xs : List ℕ} {settings : DecodeSettings} {st : State} (h : RowFrom bytes lent xs settings st) (e : Eols) (q : eolsOf e ≡ eolsBefore (settingsOf settings) (bitsOf bytes) (stateOf [] [] st)) where
   abbrev outcome : RowOut
   outcome = row4 (settingsOf settings) (bitsOf bytes) (length xs - st .base) (stateOf lent xs st)
 
@@ -117,7 +117,7 @@ module _ {w b bytes lent xs : List ℕ} {settings : DecodeSettings} {st : State}
   pub end-loading : e .at ≤ mostBits
   end-loading = omega (arith, eols-loading .inside, eols-loading .size)
 
-  pub line-from : LineFrom w b bytes lent xs settings st (e .at)
+  pub line-from : LineFrom bytes lent xs settings st (e .at)
   line-from = record { row = h; loading = eols-loading }
 
   outcome-is : (o : Bool) → o ≡ over (settingsOf settings) (bitsOf bytes) (stateOf [] [] st) (eolsOf e) → outcome ≡ lineOrEnd (settingsOf settings) (bitsOf bytes) (length xs - st .base) (stateOf lent xs st) (eolsOf e) o

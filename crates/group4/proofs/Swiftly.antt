@@ -76,7 +76,7 @@ under-white (Place.Kept start) base lent xs e =
 
 -- ---- A row that is seen at once
 
-module _ {w b bytes lent xs : List ℕ} {settings : DecodeSettings} {st : State} (h : RowFrom w b bytes lent xs settings st) (seen : begun settings bytes st ≡ true) where
+module _ {bytes lent xs : List ℕ} {settings : DecodeSettings} {st : State} (h : RowFrom bytes lent xs settings st) (seen : begun settings bytes st ≡ true) where
   abbrev S : Rule.Settings
   S = settingsOf settings
 
@@ -117,7 +117,7 @@ module _ {w b bytes lent xs : List ℕ} {settings : DecodeSettings} {st : State}
       none true = refl
       none false = refl
 
-  pub line-seen : LineFrom w b bytes lent xs settings st (st .at)
+  pub line-seen : LineFrom bytes lent xs settings st (st .at)
   line-seen = record { row = h; loading = h .loading }
 
   pub row-seen : (r : Row) (ys : List ℕ) → RowGives (st .base) xs (rowAt settings bytes lent xs st (st .at)) r ys → RowGives (st .base) xs (row4 S bs (length xs - st .base) (stateOf lent xs st)) r ys

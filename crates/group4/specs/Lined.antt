@@ -17,8 +17,8 @@ use Rattle.settings.specs.Settings.{settingsOf}
 use Rattle.settings.specs.Between.{stateOf, RowFrom}
 
 -- what a line asks: a row that may begin, and a bit inside the data
-pub record LineFrom (w b bytes lent xs : List ℕ) (s : DecodeSettings) (st : State) (at : ℕ) : Type 0 where
-  pub row : RowFrom w b bytes lent xs s st
+pub record LineFrom (bytes lent xs : List ℕ) (s : DecodeSettings) (st : State) (at : ℕ) : Type 0 where
+  pub row : RowFrom bytes lent xs s st
   pub loading : Loading bytes at
 
 -- the row of the line that begins at a bit, in the room that the store has

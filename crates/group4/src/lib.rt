@@ -16,6 +16,7 @@ ghost use lib.Dec.{leb};
 ghost use lib.ListN.{length};
 ghost use Rattle.rules.specs.Bits.{bitsOf};
 ghost use Rattle.rules.specs.Group4.{eolsBefore, over, row4};
+ghost use Rattle.tables.specs.Tables.{Lookups};
 ghost use Rattle.bit_reader.specs.Loaded.{Loading};
 ghost use Rattle.codes.specs.Eols.{eolsOf};
 ghost use Rattle.settings.specs.Settings.{settingsOf};
@@ -77,7 +78,7 @@ fn row_at<'a>(
     state: State,
     start: usize,
 ) -> Row
-    requires { ⌜ LineFrom (now white) (now black) (now src) (now lent) (now changes) settings state start ⌝ }
+    requires { ⌜ LineFrom (now src) (now lent) (now changes) settings state start × Lookups (now white) (now black) ⌝ }
     ensures { λ r. ⌜ RowGives (state .base) (now (changes .entry)) (rowAt settings (now (src .entry)) (now (lent .entry)) (now (changes .entry)) state start) r (now (changes .exit)) ⌝ }
 {
     let place = state.reference;
@@ -115,7 +116,7 @@ pub fn row<'a>(
     changes: &mut [u32],
     state: State,
 ) -> Row
-    requires { ⌜ RowFrom (now white) (now black) (now src) (now lent) (now changes) settings state ⌝ }
+    requires { ⌜ RowFrom (now src) (now lent) (now changes) settings state × Lookups (now white) (now black) ⌝ }
     ensures { λ r. ⌜ RowGives (state .base) (now (changes .entry)) (row4 (settingsOf settings) (bitsOf (now (src .entry))) (length (now (changes .entry)) - state .base) (stateOf (now (lent .entry)) (now (changes .entry)) state)) r (now (changes .exit)) ⌝ }
 {
     let eols = eols_before(src, settings, state);
@@ -167,7 +168,7 @@ fn any_row<'a>(
     changes: &mut [u32],
     state: State,
 ) -> Row
-    requires { ⌜ RowFrom (now white) (now black) (now src) (now lent) (now changes) settings state ⌝ }
+    requires { ⌜ RowFrom (now src) (now lent) (now changes) settings state × Lookups (now white) (now black) ⌝ }
     ensures { λ r. ⌜ RowGives (state .base) (now (changes .entry)) (row4 (settingsOf settings) (bitsOf (now (src .entry))) (length (now (changes .entry)) - state .base) (stateOf (now (lent .entry)) (now (changes .entry)) state)) r (now (changes .exit)) ⌝ }
 {
     row(white, black, src, settings, lent, changes, state)
@@ -183,7 +184,7 @@ pub fn swift_row<'a>(
     changes: &mut [u32],
     state: State,
 ) -> Row
-    requires { ⌜ RowFrom (now white) (now black) (now src) (now lent) (now changes) settings state ⌝ }
+    requires { ⌜ RowFrom (now src) (now lent) (now changes) settings state × Lookups (now white) (now black) ⌝ }
     ensures { λ r. ⌜ RowGives (state .base) (now (changes .entry)) (row4 (settingsOf settings) (bitsOf (now (src .entry))) (length (now (changes .entry)) - state .base) (stateOf (now (lent .entry)) (now (changes .entry)) state)) r (now (changes .exit)) ⌝ }
 {
     if !begins(src, settings, state) {

@@ -13,6 +13,7 @@ use Rattle.rules.specs.Pages.{overlaid}
 use Rattle.rules.proofs.Bits.{length-bitsOf}
 use Rattle.rules.specs.Rising.{Rising}
 use Rattle.tables.specs.Tables.{colourOf}
+use Rattle.tables.specs.Tables.{Lookups}
 use Rattle.context.specs.declared.line.Line.{Line}
 use Rattle.context.specs.declared.reference.FoundChanges.{FoundChanges}
 use Rattle.context.specs.declared.step.Rules as Code
@@ -33,17 +34,17 @@ use Rattle.context.proofs.Placing.{seen-b1, seen-b2}
 use Rattle.one_line.proofs.LineLoop.{Task, Asked, code, whole, Reading, reading-new, reading-length, reading-reference, reading-position, reading-width, reading-holds, reading-done, reading-codes, reading-stop, reading-less, reading-on, reading-room, reading-back}
 
 -- what the loop is given
-abbrev pub task : List ℕ → List ℕ → List ℕ → List ℕ → ℕ → ℕ → ℕ → ℕ → Code.Rules → Task
-task w b bytes xs first base width start rules =
-    record { white = w; black = b; bytes = bytes; reference = []; xs = xs; base = base; place = Kept first; width = width; at = start; rules = rules }
+abbrev pub task : List ℕ → List ℕ → ℕ → ℕ → ℕ → ℕ → Code.Rules → Task
+task bytes xs first base width start rules =
+    record { bytes = bytes; reference = []; xs = xs; base = base; place = Kept first; width = width; at = start; rules = rules }
 
 -- the changes before that of b1's place, but for the one right before it, are passed
 passed-seen : {reference : List ℕ} {least place : ℕ} → Seen reference least place → Passed least (min (length reference) (place - 1)) reference
 passed-seen s = record { inside = omega arith; each = λ i h. s .left i (omega arith) (omega arith) }
 
-module _ (w b bytes xs : List ℕ) (first base width start : ℕ) (rules : Code.Rules) where
+module _ (bytes xs : List ℕ) (first base width start : ℕ) (rules : Code.Rules) where
   abbrev T : Task
-  T = task w b bytes xs first base width start rules
+  T = task bytes xs first base width start rules
 
   -- the line that stands there is read, and its place is b1's
   pub record Standing (s : BetweenCodes) (cut : ℕ) (zs : List ℕ) : Type 0 where
@@ -85,9 +86,9 @@ module _ (w b bytes xs : List ℕ) (first base width start : ℕ) (rules : Code.
     pub standing-place : length xs < 2305843009213693952 → s .place < 4611686018427387904
     standing-place h = omega (arith, g .near, length-take (base - first) (drop first xs), length-drop first xs, standing-inside, g .reading .asked .starts .loading .size)
 
-    pub standing-walks : Walks w b bytes zs first base width s
-    standing-walks = record {
-      lookups = g .reading .asked .starts .lookups;
+    pub standing-walks : {w b : List ℕ} → Lookups w b → Walks w b bytes zs first base width s
+    standing-walks k = record {
+      lookups = k;
       loading = record { size = g .reading .asked .starts .loading .size; inside = standing-inside };
       placed = (standing-placed, standing-room);
       narrow = g .reading .asked .starts .narrow;
@@ -163,7 +164,7 @@ module _ (w b bytes xs : List ℕ) (first base width start : ℕ) (rules : Code.
         passed = passed-seen (g .seen);
       })
 
-      pub standing-codes : Coding w b bytes (midOf base (length zs - base) zs) (lineOf width s cut) (s .at) second
+      pub standing-codes : Coding bytes (midOf base (length zs - base) zs) (lineOf width s cut) (s .at) second
       standing-codes = reading-codes (g .reading) short finds
 
       module _ (r : Step) (ys : List ℕ) (c : Coded bytes (midOf base (length zs - base) zs) (lineOf width s cut) (s .at) first′ second rules r ys) where

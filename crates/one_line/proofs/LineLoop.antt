@@ -32,8 +32,6 @@ use Rattle.context.proofs.Carried.{Carries, carries-length, carries-holds, carr
 
 -- what the loop is given
 pub record Task : Type 0 where
-  pub white : List ℕ
-  pub black : List ℕ
   pub bytes : List ℕ
   pub reference : List ℕ
   pub xs : List ℕ
@@ -44,7 +42,7 @@ pub record Task : Type 0 where
   pub rules : Code.Rules
 
 abbrev pub Asked : Task → Type 0
-Asked T = Lines (T .white) (T .black) (T .bytes) (T .reference) (T .xs) (T .base) (T .place) (T .width) (T .at)
+Asked T = Lines (T .bytes) (T .reference) (T .xs) (T .base) (T .place) (T .width) (T .at)
 
 abbrev bs : Task → List Bool
 bs T = bitsOf (T .bytes)
@@ -161,9 +159,9 @@ module _ {T : Task} {l : Line} {at seen : ℕ} {zs : List ℕ} (g : Reading T l 
       finds : Finds (ref T) (l .width) (l .position) (colourOf (l .colour)) f
       finds = subst (λ (r : List ℕ). Finds r (l .width) (l .position) (colourOf (l .colour)) f) reading-reference q
 
-      pub reading-codes : Coding (T .white) (T .black) (T .bytes) (midOf (T .base) (length zs - T .base) zs) l at (f .b2)
+      pub reading-codes : Coding (T .bytes) (midOf (T .base) (length zs - T .base) zs) l at (f .b2)
       reading-codes = rw (row-lent zs (T .base)) (record {
-        reads = record { lookups = h .starts .lookups; loading = record { size = h .starts .loading .size; inside = omega (arith, g .place-is, g .inside, length-bitsOf (T .bytes)) }; holds = reading-holds };
+        reads = record { loading = record { size = h .starts .loading .size; inside = omega (arith, g .place-is, g .inside, length-bitsOf (T .bytes)) }; holds = reading-holds };
         short = let n = short in omega (arith, reading-position, reading-width, k .fits);
         ahead = rw (finds .b2-is) (b2-ahead (l .width) (ref T) (l .position) (colourOf (l .colour)) (subst (λ (n : ℕ). Rising n 0 (ref T)) (sym reading-width) (h .rising)) (reading-holds .fits));
       })

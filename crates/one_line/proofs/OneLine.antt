@@ -12,7 +12,6 @@ use Rattle.rules.specs.Pages as Page
 use Rattle.rules.specs.Pages.{mostBytes, ascends, refusal, oneLine, readOneLine, overlaid, joined, entries, changesAfter}
 use Rattle.rules.proofs.Bits.{length-bitsOf}
 use Rattle.rules.proofs.Ascending.{ascends-rises}
-use Rattle.tables.specs.Tables.{Lookups}
 use Rattle.answer.specs.Answer.{rowAnswerOf}
 use Rattle.answer.specs.declared.Answer.{Answer}
 use Rattle.context.specs.declared.line.Line.{Line}
@@ -101,11 +100,11 @@ pub record Open (bytes : List ℕ) (at columns : ℕ) (reference : List ℕ) : T
   pub inside : at ≤ 8 * length bytes
 
 module _ {bytes : List ℕ} {at columns : ℕ} {reference : List ℕ} (o : Open bytes at columns reference) where
-  pub line-asked : {w b xs : List ℕ} → Lookups w b → Lines w b bytes reference xs 0 Lent columns at
-  line-asked k =
+  pub line-asked : {xs : List ℕ} → Lines bytes reference xs 0 Lent columns at
+  line-asked =
       let n = o .narrow in
       record {
-        starts = record { lookups = k; loading = record { size = o .short; inside = o .inside }; narrow = omega (arith, o .small) };
+        starts = record { loading = record { size = o .short; inside = o .inside }; narrow = omega (arith, o .small) };
         placed = omega arith;
         rising = ascends-rises columns 0 reference (o .rising);
       }

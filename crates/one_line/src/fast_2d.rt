@@ -14,6 +14,7 @@ use swift_loops::fast_2d::BetweenCodes;
 ghost use mathlib.Core.Path.{_≡_};
 ghost use mathlib.Core.List.{[]};
 ghost use Prim.Native.Nat.{_-_, min};
+ghost use Rattle.tables.specs.Tables.{Lookups};
 ghost use Rattle.context.specs.declared.reference.Reference.the-variants.{Kept};
 ghost use Rattle.context.specs.Coding.{Coding, Coded, Lines, Lined};
 ghost use Rattle.swift_loops.specs.Swift.{lineOf};
@@ -61,9 +62,7 @@ fn stand_at(reference: &[u32], place: usize, line: Line, at: usize) -> BetweenCo
 
 // A code by the full rules, as `line_2d::code_2d`: with this caller too that one would no longer be compiled in place in the loop
 // of a line whose reference is lent, which feels it.
-fn full_code<'a>(
-    white: &'a [u16; 8192],
-    black: &'a [u16; 8192],
+fn full_code(
     src: &[u8],
     changes: &mut [u32],
     line: Line,
@@ -72,15 +71,13 @@ fn full_code<'a>(
     b2: u32,
     rules: Rules,
 ) -> Step
-    requires { ⌜ Coding (now white) (now black) (now src) (now changes) line at b2 ⌝ }
+    requires { ⌜ Coding (now src) (now changes) line at b2 ⌝ }
     ensures { λ r. ⌜ Coded (now (src .entry)) (now (changes .entry)) line at b1 b2 rules r (now (changes .exit)) ⌝ }
 {
     let bits = bit_reader::peek(src, at);
     match mode::by_zeros(src, at, bits) {
         Mode::Bad(e, place) => Step::Stop(answer::number(e), line, place),
-        Mode::Horizontal(next) => {
-            line_2d::horizontal(white, black, src, changes, line, at, next, rules)
-        }
+        Mode::Horizontal(next) => { line_2d::horizontal(src, changes, line, at, next, rules) }
         Mode::Pass(next) => {
             let pushed = line::push_pixels(changes, line, b2 - line.position, rules.strict);
             line_2d::after_push(pushed, at, next, false)
@@ -110,7 +107,7 @@ pub(crate) fn kept_line<'a>(
     start: usize,
     rules: Rules,
 ) -> Step
-    requires { ⌜ Lines (now white) (now black) (now src) [] (now changes) base (Kept first) width start ⌝ }
+    requires { ⌜ Lines (now src) [] (now changes) base (Kept first) width start × Lookups (now white) (now black) ⌝ }
     ensures { λ r. ⌜ Lined (now (src .entry)) [] (now (changes .entry)) base (Kept first) width start rules r (now (changes .exit)) ⌝ }
 {
     let mut s = BetweenCodes {
@@ -129,8 +126,6 @@ pub(crate) fn kept_line<'a>(
         let b1 = reference::change_or(&changes[first..base], t.place, width);
         let b2 = reference::change_or(&changes[first..base], t.place + 1, width);
         match full_code(
-            white,
-            black,
             src,
             &mut changes[base..],
             line_at(width, t, cut),

@@ -16,7 +16,7 @@ ghost use mathlib.Core.Path.{_≡_};
 ghost use Rattle.rules.specs.Bits.{bitsOf};
 ghost use Rattle.rules.specs.Lines.{one, readLine};
 ghost use Rattle.tables.specs.Pairs.{pairTable};
-ghost use Rattle.tables.specs.Tables.{colourOf};
+ghost use Rattle.tables.specs.Tables.{colourOf, Lookups};
 ghost use Rattle.codes.specs.Runs.{Reading, RunRead};
 ghost use Rattle.context.specs.State.{rulesFor};
 ghost use Rattle.context.specs.Outcome.{Steps, Reads, Starts, goesOn, Runs};
@@ -31,27 +31,18 @@ fn goes_on(two: bool, count: usize, line: Line) -> bool
 }
 
 // The run of a colour by either engine. The compiler takes the test out of the loop over runs: each engine has one of its own there.
-fn next_run<'a>(
-    white: &'a [u16; 8192],
-    black: &'a [u16; 8192],
-    colour: usize,
-    src: &[u8],
-    buffer: Buffer,
-    plain: bool,
-) -> Run
-    requires { ⌜ Reading (now white) (now black) (now src) buffer ⌝ }
+fn next_run(colour: usize, src: &[u8], buffer: Buffer, plain: bool) -> Run
+    requires { ⌜ Reading (now src) buffer ⌝ }
     ensures { λ r. ⌜ RunRead (colourOf colour) (now (src .entry)) (buffer .at) r ⌝ }
 {
     if plain {
         return plain::read_run(colour, src, buffer.at);
     }
-    run::read_run(white, black, colour, src, buffer)
+    run::read_run(colour, src, buffer)
 }
 
 // Runs of alternating colour from a bit on: two of them, as horizontal mode has, or to the width.
-pub fn runs<'a>(
-    white: &'a [u16; 8192],
-    black: &'a [u16; 8192],
+pub fn runs(
     src: &[u8],
     changes: &mut [u32],
     two: bool,
@@ -59,7 +50,7 @@ pub fn runs<'a>(
     at: usize,
     rules: Rules,
 ) -> Step
-    requires { ⌜ Reads (now white) (now black) (now src) (now changes) start at ⌝ }
+    requires { ⌜ Reads (now src) (now changes) start at ⌝ }
     ensures { λ r. ⌜ Runs (now (src .entry)) (now (changes .entry)) two start at rules r (now (changes .exit)) ⌝ }
 {
     let mut line = start;
@@ -67,7 +58,7 @@ pub fn runs<'a>(
     let mut count: usize = 0;
     while goes_on(two, count, line) {
         let from = buffer.at;
-        match next_run(white, black, line.colour as usize, src, buffer, rules.plain) {
+        match next_run(line.colour as usize, src, buffer, rules.plain) {
             Run::Bad(e, place) => {
                 return Step::Stop(answer::number(e), line, place);
             }
@@ -102,7 +93,7 @@ pub fn decode_1d_line<'a>(
     at: usize,
     rules: Rules,
 ) -> Step
-    requires { ⌜ Starts (now white) (now black) (now src) width at × (now both ≡ pairTable) ⌝ }
+    requires { ⌜ Starts (now src) width at × Lookups (now white) (now black) × (now both ≡ pairTable) ⌝ }
     ensures { λ r. ⌜ Steps width (now (changes .entry)) (readLine (rulesFor width rules (now (changes .entry))) one (bitsOf (now (src .entry))) at) r (now (changes .exit)) ⌝ }
 {
     let s = fast_1d::pairs(white, black, both, src, changes, width, at, rules.plain);
@@ -110,5 +101,5 @@ pub fn decode_1d_line<'a>(
     if s.position == width {
         return Step::On(line, s.at);
     }
-    runs(white, black, src, changes, false, line, s.at, rules)
+    runs(src, changes, false, line, s.at, rules)
 }

@@ -17,7 +17,7 @@ use context::step::Step;
 ghost use mathlib.Core.Path.{_≡_};
 ghost use mathlib.Core.Bool.{cond};
 ghost use Prim.Native.Nat.{_≤_};
-ghost use Rattle.tables.specs.Tables.{colourOf};
+ghost use Rattle.tables.specs.Tables.{colourOf, Lookups};
 ghost use Rattle.context.specs.declared.reference.Reference.the-variants.{Lent};
 ghost use Rattle.context.specs.Outcome.{Reads};
 ghost use Rattle.context.specs.Reference.{Finds};
@@ -76,9 +76,7 @@ pub(crate) fn unless_idle(step: Step, line: Line, at: usize, exact: bool) -> Ste
 }
 
 // A function of its own, so that the line is put into memory for `runs` only where a code is horizontal, and not at every code.
-pub(crate) fn horizontal<'a>(
-    white: &'a [u16; 8192],
-    black: &'a [u16; 8192],
+pub(crate) fn horizontal(
     src: &[u8],
     changes: &mut [u32],
     line: Line,
@@ -86,16 +84,14 @@ pub(crate) fn horizontal<'a>(
     next: usize,
     rules: Rules,
 ) -> Step
-    requires { ⌜ Reads (now white) (now black) (now src) (now changes) line next ⌝ }
+    requires { ⌜ Reads (now src) (now changes) line next ⌝ }
     ensures { λ r. ⌜ TwoRuns (now (src .entry)) (now (changes .entry)) line at next rules r (now (changes .exit)) ⌝ }
 {
-    let step = line_1d::runs(white, black, src, changes, true, line, next, rules);
+    let step = line_1d::runs(src, changes, true, line, next, rules);
     unless_idle(step, line, at, rules.exact)
 }
 
-fn code_2d<'a>(
-    white: &'a [u16; 8192],
-    black: &'a [u16; 8192],
+fn code_2d(
     src: &[u8],
     changes: &mut [u32],
     line: Line,
@@ -104,12 +100,12 @@ fn code_2d<'a>(
     b2: u32,
     rules: Rules,
 ) -> Step
-    requires { ⌜ Coding (now white) (now black) (now src) (now changes) line at b2 ⌝ }
+    requires { ⌜ Coding (now src) (now changes) line at b2 ⌝ }
     ensures { λ r. ⌜ Coded (now (src .entry)) (now (changes .entry)) line at b1 b2 rules r (now (changes .exit)) ⌝ }
 {
     match mode::read_mode(src, at) {
         Mode::Bad(e, place) => Step::Stop(answer::number(e), line, place),
-        Mode::Horizontal(next) => horizontal(white, black, src, changes, line, at, next, rules),
+        Mode::Horizontal(next) => horizontal(src, changes, line, at, next, rules),
         Mode::Pass(next) => {
             let pushed = line::push_pixels(changes, line, b2 - line.position, rules.strict);
             after_push(pushed, at, next, false)
@@ -153,9 +149,7 @@ fn find(
 }
 
 // A line code by code, by the full rules. Each search goes on where the last one stopped.
-fn line_by_codes<'a>(
-    white: &'a [u16; 8192],
-    black: &'a [u16; 8192],
+fn line_by_codes(
     src: &[u8],
     reference: &[u32],
     changes: &mut [u32],
@@ -165,7 +159,7 @@ fn line_by_codes<'a>(
     start: usize,
     rules: Rules,
 ) -> Step
-    requires { ⌜ Lines (now white) (now black) (now src) (now reference) (now changes) base place width start ⌝ }
+    requires { ⌜ Lines (now src) (now reference) (now changes) base place width start ⌝ }
     ensures { λ r. ⌜ Lined (now (src .entry)) (now (reference .entry)) (now (changes .entry)) base place width start rules r (now (changes .exit)) ⌝ }
 {
     let mut line = line::new_line(width);
@@ -174,8 +168,6 @@ fn line_by_codes<'a>(
     while line.position != line.width {
         let found = find(reference, changes, base, place, seen, line);
         match code_2d(
-            white,
-            black,
             src,
             &mut changes[base..],
             line,
@@ -221,7 +213,7 @@ pub fn decode_2d_line<'a>(
     start: usize,
     rules: Rules,
 ) -> Step
-    requires { ⌜ Lines (now white) (now black) (now src) (now reference) (now changes) base place width start ⌝ }
+    requires { ⌜ Lines (now src) (now reference) (now changes) base place width start × Lookups (now white) (now black) ⌝ }
     ensures { λ r. ⌜ Lined (now (src .entry)) (now (reference .entry)) (now (changes .entry)) base place width start rules r (now (changes .exit)) ⌝ }
 {
     match swiftly(place, rules.plain) {
@@ -229,18 +221,7 @@ pub fn decode_2d_line<'a>(
             fast_2d::kept_line(white, black, src, changes, first, base, width, start, rules)
         }
         Reference::Lent => {
-            line_by_codes(
-                white,
-                black,
-                src,
-                reference,
-                changes,
-                base,
-                place,
-                width,
-                start,
-                rules,
-            )
+            line_by_codes(src, reference, changes, base, place, width, start, rules)
         }
     }
 }

@@ -8,7 +8,6 @@ use Rattle.rules.specs.Rows.{RowOut, row, stop}
 use Rattle.rules.specs.Bits.{bitsOf}
 use Rattle.rules.specs.Pages.{overlaid, rowOf}
 use Rattle.rules.specs.Rising.{Rising}
-use Rattle.tables.specs.Tables.{Lookups}
 use Rattle.bit_reader.specs.Loaded.{Loading}
 use Rattle.context.specs.Coding.{referenceIn, Placed}
 use Rattle.settings.specs.declared.DecodeSettings.{DecodeSettings}
@@ -30,9 +29,8 @@ abbrev pub changesIn : RowOut → List ℕ
 changesIn (row changes mark st) = changes
 changesIn (stop n place bytes loose) = loose
 
--- what a row asks: the tables, a bit inside the data, a width, and a reference that rises below it
-pub record RowFrom (w b bytes lent xs : List ℕ) (settings : DecodeSettings) (st : State) : Type 0 where
-  pub lookups : Lookups w b
+-- what a row asks: a bit inside the data, a width, and a reference that rises below it
+pub record RowFrom (bytes lent xs : List ℕ) (settings : DecodeSettings) (st : State) : Type 0 where
   pub loading : Loading bytes (st .at)
   pub wide : 0 < settings .columns
   pub narrow : settings .columns < 4294967295

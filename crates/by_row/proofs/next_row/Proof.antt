@@ -52,7 +52,7 @@ row-under-requires c κs =
     let g = t .before .before in
     let s = g .before .before .before .before .before in
     rw (e .strict-if-exact .ensures)
-    (next-asks (now (s .args .src)) (s .args .settings) (s .args .state) (now (s .args .reference)) (now (s .args .changes)) (s .pre) (sym (not-false _ (g .if1 .left)) ∙ g .before .is-sound .ensures) (t .if2 .left) (record { of-white = e .before .before .before .before .before .before .white-lookup .ensures; of-black = e .before .before .before .before .before .black-lookup .ensures }), e .before .before .before .before .pair-lookup .ensures)
+    (next-asks (now (s .args .src)) (s .args .settings) (s .args .state) (now (s .args .reference)) (now (s .args .changes)) (s .pre) (sym (not-false _ (g .if1 .left)) ∙ g .before .is-sound .ensures) (t .if2 .left), record { of-white = e .before .before .before .before .before .before .white-lookup .ensures; of-black = e .before .before .before .before .before .black-lookup .ensures }, e .before .before .before .before .pair-lookup .ensures)
 
 enum-known-count : tie.Need-enum-known-count
 enum-known-count c = search needs

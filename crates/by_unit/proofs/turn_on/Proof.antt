@@ -75,16 +75,10 @@ returns-4 c =
     let a = c .before .before .before .before .before .before .before .before .before .before .before .before .before .before .before .before .args in
     turn-no-columns (now (a .src)) (a .settings) (now (a .changes)) (now (a .ends)) (now (a .marks)) (a .saved) (a .n) (c .before .before .before .before .before .before .before .before .before .before .if1 .left) (c .before .before .before .before .before .before .before .before .before .if2 .left) (sym (c .before .before .before .before .before .is-sound .ensures) ∙ not-false _ (c .before .before .before .before .if3 .left)) (c .before .before .if4 .taken) _ (c .before .refusal4 .ensures) _ (c .ended .ensures)
 
-white-lookup-requires : tie.Need-white-lookup-requires
-white-lookup-requires c κs = search needs
-
-black-lookup-requires : tie.Need-black-lookup-requires
-black-lookup-requires c κs = search needs
-
 kept-requires : tie.Need-kept-requires
 kept-requires c κs =
-    let a = c .before .before .before .before .before .before .before .before .before .before .before .before .before .before .before .before .before .args in
-    omega (arith, placed (now (a .src)) (a .settings) (now (a .changes)) (now (a .ends)) (now (a .marks)) (a .saved) (a .n) (c .before .before .before .before .before .before .before .before .before .before .before .if1 .left) (c .before .before .before .before .before .before .before .before .before .before .if2 .left) (sym (c .before .before .before .before .before .before .is-sound .ensures) ∙ not-false _ (c .before .before .before .before .before .if3 .left)), min-le-left (length (now (a .ends))) (length (now (a .marks))))
+    let a = c .before .before .before .before .before .before .before .before .before .before .before .before .before .before .before .args in
+    omega (arith, placed (now (a .src)) (a .settings) (now (a .changes)) (now (a .ends)) (now (a .marks)) (a .saved) (a .n) (c .before .before .before .before .before .before .before .before .before .if1 .left) (c .before .before .before .before .before .before .before .before .if2 .left) (sym (c .before .before .before .before .is-sound .ensures) ∙ not-false _ (c .before .before .before .if3 .left)), min-le-left (length (now (a .ends))) (length (now (a .marks))))
 
 stand-requires : tie.Need-stand-requires
 stand-requires c κs = search needs
@@ -94,10 +88,8 @@ as-read-requires c κs = search needs
 
 take-requires : tie.Need-take-requires
 take-requires c κs =
-    let a = c .before .before .before .before .before .before .before .before .before .before .before .before .before .before .before .before .before .before .before .before .before .before .before .before .before .args in (
-      record { of-white = c .before .before .before .before .before .before .before .before .before .before .white-lookup .ensures; of-black = c .before .before .before .before .before .before .before .before .before .black-lookup .ensures },
-      turn-asks (now (a .src)) (a .settings) (now (a .changes)) (now (a .ends)) (now (a .marks)) (a .saved) (a .n) (c .before .before .before .before .before .before .before .before .before .before .before .before .before .before .before .before .before .before .before .if1 .left) (c .before .before .before .before .before .before .before .before .before .before .before .before .before .before .before .before .before .before .if2 .left) (sym (c .before .before .before .before .before .before .before .before .before .before .before .before .before .before .is-sound .ensures) ∙ not-false _ (c .before .before .before .before .before .before .before .before .before .before .before .before .before .if3 .left)) (c .before .before .before .before .before .before .before .before .before .before .before .if4 .left) (omega (arith, c .before .before .before .before .before .before .before .before .before .before .before .before .before .before .before .before .before .before .before .before .struct-known .given)) _ (c .before .before .before .before .before .as-read .ensures) _ (c .before .before .before .before .before .before .before .kept .ensures) _ (c .before .before .before .before .before .before .stand .ensures),
-    )
+    let a = c .before .before .before .before .before .before .before .before .before .before .before .before .before .before .before .before .before .before .before .before .before .args in
+    turn-asks (now (a .src)) (a .settings) (now (a .changes)) (now (a .ends)) (now (a .marks)) (a .saved) (a .n) (c .before .before .before .before .before .before .before .before .before .before .before .before .before .before .before .if1 .left) (c .before .before .before .before .before .before .before .before .before .before .before .before .before .before .if2 .left) (sym (c .before .before .before .before .before .before .before .before .before .before .is-sound .ensures) ∙ not-false _ (c .before .before .before .before .before .before .before .before .before .if3 .left)) (c .before .before .before .before .before .before .before .if4 .left) (omega (arith, c .before .before .before .before .before .before .before .before .before .before .before .before .before .before .before .before .struct-known .given)) _ (c .before .before .before .as-read .ensures) _ (c .before .before .before .before .before .kept .ensures) _ (c .before .before .before .before .stand .ensures)
 
 turn-of-requires : tie.Need-turn-of-requires
 turn-of-requires c κs = search needs
@@ -113,9 +105,9 @@ same-length-9 c = search needs
 
 returns-5 : tie.Need-returns-5
 returns-5 c =
-    let a = c .before .before .before .before .before .before .before .before .before .before .before .before .before .before .before .before .before .before .before .before .before .before .before .before .before .before .before .before .before .before .before .before .before .args in
-    turn-reads (now (a .src)) (a .settings) (now (a .changes)) (now (a .ends)) (now (a .marks)) (a .saved) (a .n) (c .before .before .before .before .before .before .before .before .before .before .before .before .before .before .before .before .before .before .before .before .before .before .before .before .before .before .before .if1 .left) (c .before .before .before .before .before .before .before .before .before .before .before .before .before .before .before .before .before .before .before .before .before .before .before .before .before .before .if2 .left) (sym (c .before .before .before .before .before .before .before .before .before .before .before .before .before .before .before .before .before .before .before .before .before .before .is-sound .ensures) ∙ not-false _ (c .before .before .before .before .before .before .before .before .before .before .before .before .before .before .before .before .before .before .before .before .before .if3 .left)) (c .before .before .before .before .before .before .before .before .before .before .before .before .before .before .before .before .before .before .before .if4 .left) (omega (arith, c .before .before .before .before .before .before .before .before .before .before .before .before .before .before .before .before .before .before .before .before .before .before .before .before .before .before .before .before .struct-known .given)) _ _ _ _
-    (turn-took (now (a .src)) (a .settings) (now (a .changes)) (now (a .ends)) (now (a .marks)) (a .saved) (a .n) (c .before .before .before .before .before .before .before .before .before .before .before .before .before .before .before .before .before .before .before .before .before .before .before .before .before .before .before .if1 .left) (c .before .before .before .before .before .before .before .before .before .before .before .before .before .before .before .before .before .before .before .before .before .before .before .before .before .before .if2 .left) (sym (c .before .before .before .before .before .before .before .before .before .before .before .before .before .before .before .before .before .before .before .before .before .before .is-sound .ensures) ∙ not-false _ (c .before .before .before .before .before .before .before .before .before .before .before .before .before .before .before .before .before .before .before .before .before .if3 .left)) (c .before .before .before .before .before .before .before .before .before .before .before .before .before .before .before .before .before .before .before .if4 .left) (omega (arith, c .before .before .before .before .before .before .before .before .before .before .before .before .before .before .before .before .before .before .before .before .before .before .before .before .before .before .before .before .struct-known .given)) _ (c .before .before .before .before .before .before .before .before .before .before .before .before .before .as-read .ensures) _ (c .before .before .before .before .before .before .before .before .before .before .before .before .before .before .before .kept .ensures) _ (c .before .before .before .before .before .before .before .before .before .before .before .before .before .before .stand .ensures) _ _ _ _ (c .before .before .before .before .before .before .before .take .ensures))
+    let a = c .before .before .before .before .before .before .before .before .before .before .before .before .before .before .before .before .before .before .before .before .before .before .before .before .before .before .before .before .before .args in
+    turn-reads (now (a .src)) (a .settings) (now (a .changes)) (now (a .ends)) (now (a .marks)) (a .saved) (a .n) (c .before .before .before .before .before .before .before .before .before .before .before .before .before .before .before .before .before .before .before .before .before .before .before .if1 .left) (c .before .before .before .before .before .before .before .before .before .before .before .before .before .before .before .before .before .before .before .before .before .before .if2 .left) (sym (c .before .before .before .before .before .before .before .before .before .before .before .before .before .before .before .before .before .before .is-sound .ensures) ∙ not-false _ (c .before .before .before .before .before .before .before .before .before .before .before .before .before .before .before .before .before .if3 .left)) (c .before .before .before .before .before .before .before .before .before .before .before .before .before .before .before .if4 .left) (omega (arith, c .before .before .before .before .before .before .before .before .before .before .before .before .before .before .before .before .before .before .before .before .before .before .before .before .struct-known .given)) _ _ _ _
+    (turn-took (now (a .src)) (a .settings) (now (a .changes)) (now (a .ends)) (now (a .marks)) (a .saved) (a .n) (c .before .before .before .before .before .before .before .before .before .before .before .before .before .before .before .before .before .before .before .before .before .before .before .if1 .left) (c .before .before .before .before .before .before .before .before .before .before .before .before .before .before .before .before .before .before .before .before .before .before .if2 .left) (sym (c .before .before .before .before .before .before .before .before .before .before .before .before .before .before .before .before .before .before .is-sound .ensures) ∙ not-false _ (c .before .before .before .before .before .before .before .before .before .before .before .before .before .before .before .before .before .if3 .left)) (c .before .before .before .before .before .before .before .before .before .before .before .before .before .before .before .if4 .left) (omega (arith, c .before .before .before .before .before .before .before .before .before .before .before .before .before .before .before .before .before .before .before .before .before .before .before .before .struct-known .given)) _ (c .before .before .before .before .before .before .before .before .before .before .before .as-read .ensures) _ (c .before .before .before .before .before .before .before .before .before .before .before .before .before .kept .ensures) _ (c .before .before .before .before .before .before .before .before .before .before .before .before .stand .ensures) _ _ _ _ (c .before .before .before .before .before .before .before .take .ensures))
     _ (c .turn-of .ensures)
 
 pub turn-on-spec : {M : Type 1} → statement M
@@ -141,8 +133,6 @@ turn-on-spec =
     same-length-5
     same-length-6
     returns-4
-    white-lookup-requires
-    black-lookup-requires
     kept-requires
     stand-requires
     as-read-requires

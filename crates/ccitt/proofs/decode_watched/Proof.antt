@@ -39,11 +39,11 @@ page-requires : tie.Need-page-requires
 page-requires c κs =
     rw (c .before .before .before .before .before .before .strict-if-exact .ensures) (
       record {
-        lookups = record { of-white = c .before .before .before .before .before .before .before .before .before .white-lookup .ensures; of-black = c .before .before .before .before .before .before .before .before .black-lookup .ensures };
         size = search needs;
         wide = search needs;
         narrow = search needs;
       },
+      record { of-white = c .before .before .before .before .before .before .before .before .before .white-lookup .ensures; of-black = c .before .before .before .before .before .before .before .before .black-lookup .ensures },
       c .before .before .before .before .before .before .before .pair-lookup .ensures,
     )
 

@@ -22,7 +22,7 @@ loop-holds : tie.Need-loop-holds Inv-loop μ-loop
 loop-holds c = let s = c .before .before .before .before .before in (c .places .ensures, turn-start (now (s .args .src)) (s .args .settings) (now (s .args .changes)) (now (s .args .ends)) (now (s .args .marks)) (s .pre .0))
 
 row-requires : tie.Need-row-requires Inv-loop μ-loop
-row-requires c κs = let pre = c .before .before .before .before .before .before .before .pre in (turn-asked (c .before .loop .inv .1) (pre .0 .lookups), pre .1)
+row-requires c κs = let pre = c .before .before .before .before .before .before .before .pre in (turn-asked (c .before .loop .inv .1), pre .1, pre .2)
 
 enum-known-number : tie.Need-enum-known-number Inv-loop μ-loop
 enum-known-number c = search needs

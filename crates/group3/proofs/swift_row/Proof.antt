@@ -24,7 +24,7 @@ add-row-at c = search needs
 row-at-requires : tie.Need-row-at-requires
 row-at-requires c κs =
     let pre = c .before .before .before .before .before .before .before .pre in
-    (line-seen (pre .0) (sym (c .before .before .before .is-usual .ensures) ∙ not-false _ (c .before .before .if1 .left)), pre .1)
+    (line-seen (pre .0) (sym (c .before .before .before .is-usual .ensures) ∙ not-false _ (c .before .before .if1 .left)), pre .1, pre .2)
 
 same-length-2 : tie.Need-same-length-2
 same-length-2 c = search needs

@@ -44,26 +44,26 @@ part-end-run-end c = search needs
 end-run-requires : tie.Need-end-run-requires
 end-run-requires c κs =
     let a = c .before .before .before .before .before .before .before .before .before .before .before .args in
-    let p = c .before .before .before .before .before .before .before .before .before .before .before .pre .1 in
+    let p = c .before .before .before .before .before .before .before .before .before .before .before .pre in
     row-holds (now (a .src)) (a .settings) (now (a .changes)) (now (a .ends)) (now (a .marks)) (a .kept) (a .line) (a .at) (a .seen) (p .asked) (p .kept) (p .stand)
 
 after-run-requires : tie.Need-after-run-requires
 after-run-requires c κs =
     let a = c .before .before .before .before .before .before .before .before .before .before .before .before .before .before .before .before .args in
-    let p = c .before .before .before .before .before .before .before .before .before .before .before .before .before .before .before .before .pre .1 in
-    run-last-ends (now (a .src)) (a .settings) (now (a .changes)) (now (a .ends)) (now (a .marks)) (a .kept) (a .line) (a .at) (a .seen) (p .asked) (p .kept) (p .stand) (a .half) (a .from) (a .total) (c .before .before .before .before .before .before .before .before .before .before .run-code .result) (c .before .before .before .before .before .before .before .before .before .before .run-code .ensures) _ _ (c .before .before .before .before .before .before .before .before .sum2 .given .1) (c .before .before .before .before .end-run .result) _ (rw (c .before .before .before .before .before .before .rules-of .ensures) at (c .before .before .before .before .end-run .ensures)) (omega (arith, c .before .before .before .before .before .before .before .before .before .before .before .before .before .before .before .before .good .1 .1 .1 .1 .0 .1))
+    let p = c .before .before .before .before .before .before .before .before .before .before .before .before .before .before .before .before .pre in
+    run-last-ends (now (a .src)) (a .settings) (now (a .changes)) (now (a .ends)) (now (a .marks)) (a .kept) (a .line) (a .at) (a .seen) (p .asked) (p .kept) (p .stand) (a .half) (a .from) (a .total) (c .before .before .before .before .before .before .before .before .before .before .run-code .result) (c .before .before .before .before .before .before .before .before .before .before .run-code .ensures) _ _ (c .before .before .before .before .before .before .before .before .sum2 .given .1) (c .before .before .before .before .end-run .result) _ (rw (c .before .before .before .before .before .before .rules-of .ensures) at (c .before .before .before .before .end-run .ensures)) (omega (arith, c .before .before .before .before .before .before .before .before .before .before .before .before .before .before .before .before .good .1 .1 .0 .1))
 
 returns : tie.Need-returns
 returns c =
     let a = c .before .before .before .before .before .before .before .before .before .before .before .args in
-    let p = c .before .before .before .before .before .before .before .before .before .before .before .pre .1 in
+    let p = c .before .before .before .before .before .before .before .before .before .before .before .pre in
     rw (c .said .ensures, c .before .number .ensures)
     (run-bad (now (a .src)) (a .settings) (now (a .changes)) (now (a .ends)) (now (a .marks)) (a .kept) (a .line) (a .at) (a .seen) (p .asked) (p .kept) (p .stand) (a .half) (a .from) (a .total) (c .before .before .before .before .before .run-code .result) (c .before .before .before .before .before .run-code .ensures) _ _ (c .before .before .before .e .given .1))
 
 returns-2 : tie.Need-returns-2
 returns-2 c =
     let a = c .before .before .before .before .before .before .before .before .before .args in
-    let p = c .before .before .before .before .before .before .before .before .before .pre .1 in
+    let p = c .before .before .before .before .before .before .before .before .before .pre in
     run-more (now (a .src)) (a .settings) (now (a .changes)) (now (a .ends)) (now (a .marks)) (a .kept) (a .line) (a .at) (a .seen) (p .asked) (p .kept) (p .stand) (a .half) (a .from) (a .total) (c .before .before .before .run-code .result) (c .before .before .before .run-code .ensures) _ _ (c .before .sum .given .1)
 
 same-length : tie.Need-same-length
@@ -78,7 +78,7 @@ same-length-3 c = search needs
 returns-3 : tie.Need-returns-3
 returns-3 c =
     let a = c .before .before .before .before .before .before .before .before .before .before .before .before .before .before .before .before .before .before .before .before .before .args in
-    let p = c .before .before .before .before .before .before .before .before .before .before .before .before .before .before .before .before .before .before .before .before .before .pre .1 in
+    let p = c .before .before .before .before .before .before .before .before .before .before .before .before .before .before .before .before .before .before .before .before .before .pre in
     run-last (now (a .src)) (a .settings) (now (a .changes)) (now (a .ends)) (now (a .marks)) (a .kept) (a .line) (a .at) (a .seen) (p .asked) (p .kept) (p .stand) (a .half) (a .from) (a .total) (c .before .before .before .before .before .before .before .before .before .before .before .before .before .before .before .run-code .result) (c .before .before .before .before .before .before .before .before .before .before .before .before .before .before .before .run-code .ensures) _ _ (c .before .before .before .before .before .before .before .before .before .before .before .before .before .sum2 .given .1) (c .before .before .before .before .before .before .before .before .before .end-run .result) _ (rw (c .before .before .before .before .before .before .before .before .before .before .before .rules-of .ensures) at (c .before .before .before .before .before .before .before .before .before .end-run .ensures)) _ _ _ (c .before .before .before .before .after-run .ensures)
 
 pub run-unit-spec : {M : Type 1} → statement M

@@ -10,7 +10,7 @@ enum-known-stand c = search needs
 eol-unit-requires : tie.Need-eol-unit-requires
 eol-unit-requires c κs =
     let a = c .before .before .before .before .before .before .before .args in
-    let u = asks-at (now (a .src)) (a .settings) (now (a .changes)) (now (a .ends)) (now (a .marks)) (a .kept) (a .stand) (a .seen) _ (c .before .stand .given .1) (c .before .before .before .before .before .before .before .pre .1) in
+    let u = asks-at (now (a .src)) (a .settings) (now (a .changes)) (now (a .ends)) (now (a .marks)) (a .kept) (a .stand) (a .seen) _ (c .before .stand .given .1) (c .before .before .before .before .before .before .before .pre) in
     record { size = u .asked .size; inside = u .stand }
 
 enum-known-stand-2 : tie.Need-enum-known-stand-2
@@ -19,7 +19,7 @@ enum-known-stand-2 c = search needs
 mode-unit-requires : tie.Need-mode-unit-requires
 mode-unit-requires c κs =
     let a = c .before .before .before .before .before .before .before .before .before .before .args in
-    asks-at (now (a .src)) (a .settings) (now (a .changes)) (now (a .ends)) (now (a .marks)) (a .kept) (a .stand) (a .seen) _ (c .before .before .before .before .stand2 .given .1) (c .before .before .before .before .before .before .before .before .before .before .pre .1)
+    asks-at (now (a .src)) (a .settings) (now (a .changes)) (now (a .ends)) (now (a .marks)) (a .kept) (a .stand) (a .seen) _ (c .before .before .before .before .stand2 .given .1) (c .before .before .before .before .before .before .before .before .before .before .pre)
 
 enum-known-stand-3 : tie.Need-enum-known-stand-3
 enum-known-stand-3 c = search needs
@@ -27,12 +27,12 @@ enum-known-stand-3 c = search needs
 run-unit-requires : tie.Need-run-unit-requires
 run-unit-requires c κs =
     let a = c .before .before .before .before .before .before .before .before .before .before .args in
-    (c .before .before .before .before .before .before .before .before .before .before .pre .0, asks-at (now (a .src)) (a .settings) (now (a .changes)) (now (a .ends)) (now (a .marks)) (a .kept) (a .stand) (a .seen) _ (c .before .before .before .before .stand3 .given .1) (c .before .before .before .before .before .before .before .before .before .before .pre .1))
+    asks-at (now (a .src)) (a .settings) (now (a .changes)) (now (a .ends)) (now (a .marks)) (a .kept) (a .stand) (a .seen) _ (c .before .before .before .before .stand3 .given .1) (c .before .before .before .before .before .before .before .before .before .before .pre)
 
 returns : tie.Need-returns
 returns c =
     let a = c .before .before .before .before .before .before .before .before .args in
-    eol-gives (now (a .src)) (a .settings) (now (a .changes)) (now (a .ends)) (now (a .marks)) (a .kept) (a .stand) (a .seen) _ (c .before .before .stand .given .1) (c .before .before .before .before .before .before .before .before .pre .1) _ (c .eol-unit .ensures)
+    eol-gives (now (a .src)) (a .settings) (now (a .changes)) (now (a .ends)) (now (a .marks)) (a .kept) (a .stand) (a .seen) _ (c .before .before .stand .given .1) (c .before .before .before .before .before .before .before .before .pre) _ (c .eol-unit .ensures)
 
 same-length : tie.Need-same-length
 same-length c = search needs

@@ -20,10 +20,10 @@ code : (c : tie.After-look-up) → let s = c .before .before .args in foundOf (c
 code c = c .look-up .ensures ∙ sym (plain-is-lookup _ _)
 
 add-code-requires : tie.Need-add-code-requires
-add-code-requires c κs = let p = c .before .before .pre .loading in addable _ _ _ (p .inside) (p .size) (c .look-up .result) (code c)
+add-code-requires c κs = let p = c .before .before .pre in addable _ _ _ (p .inside) (p .size) (c .look-up .result) (code c)
 
 returns : tie.Need-returns
-returns c = c .add-code .ensures ∙ code-steps _ _ _ (c .before .before .before .pre .loading .inside) _ _ (code (c .before))
+returns c = c .add-code .ensures ∙ code-steps _ _ _ (c .before .before .before .pre .inside) _ _ (code (c .before))
 
 pub read-code-spec : {M : Type 1} → statement M
 read-code-spec = tie.close (tie.spec look-up-requires add-code-requires returns)

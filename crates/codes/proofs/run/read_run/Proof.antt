@@ -13,25 +13,19 @@ use Rattle.codes.proofs.run.read_run.Statement.{statement}
 use Rattle.codes.proofs.run.read_run.Tie as tie
 
 abbrev Inv-loop : tie.InvT-loop
-Inv-loop white black colour src table b₀ sum₀ b sum = Going (colourOf colour) src (b₀ .at) b sum
+Inv-loop colour src b₀ sum₀ b sum = Going (colourOf colour) src (b₀ .at) b sum
 
 abbrev μ-loop : tie.MeasureT-loop
-μ-loop white black colour src table b₀ sum₀ b sum = 8 * length src - b .at
-
-table-of-requires : tie.Need-table-of-requires Inv-loop μ-loop
-table-of-requires c κs = c .before .pre .lookups
+μ-loop colour src b₀ sum₀ b sum = 8 * length src - b .at
 
 loop-holds : tie.Need-loop-holds Inv-loop μ-loop
-loop-holds c = begin (c .before .before .pre .loaded)
+loop-holds c = begin (c .before .pre .loaded)
 
 top13-requires : tie.Need-top13-requires Inv-loop μ-loop
 top13-requires c κs = tt
 
-mul-entry : tie.Need-mul-entry Inv-loop μ-loop
-mul-entry c = omega (arith, c .top13 .ensures .small)
-
-element-copy-out-entry : tie.Need-element-copy-out-entry Inv-loop μ-loop
-element-copy-out-entry c = c .top13 .ensures .small
+entry-requires : tie.Need-entry-requires Inv-loop μ-loop
+entry-requires c κs = c .top13 .ensures .small
 
 run-in-requires : tie.Need-run-in-requires Inv-loop μ-loop
 run-in-requires c κs = tt
@@ -41,7 +35,7 @@ size-in-requires c κs = tt
 
 feed-requires : tie.Need-feed-requires Inv-loop μ-loop
 feed-requires c κs = record {
-  size = c .before .before .before .before .before .before .before .pre .size;
+  size = c .before .before .before .before .before .before .pre .size;
   loaded = c .before .before .before .before .loop .inv .loaded;
   few = c .size-in .ensures .1;
 }
@@ -54,16 +48,16 @@ enum-told c = search needs
 
 -- what a turn knows once it has the entry
 turn : (c : tie.After-size-in Inv-loop μ-loop) →
-    let s = c .before .before .before .before .before .before .before .args in
+    let s = c .before .before .before .before .before .before .args in
     let l = c .before .before .before .before .loop in
     Turn (colourOf (s .colour)) (now (s .src)) (s .start .at) (l .b) (l .sum) (c .before .run-in .result) (c .size-in .result)
 turn c =
-    look (c .before .before .before .before .loop .inv) (c .before .before .before .before .before .table-of .ensures)
+    look (c .before .before .before .before .loop .inv) (c .before .before .entry .ensures)
     (c .before .before .before .top13 .ensures) (c .before .run-in .ensures) (c .size-in .ensures .0)
 
 -- the buffer behind the entry's code
 fed : (c : tie.After-next Inv-loop μ-loop) →
-    let s = c .before .before .before .before .before .before .before .before .before .before .args in
+    let s = c .before .before .before .before .before .before .before .before .before .args in
     let b = c .before .before .before .before .before .before .before .loop .b in
     LoadedAt (now (s .src)) (b .at + c .before .before .before .size-in .result) (c .next .given .0 .0)
 fed c = subst (fedAt _ _) (c .next .given .1) (c .before .before .feed .ensures)
@@ -113,11 +107,9 @@ read-run-spec =
     (tie.spec
     Inv-loop
     μ-loop
-    table-of-requires
     loop-holds
     top13-requires
-    mul-entry
-    element-copy-out-entry
+    entry-requires
     run-in-requires
     size-in-requires
     feed-requires

@@ -8,7 +8,7 @@ use Rattle.one_line.proofs.line_1d.decode_1d_line.Statement.{statement}
 use Rattle.one_line.proofs.line_1d.decode_1d_line.Tie as tie
 
 pairs-requires : tie.Need-pairs-requires
-pairs-requires c κs = record { lookups = c .before .before .before .pre .0 .lookups; pairs = c .before .before .before .pre .1; loading = c .before .before .before .pre .0 .loading; narrow = c .before .before .before .pre .0 .narrow }
+pairs-requires c κs = record { lookups = c .before .before .before .pre .1; pairs = c .before .before .before .pre .2; loading = c .before .before .before .pre .0 .loading; narrow = c .before .before .before .pre .0 .narrow }
 
 line-of-requires : tie.Need-line-of-requires
 line-of-requires c κs = search needs
@@ -23,7 +23,6 @@ runs-requires : tie.Need-runs-requires
 runs-requires c κs =
     rw (c .before .before .before .line-of .ensures)
     (record {
-      lookups = c .before .before .before .before .before .before .before .before .before .before .pre .0 .lookups;
       loading = record { size = c .before .before .before .before .before .before .before .before .before .before .pre .0 .loading .size; inside = omega (arith, c .before .before .before .before .before .before .pairs .ensures .inside, length-bitsOf (now (c .before .before .before .before .before .before .before .before .before .before .args .src))) };
       holds = ran-holds (now (c .before .before .before .before .before .before .before .before .before .before .args .src)) (now (c .before .before .before .before .before .before .before .before .before .before .args .changes)) (c .before .before .before .before .before .before .before .before .before .before .args .width) (c .before .before .before .before .before .before .before .before .before .before .args .at) (c .before .before .before .before .before .before .before .before .before .before .args .rules) (c .before .before .before .before .before .before .before .before .before .before .pre .0 .narrow) (c .before .before .before .before .before .before .pairs .ensures);
     })

@@ -9,10 +9,10 @@ use Rattle.one_line.proofs.line_1d.runs.Statement.{statement}
 use Rattle.one_line.proofs.line_1d.runs.Tie as tie
 
 abbrev Inv-loop : tie.InvT-loop
-Inv-loop white black src changes₀ two at rules line₀ buffer₀ count₀ changes line buffer count = Going (record { bytes = src; xs = changes₀; two = two; rules = rules; line = line₀; at = at }) count line buffer changes
+Inv-loop src changes₀ two at rules line₀ buffer₀ count₀ changes line buffer count = Going (record { bytes = src; xs = changes₀; two = two; rules = rules; line = line₀; at = at }) count line buffer changes
 
 abbrev μ-loop : tie.MeasureT-loop
-μ-loop white black src changes₀ two at rules line₀ buffer₀ count₀ changes line buffer count = 8 * length src - buffer .at
+μ-loop src changes₀ two at rules line₀ buffer₀ count₀ changes line buffer count = 8 * length src - buffer .at
 
 load-requires : tie.Need-load-requires Inv-loop μ-loop
 load-requires c κs = search needs
@@ -29,7 +29,7 @@ cast-next-run c =
     omega (arith, going-holds (c .before .before .before .loop .inv) .coloured)
 
 next-run-requires : tie.Need-next-run-requires Inv-loop μ-loop
-next-run-requires c κs = record { lookups = c .before .before .before .before .before .before .before .pre .lookups; size = c .before .before .before .before .before .before .before .pre .loading .size; loaded = c .before .before .before .loop .inv .loaded }
+next-run-requires c κs = record { size = c .before .before .before .before .before .before .before .pre .loading .size; loaded = c .before .before .before .loop .inv .loaded }
 
 enum-known-e : tie.Need-enum-known-e Inv-loop μ-loop
 enum-known-e c = search needs

@@ -24,13 +24,13 @@ kept-line-requires : tie.Need-kept-line-requires
 kept-line-requires c κs =
     let asks = c .before .before .before .before .before .before .before .before .pre in
     let kept = kept-is (c .before .before .before .before .before .before .before .before .args .rules .plain) (c .before .before .before .before .swiftly .ensures) (c .before .before .first .given .1) in
-    record { starts = asks .starts; placed = rw kept at (asks .placed); rising = rw kept at (asks .rising) }
+    (record { starts = asks .0 .starts; placed = rw kept at (asks .0 .placed); rising = rw kept at (asks .0 .rising) }, asks .1)
 
 enum-told : tie.Need-enum-told
 enum-told c = search needs
 
 line-by-codes-requires : tie.Need-line-by-codes-requires
-line-by-codes-requires c κs = c .before .before .before .before .before .before .before .pre
+line-by-codes-requires c κs = c .before .before .before .before .before .before .before .pre .0
 
 same-length : tie.Need-same-length
 same-length c = search needs

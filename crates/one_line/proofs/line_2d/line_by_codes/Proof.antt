@@ -8,11 +8,11 @@ use Rattle.one_line.proofs.line_2d.line_by_codes.Statement.{statement}
 use Rattle.one_line.proofs.line_2d.line_by_codes.Tie as tie
 
 abbrev Inv-loop : tie.InvT-loop
-Inv-loop white black src reference changes₀ base place width start rules line₀ at₀ seen₀ changes line at seen =
-    Reading (record { white = white; black = black; bytes = src; reference = reference; xs = changes₀; base = base; place = place; width = width; at = start; rules = rules }) line at seen changes
+Inv-loop src reference changes₀ base place width start rules line₀ at₀ seen₀ changes line at seen =
+    Reading (record { bytes = src; reference = reference; xs = changes₀; base = base; place = place; width = width; at = start; rules = rules }) line at seen changes
 
 abbrev μ-loop : tie.MeasureT-loop
-μ-loop white black src reference changes₀ base place width start rules line₀ at₀ seen₀ changes line at seen =
+μ-loop src reference changes₀ base place width start rules line₀ at₀ seen₀ changes line at seen =
     8 * length src - at
 
 new-line-requires : tie.Need-new-line-requires Inv-loop μ-loop
@@ -28,7 +28,7 @@ find-requires c κs =
 
 mul-code-2d : tie.Need-mul-code-2d Inv-loop μ-loop
 mul-code-2d c =
-    omega (arith, c .before .before .before .before .before .before .before .before .before .good .1 .1 .1 .1 .0 .1, reading-length (c .before .before .before .before .loop .inv), reading-room (c .before .before .before .before .loop .inv))
+    omega (arith, c .before .before .before .before .before .before .before .before .before .good .1 .1 .0 .1, reading-length (c .before .before .before .before .loop .inv), reading-room (c .before .before .before .before .loop .inv))
 
 sub-code-2d : tie.Need-sub-code-2d Inv-loop μ-loop
 sub-code-2d c =
@@ -49,7 +49,7 @@ enum-known-number c = search needs
 
 same-length : tie.Need-same-length Inv-loop μ-loop
 same-length c =
-    reading-back (c .before .before .before .before .before .before .before .before .before .before .before .loop .inv) (c .before .before .before .before .before .code-2d .last .1 .1 .1 .0) (c .before .before .before .before .before .code-2d .kept .1 .1 .1 .0)
+    reading-back (c .before .before .before .before .before .before .before .before .before .before .before .loop .inv) (c .before .before .before .before .before .code-2d .last .1 .0) (c .before .before .before .before .before .code-2d .kept .1 .0)
 
 returns : tie.Need-returns Inv-loop μ-loop
 returns c = reading-stop (c .before .before .before .before .before .before .before .before .before .before .before .loop .inv) (c .before .before .before .before .before .before .before .before .before .if1 .taken) (c .before .before .before .before .before .before .before .find .ensures) _ _ (c .before .before .before .before .before .code-2d .ensures) (c .before .number .given .1)

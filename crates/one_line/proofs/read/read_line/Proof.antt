@@ -61,7 +61,7 @@ black-lookup-requires : tie.Need-black-lookup-requires
 black-lookup-requires c κs = search needs
 
 decode-2d-line-requires : tie.Need-decode-2d-line-requires
-decode-2d-line-requires c κs = line-asked (opened (c .before .before .before .before .before)) (record { of-white = c .before .before .before .before .white-lookup .ensures; of-black = c .before .before .before .black-lookup .ensures })
+decode-2d-line-requires c κs = (line-asked (opened (c .before .before .before .before .before)), record { of-white = c .before .before .before .before .white-lookup .ensures; of-black = c .before .before .before .black-lookup .ensures })
 
 answer-requires : tie.Need-answer-requires
 answer-requires c κs = search needs
