@@ -20,7 +20,9 @@ use Rattle.rules.proofs.Bits.{length-bitsOf}
 use Rattle.rules.proofs.Ascending.{ascends-rises}
 use Rattle.rules.proofs.Budget.{whole-bytes}
 use Rattle.rules.proofs.ByRow.{Bounded, row-bounded}
+use Rattle.context.specs.declared.reference.Reference.{Reference}
 use Rattle.context.specs.declared.reference.Reference.the-variants.{Lent}
+use Rattle.context.specs.Coding.{TabledFor, PairedFor}
 use Rattle.settings.specs.declared.DecodeSettings.{DecodeSettings}
 use Rattle.settings.specs.declared.State.{State}
 use Rattle.settings.specs.declared.Row.{Row}
@@ -320,3 +322,11 @@ module _ (bytes : List ℕ) (settings : DecodeSettings) (st : RowState) (referen
 
           pub next-ended : false ≡ tooFew (settingsOf settings) n (st .rows) → (s : RowStep) → Ends st n place b loose s → Next bytes settings st reference xs s ys
           next-ended t s f = ended-so n place b (inl few) (λ k. ap (λ (c : Bool). cond c (stop 14 0 0 k) (stop n place b k)) (sym t)) s f
+
+-- ---- The tables: a row whose reference is lent asks for none
+
+pub none-tabled : {place : Reference} (w b : List ℕ) → place ≡ Lent → TabledFor place w b
+none-tabled w b e = subst (λ (p : Reference). TabledFor p w b) (sym e) tt
+
+pub none-paired : {place : Reference} (w b both : List ℕ) → place ≡ Lent → PairedFor place w b both
+none-paired w b both e = subst (λ (p : Reference). PairedFor p w b both) (sym e) tt

@@ -10,8 +10,7 @@ ghost use mathlib.Core.Path.{_≡_};
 ghost use Prim.Native.Nat.{_≤_};
 ghost use Rattle.rules.specs.Pages.{mostBytes};
 ghost use Rattle.rules.specs.ByRow.{ended, rowStart};
-ghost use Rattle.tables.specs.Pairs.{pairTable};
-ghost use Rattle.tables.specs.Tables.{Lookups};
+ghost use Rattle.context.specs.declared.reference.Reference.the-variants.{Lent};
 ghost use Rattle.settings.specs.Between.{RowFrom, Rowed};
 ghost use Rattle.settings.specs.Ends.{Allowed};
 ghost use Rattle.by_row.specs.ByRow.{otherSide, endOf, Ending, rowStateOf, toldFor, saidFor, refusedFor, noneFor};
@@ -222,28 +221,25 @@ fn ends(state: RowState, number: u32, place: usize, bytes: usize, loose: usize) 
     said(number, place, bytes, loose, ended)
 }
 
-// What one row does, by the encoding.
-fn row_under<'a>(
-    white: &'a [u16; 8192],
-    black: &'a [u16; 8192],
-    both: &'a [u16; 2048],
+// What one row does, by the encoding. No table is lent: it would be built anew at each call, and take longer than the row.
+fn row_under(
     src: &[u8],
     settings: DecodeSettings,
     lent: &[u32],
     changes: &mut [u32],
     state: State,
 ) -> Row
-    requires { ⌜ RowFrom (now src) (now lent) (now changes) settings state × Lookups (now white) (now black) × (now both ≡ pairTable) ⌝ }
+    requires { ⌜ RowFrom (now src) (now lent) (now changes) settings state × (state .reference ≡ Lent) ⌝ }
     ensures { λ r. ⌜ Rowed (now (src .entry)) (now (lent .entry)) (now (changes .entry)) settings state r (now (changes .exit)) ⌝ }
 {
+    let none: [u16; 0] = [];
     if settings::is_group4(settings) {
-        return group4::row(white, black, src, settings, lent, changes, state);
+        return group4::lone_row(&none, &none, src, settings, lent, changes, state);
     }
-    group3::row(white, black, both, src, settings, lent, changes, state)
+    group3::lone_row(&none, &none, &none, src, settings, lent, changes, state)
 }
 
-// The row under the reference, which lies in an array of its own. The lookup tables are made here, once the tests are passed: a constant
-// is built anew wherever it is used.
+// The row under the reference, which lies in an array of its own.
 fn next_row(
     src: &[u8],
     settings: DecodeSettings,
@@ -260,9 +256,6 @@ fn next_row(
     if settings.columns == 0 {
         return no_columns(state);
     }
-    let white = lookups::white_lookup();
-    let black = lookups::black_lookup();
-    let pairs = tables::pair_lookup();
     let held = state.held;
     let between = State {
         at: state.at,
@@ -272,9 +265,6 @@ fn next_row(
         eols: state.eols,
     };
     match row_under(
-        &white,
-        &black,
-        &pairs,
         src,
         settings::strict_if_exact(settings),
         &reference[..held],

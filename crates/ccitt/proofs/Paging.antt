@@ -27,9 +27,11 @@ use Rattle.rules.proofs.Answers.{short-rows}
 use Rattle.rules.proofs.Pages.{Onward, Moved, Goes, Does, row-goes, row-does, step, roomFor, page-kept, page-full, page-stopped, page-falls, Held, held-start, held-next, held-entries}
 use Rattle.rules.proofs.Marks.{RowMarked, row-marked}
 use Rattle.rules.proofs.Store.{length-overlaid, overlaid-nothing, overlaid-behind, overlaid-one, length-joined, joined-snoc, length-ends, ends-snoc}
+use Rattle.tables.specs.Pairs.{pairTable}
+use Rattle.tables.specs.Tables.{Lookups}
 use Rattle.context.specs.declared.reference.Reference.{Reference}
 use Rattle.context.specs.declared.reference.Reference.the-variants as Reference
-use Rattle.context.specs.Coding.{Placed}
+use Rattle.context.specs.Coding.{Placed, PairedFor}
 use Rattle.answer.specs.Answer.{answerOf}
 use Rattle.answer.specs.declared.Answer.{Answer}
 use Rattle.settings.specs.declared.DecodeSettings.{DecodeSettings}
@@ -324,6 +326,11 @@ pub record Turn (bytes : List ℕ) (settings : DecodeSettings) (xs es ms ys fs n
   pub same-changes : length ys ≡ length xs
   pub same-ends : length fs ≡ length es
   pub same-marks : length ns ≡ length ms
+
+-- a page is lent all the tables, whatever its reference
+pub kept-paired : (place : Reference) {w b both : List ℕ} → Lookups w b → both ≡ pairTable → PairedFor place w b both
+kept-paired Reference.Lent l p = tt
+kept-paired (Reference.Kept start) l p = (l, p)
 
 -- what falls with each turn
 abbrev pub turnsLeft : List ℕ → State → ℕ

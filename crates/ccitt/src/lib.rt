@@ -10,6 +10,7 @@ ghost use mathlib.Core.List.{[]};
 ghost use Prim.Native.Nat.{min};
 ghost use Rattle.tables.specs.Pairs.{pairTable};
 ghost use Rattle.tables.specs.Tables.{Lookups};
+ghost use Rattle.context.specs.Coding.{PairedFor};
 ghost use Rattle.settings.specs.Between.{RowFrom, Rowed};
 ghost use Rattle.ccitt.specs.Decode.{counted, behindRow, Behind, PageFrom, Sees, toldOf, shortFor, refusedWith, Decodes, Watches};
 
@@ -23,15 +24,15 @@ pub struct Watched {
 // What one row does, by the encoding. The reference lies in the store, so none is lent. Each call has no other of its kind, and is
 // so compiled in place.
 fn row<'a>(
-    white: &'a [u16; 8192],
-    black: &'a [u16; 8192],
-    both: &'a [u16; 2048],
+    white: &'a [u16],
+    black: &'a [u16],
+    both: &'a [u16],
     src: &[u8],
     settings: DecodeSettings,
     changes: &mut [u32],
     state: State,
 ) -> Row
-    requires { ⌜ RowFrom (now src) [] (now changes) settings state × Lookups (now white) (now black) × (now both ≡ pairTable) ⌝ }
+    requires { ⌜ RowFrom (now src) [] (now changes) settings state × PairedFor (state .reference) (now white) (now black) (now both) ⌝ }
     ensures { λ r. ⌜ Rowed (now (src .entry)) [] (now (changes .entry)) settings state r (now (changes .exit)) ⌝ }
 {
     let lent: [u32; 0] = [];
@@ -102,9 +103,9 @@ fn told(answer: Answer, ever: bool, eols: bool) -> Watched
 }
 
 fn page<'a>(
-    white: &'a [u16; 8192],
-    black: &'a [u16; 8192],
-    both: &'a [u16; 2048],
+    white: &'a [u16],
+    black: &'a [u16],
+    both: &'a [u16],
     src: &[u8],
     settings: DecodeSettings,
     changes: &mut [u32],

@@ -14,7 +14,7 @@ use Rattle.rules.specs.Lookup.{Entry, valid, invalid, lookup, entryNumber, look
 use Rattle.rules.specs.Runs.{ok, sum, runStep, readRun}
 use Rattle.rules.proofs.Bits.{length-bitsOf}
 use Rattle.rules.proofs.Codes.{shape}
-use Rattle.rules.proofs.Lookup.{lookup-valid, table-at}
+use Rattle.rules.proofs.Lookup.{length-tabulate, lookup-valid, table-at}
 use Rattle.bit_reader.specs.Loaded.{Ahead}
 use Rattle.bit_reader.proofs.Window.{ahead-first, ahead-shift}
 use Rattle.codes.specs.declared.front.Front.{Front}
@@ -126,3 +126,8 @@ one-front table {first} {bits} r s k = record {
   narrow = omega (arith, r);
   read = λ colour bytes at live t h l e p. rw (r, s .0) (one-code colour h l e (omega (arith, r)));
 }
+
+-- a lookup table has an entry for each 13 bits
+pub table-length : (colour : Colour) {table : List ℕ} → table ≡ lookupTable colour → length table ≡ 8192
+unfolding lookupTable
+table-length colour t = ap length t ∙ length-tabulate _ 8192 0

@@ -1,8 +1,9 @@
 // The run at the front of some bits, where it is short: one terminating code, or a make-up code and one, whose bits are all there.
 use crate::run;
 ghost use mathlib.Core.Path.{_≡_};
+ghost use mathlib.Core.Bool.{true};
 ghost use Prim.Native.Nat.{_/_, _%_, _^_, _≤_, _<_};
-ghost use lib.ListN.{getD};
+ghost use lib.ListN.{length, getD};
 ghost use Rattle.rules.specs.Lookup.{lookupTable};
 ghost use Rattle.tables.specs.Tables.{colourOf};
 ghost use Rattle.codes.specs.Fronts.{Fronted, Joined, behindCode};
@@ -47,8 +48,8 @@ fn behind(bits: u64, first: u16) -> usize
 }
 
 // The run at the front of `bits`, of which 26 are there. `top` is the first 13 of them, which a caller may know earlier.
-pub fn front_run(table: &[u16; 8192], top: usize, bits: u64) -> Front
-    requires { ⌜ top < 8192 ⌝ }
+pub fn front_run(table: &[u16], top: usize, bits: u64) -> Front
+    requires { ⌜ (top < 8192) × (length (now table) ≡ 8192) ⌝ }
     ensures { λ r. ⌜ Fronted (now (table .entry)) (getD (now (table .entry)) top 0) bits r ⌝ }
 {
     let first = table[top];
@@ -78,4 +79,15 @@ pub fn front_run_of(colour: usize, top: usize, bits: u64) -> Front
     }
     let last = squeezed::entry(colour, behind(bits, first));
     joined(first, last)
+}
+
+// By either, for a loop that serves both: by the colour's table where it is lent.
+pub fn front_run_by(lent: bool, table: &[u16], colour: usize, top: usize, bits: u64) -> Front
+    requires { ⌜ (top < 8192) × (lent ≡ true → now table ≡ lookupTable (colourOf colour)) ⌝ }
+    ensures { λ r. ⌜ Fronted (lookupTable (colourOf colour)) (getD (lookupTable (colourOf colour)) top 0) bits r ⌝ }
+{
+    if lent {
+        return front_run(table, top, bits);
+    }
+    front_run_of(colour, top, bits)
 }

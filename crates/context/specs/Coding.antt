@@ -1,6 +1,6 @@
 -- What one mode code does to a line, given b1 and b2, and what a 2D line does to the array that holds it.
 use mathlib.Core.Path.{_≡_}
-use mathlib.Core.Bool.{Bool, true, cond, not, _&&_}
+use mathlib.Core.Bool.{Bool, true, false, cond, not, _&&_}
 use mathlib.Core.List.{List, _++_}
 use Prim.Native.Nat.{ℕ, _-_, _≤_, _<_}
 use lib.Dec.{eqb}
@@ -11,7 +11,8 @@ use Rattle.rules.specs.Lines as Rule
 use Rattle.rules.specs.Lines.{Went, unlessIdle, code2D, two, readLine}
 use Rattle.rules.specs.Pages.{overlaid}
 use Rattle.rules.specs.Rising.{Rising}
-use Rattle.tables.specs.Tables.{colourOf}
+use Rattle.tables.specs.Pairs.{pairTable}
+use Rattle.tables.specs.Tables.{colourOf, Lookups}
 use Rattle.context.specs.declared.line.Line.{Line}
 use Rattle.context.specs.declared.line.Push.{Push}
 use Rattle.context.specs.declared.line.Push.the-variants as Push
@@ -74,6 +75,10 @@ abbrev pub Placed : Reference → ℕ → List ℕ → Type 0
 Placed Lent base xs = base ≤ length xs
 Placed (Kept start) base xs = (start ≤ base) × (base ≤ length xs)
 
+abbrev pub isKept : Reference → Bool
+isKept Lent = false
+isKept (Kept start) = true
+
 -- what a search in it relies on
 pub record Seeks (place : Reference) (base : ℕ) (reference xs : List ℕ) (seen : ℕ) (l : Line) : Type 0 where
   pub placed : Placed place base xs
@@ -84,6 +89,16 @@ pub record Lines (bytes reference xs : List ℕ) (base : ℕ) (place : Reference
   pub starts : Starts bytes width at
   pub placed : Placed place base xs
   pub rising : Rising width 0 (referenceIn place base reference xs)
+
+-- The tables that a row is lent: the lookups where its reference is kept, as in a page; where that is lent, none is asked for.
+abbrev pub TabledFor : Reference → List ℕ → List ℕ → Type 0
+TabledFor Lent w b = Unit {0}
+TabledFor (Kept start) w b = Lookups w b
+
+-- and the pairs of a 1D line with them
+abbrev pub PairedFor : Reference → List ℕ → List ℕ → List ℕ → Type 0
+PairedFor Lent w b both = Unit {0}
+PairedFor (Kept start) w b both = Lookups w b × (both ≡ pairTable)
 
 -- an answer and the array after it are those of an outcome for the row from `base` on
 pub record StepsAt (base width : ℕ) (xs : List ℕ) (w : Went) (r : Step) (ys : List ℕ) : Type 0 where

@@ -7,6 +7,7 @@ ghost use Rattle.rules.specs.Pages.{ascends};
 ghost use Rattle.tables.specs.Tables.{colourOf};
 ghost use Rattle.context.specs.Reference.{Passed, Stopped, Searches, Finds, b1Place};
 ghost use Rattle.context.specs.Places.{B1At};
+ghost use Rattle.context.specs.Coding.{isKept};
 
 // Where the next search goes on, and the two changes, each the width where it is absent.
 pub struct FoundChanges {
@@ -19,6 +20,15 @@ pub struct FoundChanges {
 pub enum Reference {
     Lent,
     Kept(usize),
+}
+
+pub fn is_kept(place: Reference) -> bool
+    ensures { λ r. ⌜ r ≡ isKept place ⌝ }
+{
+    match place {
+        Reference::Lent => false,
+        Reference::Kept(_) => true,
+    }
 }
 
 // a0 lies before the line while the position is 0, so that only there b1 may be 0.

@@ -21,8 +21,11 @@ use Rattle.context.specs.declared.step.Step.the-variants.{Stop}
 use Rattle.context.specs.State.{newFor, rulesFor}
 use Rattle.context.specs.Outcome as Line
 use Rattle.context.specs.Outcome.{Steps}
-use Rattle.context.specs.Coding.{Lines, StepsAt, Lined}
+use Rattle.context.specs.declared.reference.Reference.{Reference}
+use Rattle.context.specs.declared.reference.Reference.the-variants.{Lent, Kept}
+use Rattle.context.specs.Coding.{Lines, isKept, TabledFor, PairedFor, StepsAt, Lined}
 use Rattle.context.proofs.RowPart.{row-lent, row-back}
+use Rattle.swift_loops.specs.Pairs.{Tabled}
 use Rattle.settings.specs.declared.DecodeSettings.{DecodeSettings}
 use Rattle.settings.specs.declared.State.{State}
 use Rattle.settings.specs.Settings.{settingsOf, taggingOf}
@@ -120,3 +123,14 @@ module _ {bytes lent xs : List ℕ} {settings : DecodeSettings} {st : State} {at
     pub line-two : k ≡ Two start → (r : Step) (ys : List ℕ) → Lined bytes lent xs base (st .reference) (settings .columns) start (linesBy settings) r ys
         → StepsAt base (settings .columns) xs (lineIn settings bytes lent xs st at) r ys
     line-two e r ys s = gives r ys (rw e s)
+
+-- ---- The tables
+
+-- a kept row is lent all of them
+pub tabled-1d : (place : Reference) {kept : Bool} {w b both : List ℕ} → kept ≡ isKept place → PairedFor place w b both → Tabled kept w b both
+tabled-1d Lent e t k = absurd (let z : _≡_ {A = Bool} false true = sym e ∙ k in let y : _≡_ {A = ℕ} 0 1 = cc in omega arith)
+tabled-1d (Kept start) e t k = t
+
+pub tabled-2d : (place : Reference) (w b both : List ℕ) → PairedFor place w b both → TabledFor place w b
+tabled-2d Lent w b both t = tt
+tabled-2d (Kept start) w b both t = t .0

@@ -1,6 +1,7 @@
 // The line of a row, of the kind that its tag bit tells.
 use crate::eols;
 use context::line;
+use context::reference;
 use context::step::Rules;
 use context::step::Step;
 use one_line::line_1d;
@@ -8,10 +9,8 @@ use one_line::line_2d;
 use settings::DecodeSettings;
 use settings::State;
 ghost use mathlib.Core.Path.{_≡_};
-ghost use Rattle.tables.specs.Pairs.{pairTable};
-ghost use Rattle.tables.specs.Tables.{Lookups};
 ghost use Rattle.bit_reader.specs.Loaded.{Loading};
-ghost use Rattle.context.specs.Coding.{StepsAt};
+ghost use Rattle.context.specs.Coding.{PairedFor, StepsAt};
 ghost use Rattle.settings.specs.Settings.{taggingOf};
 ghost use Rattle.group3.specs.Lined.{KindAt, LineFrom, lineIn};
 
@@ -39,9 +38,9 @@ fn kind_at(src: &[u8], settings: DecodeSettings, at: usize) -> LineKind
 }
 
 pub(crate) fn decode<'a>(
-    white: &'a [u16; 8192],
-    black: &'a [u16; 8192],
-    both: &'a [u16; 2048],
+    white: &'a [u16],
+    black: &'a [u16],
+    both: &'a [u16],
     src: &[u8],
     settings: DecodeSettings,
     lent: &[u32],
@@ -49,7 +48,7 @@ pub(crate) fn decode<'a>(
     state: State,
     at: usize,
 ) -> Step
-    requires { ⌜ LineFrom (now src) (now lent) (now changes) settings state at × Lookups (now white) (now black) × (now both ≡ pairTable) ⌝ }
+    requires { ⌜ LineFrom (now src) (now lent) (now changes) settings state at × PairedFor (state .reference) (now white) (now black) (now both) ⌝ }
     ensures { λ r. ⌜ StepsAt (state .base) (settings .columns) (now (changes .entry)) (lineIn settings (now (src .entry)) (now (lent .entry)) (now (changes .entry)) state at) r (now (changes .exit)) ⌝ }
 {
     let columns = settings.columns;
@@ -65,7 +64,9 @@ pub(crate) fn decode<'a>(
             Step::Stop(answer::UNEXPECTED_EOF, line::new_line(columns), end)
         }
         LineKind::One(start) => {
+            let place = state.reference;
             line_1d::decode_1d_line(
+                reference::is_kept(place),
                 white,
                 black,
                 both,

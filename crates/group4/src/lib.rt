@@ -16,9 +16,9 @@ ghost use lib.Dec.{leb};
 ghost use lib.ListN.{length};
 ghost use Rattle.rules.specs.Bits.{bitsOf};
 ghost use Rattle.rules.specs.Group4.{eolsBefore, over, row4};
-ghost use Rattle.tables.specs.Tables.{Lookups};
 ghost use Rattle.bit_reader.specs.Loaded.{Loading};
 ghost use Rattle.codes.specs.Eols.{eolsOf};
+ghost use Rattle.context.specs.Coding.{TabledFor};
 ghost use Rattle.settings.specs.Settings.{settingsOf};
 ghost use Rattle.settings.specs.Between.{stateOf, RowFrom, RowGives};
 ghost use Rattle.group4.specs.Lined.{LineFrom, rowAt, fullAt, begun, underWhite, whiteAt};
@@ -69,8 +69,8 @@ pub fn is_over(src: &[u8], settings: DecodeSettings, state: State, eols: Eols) -
 
 // A row whose line begins at a bit.
 fn row_at<'a>(
-    white: &'a [u16; 8192],
-    black: &'a [u16; 8192],
+    white: &'a [u16],
+    black: &'a [u16],
     src: &[u8],
     settings: DecodeSettings,
     lent: &[u32],
@@ -78,7 +78,7 @@ fn row_at<'a>(
     state: State,
     start: usize,
 ) -> Row
-    requires { ⌜ LineFrom (now src) (now lent) (now changes) settings state start × Lookups (now white) (now black) ⌝ }
+    requires { ⌜ LineFrom (now src) (now lent) (now changes) settings state start × TabledFor (state .reference) (now white) (now black) ⌝ }
     ensures { λ r. ⌜ RowGives (state .base) (now (changes .entry)) (rowAt settings (now (src .entry)) (now (lent .entry)) (now (changes .entry)) state start) r (now (changes .exit)) ⌝ }
 {
     let place = state.reference;
@@ -108,15 +108,15 @@ fn row_at<'a>(
 
 // The next row of a Group 4 page; or the page's end.
 pub fn row<'a>(
-    white: &'a [u16; 8192],
-    black: &'a [u16; 8192],
+    white: &'a [u16],
+    black: &'a [u16],
     src: &[u8],
     settings: DecodeSettings,
     lent: &[u32],
     changes: &mut [u32],
     state: State,
 ) -> Row
-    requires { ⌜ RowFrom (now src) (now lent) (now changes) settings state × Lookups (now white) (now black) ⌝ }
+    requires { ⌜ RowFrom (now src) (now lent) (now changes) settings state × TabledFor (state .reference) (now white) (now black) ⌝ }
     ensures { λ r. ⌜ RowGives (state .base) (now (changes .entry)) (row4 (settingsOf settings) (bitsOf (now (src .entry))) (length (now (changes .entry)) - state .base) (stateOf (now (lent .entry)) (now (changes .entry)) state)) r (now (changes .exit)) ⌝ }
 {
     let eols = eols_before(src, settings, state);
@@ -160,15 +160,15 @@ fn is_white(src: &[u8], lent: &[u32], state: State) -> bool
 
 // A function of its own, so that the state is put into memory only where a row is not swift.
 fn any_row<'a>(
-    white: &'a [u16; 8192],
-    black: &'a [u16; 8192],
+    white: &'a [u16],
+    black: &'a [u16],
     src: &[u8],
     settings: DecodeSettings,
     lent: &[u32],
     changes: &mut [u32],
     state: State,
 ) -> Row
-    requires { ⌜ RowFrom (now src) (now lent) (now changes) settings state × Lookups (now white) (now black) ⌝ }
+    requires { ⌜ RowFrom (now src) (now lent) (now changes) settings state × TabledFor (state .reference) (now white) (now black) ⌝ }
     ensures { λ r. ⌜ RowGives (state .base) (now (changes .entry)) (row4 (settingsOf settings) (bitsOf (now (src .entry))) (length (now (changes .entry)) - state .base) (stateOf (now (lent .entry)) (now (changes .entry)) state)) r (now (changes .exit)) ⌝ }
 {
     row(white, black, src, settings, lent, changes, state)
@@ -176,19 +176,42 @@ fn any_row<'a>(
 
 // The same row, with what is usual first. The page loop alone calls it, so that it is compiled in place there.
 pub fn swift_row<'a>(
-    white: &'a [u16; 8192],
-    black: &'a [u16; 8192],
+    white: &'a [u16],
+    black: &'a [u16],
     src: &[u8],
     settings: DecodeSettings,
     lent: &[u32],
     changes: &mut [u32],
     state: State,
 ) -> Row
-    requires { ⌜ RowFrom (now src) (now lent) (now changes) settings state × Lookups (now white) (now black) ⌝ }
+    requires { ⌜ RowFrom (now src) (now lent) (now changes) settings state × TabledFor (state .reference) (now white) (now black) ⌝ }
     ensures { λ r. ⌜ RowGives (state .base) (now (changes .entry)) (row4 (settingsOf settings) (bitsOf (now (src .entry))) (length (now (changes .entry)) - state .base) (stateOf (now (lent .entry)) (now (changes .entry)) state)) r (now (changes .exit)) ⌝ }
 {
     if !begins(src, settings, state) {
         return any_row(white, black, src, settings, lent, changes, state);
+    }
+    if is_white(src, lent, state) {
+        let next = settings::align_if(settings.rows_are_byte_aligned, state.at + 1);
+        return Row::Kept(0, 0, next, state.eols);
+    }
+    row_at(white, black, src, settings, lent, changes, state, state.at)
+}
+
+// The same for a row by itself: a function of its own, so that `swift_row` keeps its one caller.
+pub fn lone_row<'a>(
+    white: &'a [u16],
+    black: &'a [u16],
+    src: &[u8],
+    settings: DecodeSettings,
+    lent: &[u32],
+    changes: &mut [u32],
+    state: State,
+) -> Row
+    requires { ⌜ RowFrom (now src) (now lent) (now changes) settings state × TabledFor (state .reference) (now white) (now black) ⌝ }
+    ensures { λ r. ⌜ RowGives (state .base) (now (changes .entry)) (row4 (settingsOf settings) (bitsOf (now (src .entry))) (length (now (changes .entry)) - state .base) (stateOf (now (lent .entry)) (now (changes .entry)) state)) r (now (changes .exit)) ⌝ }
+{
+    if !begins(src, settings, state) {
+        return row(white, black, src, settings, lent, changes, state);
     }
     if is_white(src, lent, state) {
         let next = settings::align_if(settings.rows_are_byte_aligned, state.at + 1);

@@ -97,8 +97,8 @@ fn full_code(
 
 // A line whose changes go into `changes` from `base` on; its reference lies from `first` on, up to there.
 pub(crate) fn kept_line<'a>(
-    white: &'a [u16; 8192],
-    black: &'a [u16; 8192],
+    white: &'a [u16],
+    black: &'a [u16],
     src: &[u8],
     changes: &mut [u32],
     first: usize,

@@ -15,11 +15,11 @@ use swift_loops::fast_1d;
 ghost use mathlib.Core.Path.{_≡_};
 ghost use Rattle.rules.specs.Bits.{bitsOf};
 ghost use Rattle.rules.specs.Lines.{one, readLine};
-ghost use Rattle.tables.specs.Pairs.{pairTable};
-ghost use Rattle.tables.specs.Tables.{colourOf, Lookups};
+ghost use Rattle.tables.specs.Tables.{colourOf};
 ghost use Rattle.codes.specs.Runs.{Reading, RunRead};
 ghost use Rattle.context.specs.State.{rulesFor};
 ghost use Rattle.context.specs.Outcome.{Steps, Reads, Starts, goesOn, Runs};
+ghost use Rattle.swift_loops.specs.Pairs.{Tabled};
 
 fn goes_on(two: bool, count: usize, line: Line) -> bool
     ensures { λ r. ⌜ r ≡ goesOn two count line ⌝ }
@@ -82,21 +82,32 @@ pub fn runs(
     Step::On(line, buffer.at)
 }
 
-// Pairs of runs while they come, and any other run as in a horizontal code.
+// Pairs of runs while they come, by the tables if they are lent, and any other run as in a horizontal code.
 pub fn decode_1d_line<'a>(
-    white: &'a [u16; 8192],
-    black: &'a [u16; 8192],
-    both: &'a [u16; 2048],
+    lent: bool,
+    white: &'a [u16],
+    black: &'a [u16],
+    both: &'a [u16],
     src: &[u8],
     changes: &mut [u32],
     width: u32,
     at: usize,
     rules: Rules,
 ) -> Step
-    requires { ⌜ Starts (now src) width at × Lookups (now white) (now black) × (now both ≡ pairTable) ⌝ }
+    requires { ⌜ Starts (now src) width at × Tabled lent (now white) (now black) (now both) ⌝ }
     ensures { λ r. ⌜ Steps width (now (changes .entry)) (readLine (rulesFor width rules (now (changes .entry))) one (bitsOf (now (src .entry))) at) r (now (changes .exit)) ⌝ }
 {
-    let s = fast_1d::pairs(white, black, both, src, changes, width, at, rules.plain);
+    let s = fast_1d::pairs(
+        lent,
+        white,
+        black,
+        both,
+        src,
+        changes,
+        width,
+        at,
+        rules.plain,
+    );
     let line = fast_1d::line_of(width, s);
     if s.position == width {
         return Step::On(line, s.at);

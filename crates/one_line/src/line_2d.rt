@@ -17,12 +17,12 @@ use context::step::Step;
 ghost use mathlib.Core.Path.{_≡_};
 ghost use mathlib.Core.Bool.{cond};
 ghost use Prim.Native.Nat.{_≤_};
-ghost use Rattle.tables.specs.Tables.{colourOf, Lookups};
+ghost use Rattle.tables.specs.Tables.{colourOf};
 ghost use Rattle.context.specs.declared.reference.Reference.the-variants.{Lent};
 ghost use Rattle.context.specs.Outcome.{Reads};
 ghost use Rattle.context.specs.Reference.{Finds};
 ghost use Rattle.context.specs.Coding.{Coloured, afterPush, unmovedFor, unlessIdleFor, TwoRuns};
-ghost use Rattle.context.specs.Coding.{Coding, Coded, referenceIn, Seeks, Lines, Lined};
+ghost use Rattle.context.specs.Coding.{Coding, Coded, referenceIn, Seeks, Lines, TabledFor, Lined};
 
 // What a push makes of the code that began at `at` and ends at `next`; vertical mode turns the colour, pass mode keeps it.
 pub(crate) fn after_push(push: Push, at: usize, next: usize, turns: bool) -> Step
@@ -199,11 +199,11 @@ fn swiftly(place: Reference, plain: bool) -> Reference
     place
 }
 
-// A line whose changes go into `changes` from `base` on. Where the reference is lent no code is swift. Each loop has one call
-// alone, so that its answer is made where the caller wants it.
+// A line whose changes go into `changes` from `base` on. Where the reference is lent no code is swift, and no table is asked for.
+// Each loop has one call alone, so that its answer is made where the caller wants it.
 pub fn decode_2d_line<'a>(
-    white: &'a [u16; 8192],
-    black: &'a [u16; 8192],
+    white: &'a [u16],
+    black: &'a [u16],
     src: &[u8],
     reference: &[u32],
     changes: &mut [u32],
@@ -213,7 +213,7 @@ pub fn decode_2d_line<'a>(
     start: usize,
     rules: Rules,
 ) -> Step
-    requires { ⌜ Lines (now src) (now reference) (now changes) base place width start × Lookups (now white) (now black) ⌝ }
+    requires { ⌜ Lines (now src) (now reference) (now changes) base place width start × TabledFor place (now white) (now black) ⌝ }
     ensures { λ r. ⌜ Lined (now (src .entry)) (now (reference .entry)) (now (changes .entry)) base place width start rules r (now (changes .exit)) ⌝ }
 {
     match swiftly(place, rules.plain) {

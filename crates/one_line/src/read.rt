@@ -78,11 +78,10 @@ pub fn read_line(
     if at > end as u64 {
         return past(end);
     }
-    let white = lookups::white_lookup();
-    let black = lookups::black_lookup();
+    let none: [u16; 0] = [];
     answer(line_2d::decode_2d_line(
-        &white,
-        &black,
+        &none,
+        &none,
         src,
         reference,
         changes,

@@ -2,6 +2,7 @@
 pub mod Beside
 pub mod Fronting
 pub mod PairEntries
+pub mod OnePair
 pub mod Running
 pub mod StraightLoop
 pub mod Swiftly

@@ -12,7 +12,7 @@ use Rattle.rules.specs.Lookup.{valid, lookup, entryNumber}
 use Rattle.rules.specs.Runs.{ok, sum}
 use Rattle.rules.proofs.Bits.{length-bitsOf, peek-high, peek-lt, bits-peek}
 use Rattle.rules.proofs.Codes.{shape, length-codeBits}
-use Rattle.rules.proofs.Lookup.{begins-window, lookup-code, lookup-valid}
+use Rattle.rules.proofs.Lookup.{length-tabulate, begins-window, lookup-code, lookup-valid}
 use Rattle.tables.specs.Pairs.{pairIn, pairTable}
 use Rattle.tables.proofs.PairTable.{PairEntry, pair-at, pair-entry}
 use Rattle.bit_reader.specs.Loaded.{Ahead}
@@ -40,6 +40,11 @@ drop-window (suc s) (suc n) [] = let e : n - s ≡ suc n - suc s = omega arith i
     none zero = refl
     none (suc s) = refl
 drop-window (suc s) (suc n) (b ∷ bs) = let e : n - s ≡ suc n - suc s = omega arith in drop-window s n bs ∙ ap (λ (k : ℕ). window k (drop s bs)) e
+
+-- an entry for each 11 bits
+pub pair-table-length : {both : List ℕ} → both ≡ pairTable → length both ≡ 2048
+unfolding pairTable
+pair-table-length t = ap length t ∙ length-tabulate _ 2048 0
 
 -- the entry that the first 13 bits have
 module _ {both : List ℕ} (t : both ≡ pairTable) where

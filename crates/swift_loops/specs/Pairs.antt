@@ -1,12 +1,12 @@
 -- The pairs of a 1D line: where a line stands between its runs, and what pairs make of it and of the row that holds it.
 use mathlib.Core.Path.{_≡_}
-use mathlib.Core.Bool.{Bool, true, false}
+use mathlib.Core.Bool.{Bool, true, false, cond}
 use mathlib.Core.List.{List}
 use Prim.Native.Nat.{ℕ, _+_, _*_, _/_, _%_, _≤_, _<_}
+use lib.Dec.{eqb}
 use lib.ListN.{length, take, drop}
 use Rattle.rules.specs.Bits.{bitsOf, peek}
 use Rattle.rules.specs.Codes.{white, black}
-use Rattle.rules.specs.Lookup.{lookupTable}
 use Rattle.rules.specs.Runs.{ok, sum, readRun}
 use Rattle.rules.specs.Lines as Rule
 use Rattle.rules.specs.Lines.{pushRun, lineEnd}
@@ -15,6 +15,7 @@ use Rattle.tables.specs.Pairs.{pairTable}
 use Rattle.tables.specs.Tables.{colourOf, Lookups}
 use Rattle.bit_reader.specs.Cursor.{mostBits}
 use Rattle.bit_reader.specs.Loaded.{Ahead, Loading}
+use Rattle.codes.specs.declared.front.Front.{Front}
 use Rattle.context.specs.declared.line.Line.{Line}
 use Rattle.swift_loops.specs.declared.fast_1d.BetweenRuns.{BetweenRuns}
 use Rattle.swift_loops.specs.declared.fast_1d.BeforePair.{BeforePair}
@@ -32,11 +33,17 @@ pub record PairRun (bytes : List ℕ) (at : ℕ) (r : Pair) : Type 0 where
   pub second : readRun white (bitsOf bytes) middle ≡ ok (sum (at + r .size) (r .white))
 
 -- Such a pair, if it has white pixels, wherever the bits stand in some data. `top` is the first 13 of them.
-pub record Paired (w b : List ℕ) (top bits : ℕ) (r : Pair) : Type 0 where
+pub record Paired (top bits : ℕ) (r : Pair) : Type 0 where
   pub few : r .size ≤ 60
   pub narrow : r .black + r .white ≤ 16380
   pub both : 0 < r .white → 0 < r .black
-  pub read : Lookups w b → (bytes : List ℕ) (at live : ℕ) → Ahead bytes at live bits → 57 ≤ live → top ≡ peek 13 (drop at (bitsOf bytes)) → 0 < r .white → PairRun bytes at r
+  pub read : (bytes : List ℕ) (at live : ℕ) → Ahead bytes at live bits → 57 ≤ live → top ≡ peek 13 (drop at (bitsOf bytes)) → 0 < r .white → PairRun bytes at r
+
+-- of a black run and a white one that were read; none where the first has no pixels
+abbrev pub bothOf : Front → Front → Pair
+bothOf first second =
+    cond (eqb (first .pixels) 0) (record { black = 0; white = 0; size = 0 })
+    (record { black = first .pixels; white = second .pixels; size = first .size + second .size })
 
 -- by an entry of the pair table
 abbrev pub entryPair : ℕ → Pair
@@ -122,16 +129,14 @@ pub record Putting (row : List ℕ) (width : ℕ) (s : BeforePair) (pair : Pair)
 abbrev pub Puts : List ℕ → ℕ → BeforePair → Pair → ℕ → AfterPair → List ℕ → Type 0
 Puts row width s pair bits r ys = (bytes : List ℕ) → (0 < pair .white → PairRun bytes (s .at) pair) → KnownIn bytes (s .at + pair .size) bits → PacedTo bytes row width s r ys
 
-pub record Pacing (w b both bytes row : List ℕ) (width last : ℕ) (s : BeforePair) : Type 0 where
-  pub lookups : Lookups w b
-  pub pairs : both ≡ pairTable
+pub record Pacing (bytes row : List ℕ) (width last : ℕ) (s : BeforePair) : Type 0 where
   pub limit : length bytes ≤ mostBytes
   pub last-is : last + 64 ≡ 8 * length bytes
   pub narrow : width < 4294967295
   pub paces : Paces bytes row width s
 
-pub record Stepping (w b both bytes row : List ℕ) (width last : ℕ) (s : BeforePair) : Type 0 where
-  pub pacing : Pacing w b both bytes row width last s
+pub record Stepping (bytes row : List ℕ) (width last : ℕ) (s : BeforePair) : Type 0 where
+  pub pacing : Pacing bytes row width last s
   pub here : s .at ≤ last
 
 pub record Beginning (width at : ℕ) : Type 0 where
@@ -143,15 +148,18 @@ abbrev pub BegunTo : List ℕ → List ℕ → ℕ → ℕ → AfterPair → Typ
 BegunTo bytes xs width at (On t) = Ran (bitsOf bytes) (length xs) width xs (startAt at) xs (paceOf t) × Paces bytes xs width t
 BegunTo bytes xs width at Other = Unit {0}
 
-abbrev pub Begins : List ℕ → ℕ → ℕ → ℕ → AfterPair → Type 0
-Begins table width at bits r =
-    table ≡ lookupTable white → (bytes xs : List ℕ) (live : ℕ) → Ahead bytes at live bits → 57 ≤ live → width ≤ length xs → BegunTo bytes xs width at r
+abbrev pub Begins : ℕ → ℕ → ℕ → AfterPair → Type 0
+Begins width at bits r =
+    (bytes xs : List ℕ) (live : ℕ) → Ahead bytes at live bits → 57 ≤ live → width ≤ length xs → BegunTo bytes xs width at r
 
 abbrev pub Fit : ℕ → ℕ → ℕ → ℕ → Bool → Type 0
 Fit room width len at r = r ≡ true → (0 < width) × (width ≤ room) × (at + 64 ≤ 8 * len)
 
-pub record Pairing (w b both bytes : List ℕ) (width at : ℕ) : Type 0 where
-  pub lookups : Lookups w b
-  pub pairs : both ≡ pairTable
+-- the tables, where they are lent
+abbrev pub Tabled : Bool → List ℕ → List ℕ → List ℕ → Type 0
+Tabled lent w b both = lent ≡ true → Lookups w b × (both ≡ pairTable)
+
+pub record Pairing (lent : Bool) (w b both bytes : List ℕ) (width at : ℕ) : Type 0 where
+  pub tables : Tabled lent w b both
   pub loading : Loading bytes at
   pub narrow : width < 4294967295

@@ -1,15 +1,27 @@
 // The pairs of a 1D line, a black run and a white one behind it, from its first run on: all bits in the data, no run of 0, one
 // make-up code in a run at most, and no more pixels than the line has left. What is left of the line goes to `runs`.
+// Where no tables are lent another loop reads the pairs (unlent_1d): one loop for both would test at each pair which it is.
+use crate::unlent_1d;
 use codes::front;
+use codes::front::Front;
 use context::line::Line;
 ghost use mathlib.Core.Path.{_≡_};
+ghost use mathlib.Core.Bool.{true};
 ghost use Prim.Native.Nat.{_≤_, _<_};
 ghost use lib.ListN.{length};
 ghost use Rattle.rules.specs.Bits.{bitsOf};
 ghost use Rattle.rules.specs.Pages.{mostBytes};
+ghost use Rattle.rules.specs.Codes as Colour;
+ghost use Rattle.rules.specs.Lookup.{lookupTable};
 ghost use Rattle.tables.specs.Pairs.{pairTable};
-ghost use Rattle.swift_loops.specs.Pairs.{haltLine, startAt, paceOf, entryPair, Paired, Leaping, Leapt, Putting};
-ghost use Rattle.swift_loops.specs.Pairs.{Puts, Stepping, PacedTo, Pacing, Ran, Beginning, Begins, Fit, Pairing};
+ghost use Rattle.tables.specs.Tables.{Lookups};
+ghost use Rattle.swift_loops.specs.Pairs.{haltLine, startAt, paceOf, entryPair, bothOf, Paired, Leaping, Leapt, Putting};
+ghost use Rattle.swift_loops.specs.Pairs.{Puts, Stepping, PacedTo, Pacing, Ran, Beginning, Begins, Fit, Tabled, Pairing};
+
+// The colours of two runs, as the tables are asked for them.
+pub(crate) const WHITE: usize = 0;
+
+pub(crate) const BLACK: usize = 1;
 
 // Where a line stands before a black run, which begins with a change: the next bit, the position, the changes it has, an even
 // count, and the next bits, 13 of them at least.
@@ -54,14 +66,11 @@ pub fn line_of(width: u32, s: BetweenRuns) -> Line
     }
 }
 
-// The two, one behind the other, at the front of some bits. `top` is the first 13 of them, which are known earlier.
-fn by_codes<'a>(white: &'a [u16; 8192], black: &'a [u16; 8192], top: usize, window: u64) -> Pair
-    requires { ⌜ top < 8192 ⌝ }
-    ensures { λ r. ⌜ Paired (now (white .entry)) (now (black .entry)) top window r ⌝ }
+// A black run and the white one behind it; no pair where the first has no pixels.
+pub(crate) fn both_of(first: Front, second: Front) -> Pair
+    requires { ⌜ (first .size ≤ 30) × (second .size ≤ 30) ⌝ }
+    ensures { λ r. ⌜ r ≡ bothOf first second ⌝ }
 {
-    let first = front::front_run(black, top, window);
-    let rest = window << first.size;
-    let second = front::front_run(white, front::top13(rest), rest);
     if first.pixels == 0 {
         return Pair {
             black: 0,
@@ -76,8 +85,19 @@ fn by_codes<'a>(white: &'a [u16; 8192], black: &'a [u16; 8192], top: usize, wind
     }
 }
 
+// The two, one behind the other, at the front of some bits. `top` is the first 13 of them, which are known earlier.
+fn by_codes<'a>(white: &'a [u16], black: &'a [u16], top: usize, window: u64) -> Pair
+    requires { ⌜ (top < 8192) × Lookups (now white) (now black) ⌝ }
+    ensures { λ r. ⌜ Paired top window r ⌝ }
+{
+    let first = front::front_run(black, top, window);
+    let rest = window << first.size;
+    let second = front::front_run(white, front::top13(rest), rest);
+    both_of(first, second)
+}
+
 // The two at once, by an entry of the pair table.
-fn by_entry(entry: u16) -> Pair
+pub(crate) fn by_entry(entry: u16) -> Pair
     ensures { λ r. ⌜ (r ≡ entryPair entry) × (entry < 65536) ⌝ }
 {
     Pair {
@@ -88,15 +108,9 @@ fn by_entry(entry: u16) -> Pair
 }
 
 // The two at the front of some bits, at once where the first 11 of them have both.
-fn pair_at<'a>(
-    white: &'a [u16; 8192],
-    black: &'a [u16; 8192],
-    both: &'a [u16; 2048],
-    top: usize,
-    window: u64,
-) -> Pair
-    requires { ⌜ (top < 8192) × (now both ≡ pairTable) ⌝ }
-    ensures { λ r. ⌜ Paired (now (white .entry)) (now (black .entry)) top window r ⌝ }
+fn pair_at<'a>(white: &'a [u16], black: &'a [u16], both: &'a [u16], top: usize, window: u64) -> Pair
+    requires { ⌜ (top < 8192) × Lookups (now white) (now black) × (now both ≡ pairTable) ⌝ }
+    ensures { λ r. ⌜ Paired top window r ⌝ }
 {
     let entry = both[top / 4];
     if entry == 0 {
@@ -107,7 +121,7 @@ fn pair_at<'a>(
 
 // The bits behind a pair of `size` bits at `at`. They are loaded anew where two make-up codes leave fewer than 13, and the data has
 // 64 there.
-fn bits_behind(src: &[u8], last: usize, at: usize, size: usize, window: u64) -> u64
+pub(crate) fn bits_behind(src: &[u8], last: usize, at: usize, size: usize, window: u64) -> u64
     requires { ⌜ Leaping (now src) last at size ⌝ }
     ensures { λ r. ⌜ Leapt (now (src .entry)) at size window r ⌝ }
 {
@@ -121,7 +135,7 @@ fn bits_behind(src: &[u8], last: usize, at: usize, size: usize, window: u64) -> 
 }
 
 // Both runs pushed, each with its change.
-fn put(row: &mut [u32], width: u32, s: BeforePair, pair: Pair, bits: u64) -> AfterPair
+pub(crate) fn put(row: &mut [u32], width: u32, s: BeforePair, pair: Pair, bits: u64) -> AfterPair
     requires { ⌜ Putting (now row) width s pair ⌝ }
     ensures { λ r. ⌜ Puts (now (row .entry)) width s pair bits r (now (row .exit)) ⌝ }
 {
@@ -148,16 +162,16 @@ fn put(row: &mut [u32], width: u32, s: BeforePair, pair: Pair, bits: u64) -> Aft
 // One pair. The window is loaded while the bits of the pair before it still tell the first code: so no load stands between one code
 // and the next.
 fn step<'a>(
-    white: &'a [u16; 8192],
-    black: &'a [u16; 8192],
-    both: &'a [u16; 2048],
+    white: &'a [u16],
+    black: &'a [u16],
+    both: &'a [u16],
     src: &[u8],
     row: &mut [u32],
     width: u32,
     last: usize,
     s: BeforePair,
 ) -> AfterPair
-    requires { ⌜ Stepping (now white) (now black) (now both) (now src) (now row) width last s ⌝ }
+    requires { ⌜ Stepping (now src) (now row) width last s × Lookups (now white) (now black) × (now both ≡ pairTable) ⌝ }
     ensures { λ r. ⌜ PacedTo (now (src .entry)) (now (row .entry)) width s r (now (row .exit)) ⌝ }
 {
     let window = bit_reader::ahead(src, s.at);
@@ -169,16 +183,16 @@ fn step<'a>(
 
 // Pairs while they come. `last` is the last bit from which 64 are in the data.
 fn pairs_from<'a>(
-    white: &'a [u16; 8192],
-    black: &'a [u16; 8192],
-    both: &'a [u16; 2048],
+    white: &'a [u16],
+    black: &'a [u16],
+    both: &'a [u16],
     src: &[u8],
     row: &mut [u32],
     width: u32,
     last: usize,
     from: BeforePair,
 ) -> BeforePair
-    requires { ⌜ Pacing (now white) (now black) (now both) (now src) (now row) width last from ⌝ }
+    requires { ⌜ Pacing (now src) (now row) width last from × Lookups (now white) (now black) × (now both ≡ pairTable) ⌝ }
     ensures { λ r. ⌜ Ran (bitsOf (now (src .entry))) (length (now (row .entry))) width (now (row .entry)) (paceOf from) (now (row .exit)) (paceOf r) ⌝ }
 {
     let mut s = from;
@@ -199,11 +213,11 @@ fn pairs_from<'a>(
 }
 
 // The line before its first pair. The white run that opens it records nothing; where it begins with black that is a run of 0.
-fn begun(white: &[u16; 8192], width: u32, at: usize, bits: u64) -> AfterPair
-    requires { ⌜ Beginning width at ⌝ }
-    ensures { λ r. ⌜ Begins (now (white .entry)) width at bits r ⌝ }
+fn begun(lent: bool, white: &[u16], width: u32, at: usize, bits: u64) -> AfterPair
+    requires { ⌜ Beginning width at × (lent ≡ true → now white ≡ lookupTable Colour.white) ⌝ }
+    ensures { λ r. ⌜ Begins width at bits r ⌝ }
 {
-    let first = front::front_run(white, front::top13(bits), bits);
+    let first = front::front_run_by(lent, white, WHITE, front::top13(bits), bits);
     if first.size == 0 {
         return AfterPair::Other;
     }
@@ -238,18 +252,30 @@ fn fit(plain: bool, room: usize, width: u32, len: usize, at: usize) -> bool
     at <= 8 * len - 64
 }
 
+fn halted(s: BeforePair) -> BetweenRuns
+    ensures { λ r. ⌜ r ≡ paceOf s ⌝ }
+{
+    BetweenRuns {
+        at: s.at,
+        position: s.position,
+        count: s.count,
+        colour: 1,
+    }
+}
+
 // From the line's start. Where no pair comes, what was read so far is its first run, or nothing.
 pub fn pairs<'a>(
-    white: &'a [u16; 8192],
-    black: &'a [u16; 8192],
-    both: &'a [u16; 2048],
+    lent: bool,
+    white: &'a [u16],
+    black: &'a [u16],
+    both: &'a [u16],
     src: &[u8],
     row: &mut [u32],
     width: u32,
     at: usize,
     plain: bool,
 ) -> BetweenRuns
-    requires { ⌜ Pairing (now white) (now black) (now both) (now src) width at ⌝ }
+    requires { ⌜ Pairing lent (now white) (now black) (now both) (now src) width at ⌝ }
     ensures { λ r. ⌜ Ran (bitsOf (now (src .entry))) (length (now (row .entry))) width (now (row .entry)) (startAt at) (now (row .exit)) r ⌝ }
 {
     let start = BetweenRuns {
@@ -262,16 +288,15 @@ pub fn pairs<'a>(
         return start;
     }
     let last = 8 * src.len() - 64;
-    match begun(white, width, at, bit_reader::ahead(src, at)) {
+    match begun(lent, white, width, at, bit_reader::ahead(src, at)) {
         AfterPair::Other => start,
         AfterPair::On(from) => {
-            let t = pairs_from(white, black, both, src, row, width, last, from);
-            BetweenRuns {
-                at: t.at,
-                position: t.position,
-                count: t.count,
-                colour: 1,
+            if lent {
+                let t = pairs_from(white, black, both, src, row, width, last, from);
+                return halted(t);
             }
+            let t = unlent_1d::pairs_from(src, row, width, last, from);
+            halted(t)
         }
     }
 }

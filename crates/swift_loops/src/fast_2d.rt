@@ -311,7 +311,7 @@ fn to_b2(
     })
 }
 
-fn pick<'a>(even: &'a [u16; 8192], odd: &'a [u16; 8192], parity: usize) -> &'a [u16; 8192]
+fn pick<'a>(even: &'a [u16], odd: &'a [u16], parity: usize) -> &'a [u16]
     ensures { λ r. ⌜ now r ≡ cond (eqb parity 0) (now (even .entry)) (now (odd .entry)) ⌝ }
 {
     if parity == 0 { even } else { odd }
@@ -319,8 +319,8 @@ fn pick<'a>(even: &'a [u16; 8192], odd: &'a [u16; 8192], parity: usize) -> &'a [
 
 // Two runs, out of the same bits.
 fn two_runs<'a>(
-    white: &'a [u16; 8192],
-    black: &'a [u16; 8192],
+    white: &'a [u16],
+    black: &'a [u16],
     changes: &mut [u32],
     start: usize,
     base: usize,
@@ -365,8 +365,8 @@ fn two_runs<'a>(
 // One code, by its leading zeros. `two_runs` picks its tables itself, so that it has one call alone and is compiled in place:
 // otherwise the stand would go through memory at every code.
 fn code<'a>(
-    white: &'a [u16; 8192],
-    black: &'a [u16; 8192],
+    white: &'a [u16],
+    black: &'a [u16],
     changes: &mut [u32],
     start: usize,
     base: usize,
@@ -413,8 +413,8 @@ fn code<'a>(
 
 // Swift codes while they come.
 fn codes<'a>(
-    white: &'a [u16; 8192],
-    black: &'a [u16; 8192],
+    white: &'a [u16],
+    black: &'a [u16],
     src: &[u8],
     changes: &mut [u32],
     start: usize,
@@ -459,8 +459,8 @@ fn has_room(room: usize, width: u32, s: BetweenCodes) -> bool
 
 // Swift codes while they come, where the room lasts, whatever the line holds; none where it may not.
 pub fn swift_codes<'a>(
-    white: &'a [u16; 8192],
-    black: &'a [u16; 8192],
+    white: &'a [u16],
+    black: &'a [u16],
     src: &[u8],
     changes: &mut [u32],
     start: usize,

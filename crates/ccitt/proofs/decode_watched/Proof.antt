@@ -35,6 +35,15 @@ pair-lookup-requires c κs = search needs
 strict-if-exact-requires : tie.Need-strict-if-exact-requires
 strict-if-exact-requires c κs = search needs
 
+slice-aggregate-page : tie.Need-slice-aggregate-page
+slice-aggregate-page c = search needs
+
+slice-aggregate-page-2 : tie.Need-slice-aggregate-page-2
+slice-aggregate-page-2 c = search needs
+
+slice-aggregate-page-3 : tie.Need-slice-aggregate-page-3
+slice-aggregate-page-3 c = search needs
+
 page-requires : tie.Need-page-requires
 page-requires c κs =
     rw (c .before .before .before .before .before .before .strict-if-exact .ensures) (
@@ -79,6 +88,9 @@ decode-watched-spec =
     black-lookup-requires
     pair-lookup-requires
     strict-if-exact-requires
+    slice-aggregate-page
+    slice-aggregate-page-2
+    slice-aggregate-page-3
     page-requires
     unless-short-requires
     same-length

@@ -1,7 +1,7 @@
 -- `ccitt::page` meets its contract. The invariant: the machine stands where the arrays say, `expected` whether EOLs were behind one of its rows, and `places` is the shorter of the two. Assumes nothing.
 use mathlib.Core.Path.{_≡_}
 use Rattle.rules.specs.Pages.{placesIn}
-use Rattle.ccitt.proofs.Paging.{Turn, turnsLeft, turn-start, turn-asked, turn-stopped, turn-full, turn-marked, turn-behind, turn-next, turn-falls}
+use Rattle.ccitt.proofs.Paging.{Turn, turnsLeft, turn-start, turn-asked, kept-paired, turn-stopped, turn-full, turn-marked, turn-behind, turn-next, turn-falls}
 use borrow.Author.Needs.{needs}
 use native.Mathlib.Omega.{arith}
 use denote.Ref.{now}
@@ -19,10 +19,10 @@ places-requires : tie.Need-places-requires Inv-loop μ-loop
 places-requires c κs = search needs
 
 loop-holds : tie.Need-loop-holds Inv-loop μ-loop
-loop-holds c = let s = c .before .before .before .before .before in (c .places .ensures, turn-start (now (s .args .src)) (s .args .settings) (now (s .args .changes)) (now (s .args .ends)) (now (s .args .marks)) (s .pre .0))
+loop-holds c = (c .places .ensures, turn-start (now (c .before .before .before .before .before .before .before .before .args .src)) (c .before .before .before .before .before .before .before .before .args .settings) (now (c .before .before .before .before .before .before .before .before .args .changes)) (now (c .before .before .before .before .before .before .before .before .args .ends)) (now (c .before .before .before .before .before .before .before .before .args .marks)) (c .before .before .before .before .before .before .before .before .pre .0))
 
 row-requires : tie.Need-row-requires Inv-loop μ-loop
-row-requires c κs = let pre = c .before .before .before .before .before .before .before .pre in (turn-asked (c .before .loop .inv .1), pre .1, pre .2)
+row-requires c κs = (turn-asked (c .before .loop .inv .1), kept-paired (c .before .loop .state .reference) (c .before .before .before .before .before .before .before .before .before .before .pre .1) (c .before .before .before .before .before .before .before .before .before .before .pre .2))
 
 enum-known-number : tie.Need-enum-known-number Inv-loop μ-loop
 enum-known-number c = search needs

@@ -23,14 +23,14 @@ add-row-at c = search needs
 
 row-at-requires : tie.Need-row-at-requires
 row-at-requires c κs =
-    let pre = c .before .before .before .before .before .before .before .pre in
-    (line-seen (pre .0) (sym (c .before .before .before .is-usual .ensures) ∙ not-false _ (c .before .before .if1 .left)), pre .1, pre .2)
+    let pre = c .before .before .before .before .before .before .before .before .before .before .pre in
+    (line-seen (pre .0) (sym (c .before .before .before .is-usual .ensures) ∙ not-false _ (c .before .before .if1 .left)), pre .1)
 
 same-length-2 : tie.Need-same-length-2
 same-length-2 c = search needs
 
 returns-2 : tie.Need-returns-2
-returns-2 c = row-seen (c .before .before .before .before .before .before .before .before .before .before .pre .0) (sym (c .before .before .before .before .before .before .is-usual .ensures) ∙ not-false _ (c .before .before .before .before .before .if1 .left)) _ _ (c .before .before .row-at .ensures)
+returns-2 c = row-seen (c .before .before .before .before .before .before .before .before .before .before .before .before .before .pre .0) (sym (c .before .before .before .before .before .before .is-usual .ensures) ∙ not-false _ (c .before .before .before .before .before .if1 .left)) _ _ (c .before .before .row-at .ensures)
 
 pub swift-row-spec : {M : Type 1} → statement M
 swift-row-spec =

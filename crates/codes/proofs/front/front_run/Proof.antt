@@ -11,8 +11,8 @@ use Rattle.codes.proofs.front.front_run.Tie as tie
 mul-first : tie.Need-mul-first
 mul-first c = search needs
 
-element-copy-out-first : tie.Need-element-copy-out-first
-element-copy-out-first c = search needs
+shared-slice-read-first : tie.Need-shared-slice-read-first
+shared-slice-read-first c = search needs
 
 run-in-requires : tie.Need-run-in-requires
 run-in-requires c κs = search needs
@@ -29,26 +29,26 @@ behind-requires c κs = search needs
 mul-last : tie.Need-mul-last
 mul-last c = search needs
 
-element-copy-out-last : tie.Need-element-copy-out-last
-element-copy-out-last c = search needs
+shared-slice-read-last : tie.Need-shared-slice-read-last
+shared-slice-read-last c = search needs
 
 joined-requires : tie.Need-joined-requires
 joined-requires c κs = search needs
 
 returns-2 : tie.Need-returns-2
-returns-2 c = c .joined .ensures _ _ (ap (λ (i : ℕ). getD (now (c .before .before .before .before .before .before .args .table)) i 0) (c .before .before .behind .ensures .0))
+returns-2 c = c .joined .ensures _ _ (ap (λ (i : ℕ). getD (now (c .before .before .before .before .before .before .before .args .table)) i 0) (c .before .before .behind .ensures .0))
 
 pub front-run-spec : {M : Type 1} → statement M
 front-run-spec =
     tie.close
     (tie.spec
     mul-first
-    element-copy-out-first
+    shared-slice-read-first
     run-in-requires
     size-in-requires
     returns
     behind-requires
     mul-last
-    element-copy-out-last
+    shared-slice-read-last
     joined-requires
     returns-2)

@@ -14,10 +14,10 @@ abbrev μ-loop : tie.MeasureT-loop
 μ-loop white black src changes₀ first base width start rules s₀ cut₀ changes s cut = 8 * length src - s .at
 
 loop-holds : tie.Need-loop-holds Inv-loop μ-loop
-loop-holds c = standing-new _ _ _ _ _ _ _ (c .before .before .pre .0)
+loop-holds c = standing-new _ _ _ _ _ _ _ (c .before .before .before .before .pre .0)
 
 swift-codes-requires : tie.Need-swift-codes-requires Inv-loop μ-loop
-swift-codes-requires c κs = standing-walks _ _ _ _ _ _ _ (c .before .loop .inv) (c .before .before .before .before .pre .1)
+swift-codes-requires c κs = standing-walks _ _ _ _ _ _ _ (c .before .loop .inv) (c .before .before .before .before .before .before .pre .1)
 
 line-at-requires : tie.Need-line-at-requires Inv-loop μ-loop
 line-at-requires c κs = search needs
@@ -29,13 +29,13 @@ returns : tie.Need-returns Inv-loop μ-loop
 returns c = rw (c .line-at .ensures) (standing-done _ _ _ _ _ _ _ (standing-walked _ _ _ _ _ _ _ (c .before .before .before .before .before .before .before .loop .inv) (c .before .before .before .before .before .swift-codes .ensures)) (c .before .if1 .taken))
 
 mul-change-or : tie.Need-mul-change-or Inv-loop μ-loop
-mul-change-or c = omega (arith, c .before .before .before .before .before .before .before .before .before .good .1 .1 .1 .0 .1, c .before .before .before .before .before .before .before .before .before .pre .0 .placed)
+mul-change-or c = omega (arith, c .before .before .before .before .before .before .before .before .before .before .before .good .1 .1 .1 .0 .1, c .before .before .before .before .before .before .before .before .before .before .before .pre .0 .placed)
 
 sub-change-or : tie.Need-sub-change-or Inv-loop μ-loop
-sub-change-or c = omega (arith, c .before .before .before .before .before .before .before .before .before .pre .0 .placed)
+sub-change-or c = omega (arith, c .before .before .before .before .before .before .before .before .before .before .before .pre .0 .placed)
 
 part-change-or-start : tie.Need-part-change-or-start Inv-loop μ-loop
-part-change-or-start c = omega (arith, c .before .before .before .before .before .before .before .before .before .before .pre .0 .placed)
+part-change-or-start c = omega (arith, c .before .before .before .before .before .before .before .before .before .before .before .before .pre .0 .placed)
 
 part-change-or-end : tie.Need-part-change-or-end Inv-loop μ-loop
 part-change-or-end c = standing-room _ _ _ _ _ _ _ (standing-walked _ _ _ _ _ _ _ (c .before .before .before .before .before .before .before .loop .inv) (c .before .before .before .before .before .swift-codes .ensures))
@@ -44,25 +44,25 @@ change-or-requires : tie.Need-change-or-requires Inv-loop μ-loop
 change-or-requires c κs = search needs
 
 mul-change-or-2 : tie.Need-mul-change-or-2 Inv-loop μ-loop
-mul-change-or-2 c = omega (arith, c .before .before .before .before .before .before .before .before .before .before .before .before .good .1 .1 .1 .0 .1, c .before .before .before .before .before .before .before .before .before .before .before .before .pre .0 .placed)
+mul-change-or-2 c = omega (arith, c .before .before .before .before .before .before .before .before .before .before .before .before .before .before .good .1 .1 .1 .0 .1, c .before .before .before .before .before .before .before .before .before .before .before .before .before .before .pre .0 .placed)
 
 sub-change-or-2 : tie.Need-sub-change-or-2 Inv-loop μ-loop
-sub-change-or-2 c = omega (arith, c .before .before .before .before .before .before .before .before .before .before .before .before .pre .0 .placed)
+sub-change-or-2 c = omega (arith, c .before .before .before .before .before .before .before .before .before .before .before .before .before .before .pre .0 .placed)
 
 part-change-or-start-2 : tie.Need-part-change-or-start-2 Inv-loop μ-loop
-part-change-or-start-2 c = omega (arith, c .before .before .before .before .before .before .before .before .before .before .before .before .before .pre .0 .placed)
+part-change-or-start-2 c = omega (arith, c .before .before .before .before .before .before .before .before .before .before .before .before .before .before .before .pre .0 .placed)
 
 part-change-or-end-2 : tie.Need-part-change-or-end-2 Inv-loop μ-loop
 part-change-or-end-2 c = standing-room _ _ _ _ _ _ _ (standing-walked _ _ _ _ _ _ _ (c .before .before .before .before .before .before .before .before .before .before .loop .inv) (c .before .before .before .before .before .before .before .before .swift-codes .ensures))
 
 add-change-or : tie.Need-add-change-or Inv-loop μ-loop
-add-change-or c = omega (arith, standing-place _ _ _ _ _ _ _ (standing-walked _ _ _ _ _ _ _ (c .before .before .before .before .before .before .before .before .before .before .before .before .loop .inv) (c .before .before .before .before .before .before .before .before .before .before .swift-codes .ensures)) (omega (arith, c .before .before .before .before .before .before .before .before .before .before .before .before .before .before .before .good .1 .1 .1 .0 .1)))
+add-change-or c = omega (arith, standing-place _ _ _ _ _ _ _ (standing-walked _ _ _ _ _ _ _ (c .before .before .before .before .before .before .before .before .before .before .before .before .loop .inv) (c .before .before .before .before .before .before .before .before .before .before .swift-codes .ensures)) (omega (arith, c .before .before .before .before .before .before .before .before .before .before .before .before .before .before .before .before .before .good .1 .1 .1 .0 .1)))
 
 change-or-requires-2 : tie.Need-change-or-requires-2 Inv-loop μ-loop
 change-or-requires-2 c κs = search needs
 
 mul-full-code : tie.Need-mul-full-code Inv-loop μ-loop
-mul-full-code c = omega (arith, c .before .before .before .before .before .before .before .before .before .before .before .before .before .before .before .before .good .1 .1 .1 .0 .1, c .before .before .before .before .before .before .before .before .before .before .before .before .before .before .before .before .pre .0 .placed)
+mul-full-code c = omega (arith, c .before .before .before .before .before .before .before .before .before .before .before .before .before .before .before .before .before .before .good .1 .1 .1 .0 .1, c .before .before .before .before .before .before .before .before .before .before .before .before .before .before .before .before .before .before .pre .0 .placed)
 
 sub-full-code : tie.Need-sub-full-code Inv-loop μ-loop
 sub-full-code c = standing-room _ _ _ _ _ _ _ (standing-walked _ _ _ _ _ _ _ (c .before .before .before .before .before .before .before .before .before .before .before .before .before .loop .inv) (c .before .before .before .before .before .before .before .before .before .before .before .swift-codes .ensures))
@@ -98,18 +98,18 @@ enum-known-next : tie.Need-enum-known-next Inv-loop μ-loop
 enum-known-next c = search needs
 
 mul-stand-at : tie.Need-mul-stand-at Inv-loop μ-loop
-mul-stand-at c = omega (arith, c .before .before .before .before .before .before .before .before .before .before .before .before .before .before .before .before .before .before .before .before .before .before .before .before .good .1 .1 .1 .0 .1, c .before .before .before .before .before .before .before .before .before .before .before .before .before .before .before .before .before .before .before .before .before .before .before .before .pre .0 .placed)
+mul-stand-at c = omega (arith, c .before .before .before .before .before .before .before .before .before .before .before .before .before .before .before .before .before .before .before .before .before .before .before .before .before .before .good .1 .1 .1 .0 .1, c .before .before .before .before .before .before .before .before .before .before .before .before .before .before .before .before .before .before .before .before .before .before .before .before .before .before .pre .0 .placed)
 
 sub-stand-at : tie.Need-sub-stand-at Inv-loop μ-loop
-sub-stand-at c = omega (arith, c .before .before .before .before .before .before .before .before .before .before .before .before .before .before .before .before .before .before .before .before .before .before .before .before .pre .0 .placed)
+sub-stand-at c = omega (arith, c .before .before .before .before .before .before .before .before .before .before .before .before .before .before .before .before .before .before .before .before .before .before .before .before .before .before .pre .0 .placed)
 
 part-stand-at-start : tie.Need-part-stand-at-start Inv-loop μ-loop
-part-stand-at-start c = omega (arith, c .before .before .before .before .before .before .before .before .before .before .before .before .before .before .before .before .before .before .before .before .before .before .before .before .before .pre .0 .placed)
+part-stand-at-start c = omega (arith, c .before .before .before .before .before .before .before .before .before .before .before .before .before .before .before .before .before .before .before .before .before .before .before .before .before .before .before .pre .0 .placed)
 
 part-stand-at-end : tie.Need-part-stand-at-end Inv-loop μ-loop
 part-stand-at-end c =
     let g = standing-walked _ _ _ _ _ _ _ (c .before .before .before .before .before .before .before .before .before .before .before .before .before .before .before .before .before .before .before .before .before .before .loop .inv) (c .before .before .before .before .before .before .before .before .before .before .before .before .before .before .before .before .before .before .before .before .swift-codes .ensures) in
-    omega (arith, c .before .before .before .before .before .before .before .before .before .before .before .before .before .before .before .before .before .before .before .before .before .before .before .before .before .pre .0 .placed, standing-back _ _ _ _ _ _ _ g (c .before .before .before .before .before .before .full-code .last .1 .0) (c .before .before .before .before .before .before .full-code .kept .1 .0))
+    omega (arith, c .before .before .before .before .before .before .before .before .before .before .before .before .before .before .before .before .before .before .before .before .before .before .before .before .before .before .before .pre .0 .placed, standing-back _ _ _ _ _ _ _ g (c .before .before .before .before .before .before .full-code .last .1 .0) (c .before .before .before .before .before .before .full-code .kept .1 .0))
 
 stand-at-requires : tie.Need-stand-at-requires Inv-loop μ-loop
 stand-at-requires c κs =

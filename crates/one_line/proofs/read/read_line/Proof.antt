@@ -54,14 +54,14 @@ past-requires c κs = search needs
 returns-5 : tie.Need-returns-5
 returns-5 c = rw (c .past .ensures) (past-end (c .before .before .before .before .before .before .if1 .left) (c .before .before .before .before .before .if2 .left) (c .before .before .before .before .if3 .left) (sym (c .before .before .before .ascends .ensures) ∙ not-false _ (c .before .before .if4 .left)) (c .before .if5 .taken))
 
-white-lookup-requires : tie.Need-white-lookup-requires
-white-lookup-requires c κs = search needs
+slice-aggregate-decode-2d-line : tie.Need-slice-aggregate-decode-2d-line
+slice-aggregate-decode-2d-line c = search needs
 
-black-lookup-requires : tie.Need-black-lookup-requires
-black-lookup-requires c κs = search needs
+slice-aggregate-decode-2d-line-2 : tie.Need-slice-aggregate-decode-2d-line-2
+slice-aggregate-decode-2d-line-2 c = search needs
 
 decode-2d-line-requires : tie.Need-decode-2d-line-requires
-decode-2d-line-requires c κs = (line-asked (opened (c .before .before .before .before .before)), record { of-white = c .before .before .before .before .white-lookup .ensures; of-black = c .before .before .before .black-lookup .ensures })
+decode-2d-line-requires c κs = (line-asked (opened (c .before .before .before)), tt)
 
 answer-requires : tie.Need-answer-requires
 answer-requires c κs = search needs
@@ -70,7 +70,7 @@ same-length : tie.Need-same-length
 same-length c = search needs
 
 returns-6 : tie.Need-returns-6
-returns-6 c = line-read (opened (c .before .before .before .before .before .before .before .before .before)) (c .before .before .before .before .before .before .before .before .before .before .before .before .before .before .before .before .before .before .args .strict) (now (c .before .before .before .before .before .before .before .before .before .before .before .before .before .before .before .before .before .before .args .changes)) (c .before .before .before .decode-2d-line .ensures) (c .answer .ensures)
+returns-6 c = line-read (opened (c .before .before .before .before .before .before .before)) (c .before .before .before .before .before .before .before .before .before .before .before .before .before .before .before .before .args .strict) (now (c .before .before .before .before .before .before .before .before .before .before .before .before .before .before .before .before .args .changes)) (c .before .before .before .decode-2d-line .ensures) (c .answer .ensures)
 
 pub read-line-spec : {M : Type 1} → statement M
 read-line-spec =
@@ -88,8 +88,8 @@ read-line-spec =
     mul-end
     past-requires
     returns-5
-    white-lookup-requires
-    black-lookup-requires
+    slice-aggregate-decode-2d-line
+    slice-aggregate-decode-2d-line-2
     decode-2d-line-requires
     answer-requires
     same-length

@@ -1,6 +1,11 @@
--- The pair table's entry, or the codes.
+-- The lent pair table's entry, or the codes.
+use mathlib.Core.Path.{ap}
+use mathlib.Core.List.{List}
+use Prim.Native.Nat.{ℕ, _/_}
 use native.Mathlib.Omega.{arith}
-use Rattle.swift_loops.proofs.PairEntries.{entry-both, entry-runs}
+use lib.ListN.{getD}
+use Rattle.swift_loops.proofs.PairEntries.{pair-table-length}
+use Rattle.swift_loops.proofs.OnePair.{entry-paired}
 use borrow.Author.Needs.{needs}
 use Rattle.swift_loops.proofs.fast_1d.pair_at.Statement.{statement}
 use Rattle.swift_loops.proofs.fast_1d.pair_at.Tie as tie
@@ -8,8 +13,8 @@ use Rattle.swift_loops.proofs.fast_1d.pair_at.Tie as tie
 mul-entry : tie.Need-mul-entry
 mul-entry c = search needs
 
-element-copy-out-entry : tie.Need-element-copy-out-entry
-element-copy-out-entry c = search needs
+shared-slice-read-entry : tie.Need-shared-slice-read-entry
+shared-slice-read-entry c = omega (arith, c .before .before .before .before .pre .0, pair-table-length (c .before .before .before .before .pre .2))
 
 by-codes-requires : tie.Need-by-codes-requires
 by-codes-requires c κs = search needs
@@ -22,25 +27,8 @@ by-entry-requires c κs = search needs
 
 returns-2 : tie.Need-returns-2
 returns-2 c =
-    let pre = c .before .before .before .pre in
-    let top = c .before .before .before .args .top in
-    let some = c .before .if1 .left in
     let entry = c .by-entry .ensures in
-    rw (entry .0)
-    (record {
-      few = omega (arith, entry .1);
-      narrow = omega arith;
-      both = λ h. entry-both (pre .1) top (pre .0) some;
-      read = λ l bytes at live h k t white. entry-runs (pre .1) h k top t some;
-    })
+    rw (entry .0) (entry-paired (c .before .before .before .before .before .before .pre .0) (ap (λ (l : List ℕ). getD l (c .before .before .before .before .before .before .args .top / 4) 0) (c .before .before .before .before .before .before .pre .2)) (c .before .if1 .left) (entry .1))
 
 pub pair-at-spec : {M : Type 1} → statement M
-pair-at-spec =
-    tie.close
-    (tie.spec
-    mul-entry
-    element-copy-out-entry
-    by-codes-requires
-    returns
-    by-entry-requires
-    returns-2)
+pair-at-spec = tie.close (tie.spec mul-entry shared-slice-read-entry by-codes-requires returns by-entry-requires returns-2)

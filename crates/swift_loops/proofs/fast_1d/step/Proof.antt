@@ -14,7 +14,7 @@ top13-requires : tie.Need-top13-requires
 top13-requires c κs = search needs
 
 pair-at-requires : tie.Need-pair-at-requires
-pair-at-requires c κs = (c .top13 .ensures .1, c .before .before .before .before .pre .pacing .pairs)
+pair-at-requires c κs = (c .top13 .ensures .1, c .before .before .before .before .before .before .before .pre .1, c .before .before .before .before .before .before .before .pre .2)
 
 bits-behind-requires : tie.Need-bits-behind-requires
 bits-behind-requires c κs = search needs
@@ -27,9 +27,9 @@ same-length c = search needs
 
 returns : tie.Need-returns
 returns c =
-    let p = c .before .before .before .before .before .before .before .before .before .before .pre .pacing in
-    let known = p .paces .known (omega (arith, c .before .before .before .before .before .before .before .before .before .before .pre .here, p .last-is)) in
-    c .before .before .put .ensures (now (c .before .before .before .before .before .before .before .before .before .before .args .src)) (λ some. c .before .before .before .before .before .pair-at .ensures .read (p .lookups) (now (c .before .before .before .before .before .before .before .before .before .before .args .src)) _ _ (c .before .before .before .before .before .before .before .ahead .ensures) (omega arith) (c .before .before .before .before .before .before .top13 .ensures .0 ∙ ahead-first (known .next) 13 (known .enough)) some) (c .before .before .before .before .bits-behind .ensures _ (c .before .before .before .before .before .before .before .ahead .ensures) (omega arith))
+    let p = c .before .before .before .before .before .before .before .before .before .before .before .before .before .pre .0 .pacing in
+    let known = p .paces .known (omega (arith, c .before .before .before .before .before .before .before .before .before .before .before .before .before .pre .0 .here, p .last-is)) in
+    c .before .before .put .ensures (now (c .before .before .before .before .before .before .before .before .before .before .before .before .before .args .src)) (λ some. c .before .before .before .before .before .pair-at .ensures .read (now (c .before .before .before .before .before .before .before .before .before .before .before .before .before .args .src)) _ _ (c .before .before .before .before .before .before .before .ahead .ensures) (omega arith) (c .before .before .before .before .before .before .top13 .ensures .0 ∙ ahead-first (known .next) 13 (known .enough)) some) (c .before .before .before .before .bits-behind .ensures _ (c .before .before .before .before .before .before .before .ahead .ensures) (omega arith))
 
 pub step-spec : {M : Type 1} → statement M
 step-spec =

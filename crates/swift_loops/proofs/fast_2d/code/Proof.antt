@@ -35,7 +35,7 @@ vertical-requires : tie.Need-vertical-requires
 vertical-requires c κs =
     let bit = c .bit-of in
     record {
-      asks = c .before .before .before .before .before .pre .1;
+      asks = c .before .before .before .before .before .before .before .pre .1;
       some-pixels = omega arith;
       few = omega arith;
       small = omega (arith, bit .ensures);
@@ -54,7 +54,7 @@ vertical-requires-2 : tie.Need-vertical-requires-2
 vertical-requires-2 c κs =
     let bit = c .bit-of2 in
     record {
-      asks = c .before .before .before .before .before .pre .1;
+      asks = c .before .before .before .before .before .before .before .pre .1;
       some-pixels = omega arith;
       few = omega arith;
       small = omega (arith, bit .ensures);
@@ -91,7 +91,7 @@ same-length-4 c = search needs
 returns-4 : tie.Need-returns-4
 unfolding modeFor
 returns-4 c = λ bytes live h k.
-    let a = c .before .before .before .before .before .before .before .before .args in
+    let a = c .before .before .before .before .before .before .before .before .before .before .args in
     let bit = c .before .before .before .bit-of in
     c .before .before .vertical .ensures .0 bytes
     (top-sided h (omega arith) (c .before .before .before .before .before .match .keys3) (omega arith) 2 6 (λ side. refl) (omega arith)
@@ -105,7 +105,7 @@ same-length-5 c = search needs
 returns-5 : tie.Need-returns-5
 unfolding modeFor
 returns-5 c = λ bytes live h k.
-    let a = c .before .before .before .before .before .before .before .before .args in
+    let a = c .before .before .before .before .before .before .before .before .before .before .args in
     let bit = c .before .before .before .bit-of2 in
     c .before .before .vertical2 .ensures .0 bytes
     (top-sided h (omega arith) (c .before .before .before .before .before .match .keys4) (omega arith) 3 7 (λ side. refl) (omega arith)

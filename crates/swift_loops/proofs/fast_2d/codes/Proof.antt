@@ -17,7 +17,7 @@ abbrev μ-loop : tie.MeasureT-loop
 μ-loop white black src changes₀ start base width last s₀ changes s = 8 * length src - s .at
 
 returns : tie.Need-returns Inv-loop μ-loop
-returns c = walks-none (c .before .before .before .pre .0)
+returns c = walks-none (c .before .before .before .before .before .pre .0)
 
 mul-last : tie.Need-mul-last Inv-loop μ-loop
 mul-last c = search needs
@@ -26,19 +26,19 @@ sub-last : tie.Need-sub-last Inv-loop μ-loop
 sub-last c = search needs
 
 loop-holds : tie.Need-loop-holds Inv-loop μ-loop
-loop-holds c = walks-none (c .before .before .before .pre .0)
+loop-holds c = walks-none (c .before .before .before .before .before .pre .0)
 
 mul-change-or : tie.Need-mul-change-or Inv-loop μ-loop
-mul-change-or c = omega (arith, c .before .before .before .before .before .before .good .1 .1 .1 .0 .1, c .before .before .before .before .before .before .pre .0 .placed)
+mul-change-or c = omega (arith, c .before .before .before .before .before .before .before .before .good .1 .1 .1 .0 .1, c .before .before .before .before .before .before .before .before .pre .0 .placed)
 
 sub-change-or : tie.Need-sub-change-or Inv-loop μ-loop
-sub-change-or c = omega (arith, c .before .before .before .before .before .before .pre .0 .placed)
+sub-change-or c = omega (arith, c .before .before .before .before .before .before .before .before .pre .0 .placed)
 
 part-change-or-start : tie.Need-part-change-or-start Inv-loop μ-loop
-part-change-or-start c = omega (arith, c .before .before .before .before .before .before .before .pre .0 .placed)
+part-change-or-start c = omega (arith, c .before .before .before .before .before .before .before .before .before .pre .0 .placed)
 
 part-change-or-end : tie.Need-part-change-or-end Inv-loop μ-loop
-part-change-or-end c = walked-base (c .before .before .before .before .before .before .before .pre .0) (c .before .before .before .loop .inv)
+part-change-or-end c = walked-base (c .before .before .before .before .before .before .before .before .before .pre .0) (c .before .before .before .loop .inv)
 
 change-or-requires : tie.Need-change-or-requires Inv-loop μ-loop
 change-or-requires c κs = search needs
@@ -54,7 +54,7 @@ ahead-requires c κs = omega (arith, c .before .before .before .before .before .
 
 code-requires : tie.Need-code-requires Inv-loop μ-loop
 code-requires c κs =
-    let asks = c .before .before .before .before .before .before .before .before .before .before .before .before .before in
+    let asks = c .before .before .before .before .before .before .before .before .before .before .before .before .before .before .before in
     let inv = c .before .before .before .before .before .before .before .before .before .loop .inv in (
       asks .pre .0 .lookups,
       walked-asks (asks .pre .0) inv (asks .pre .1) (c .before .before .before .before .change-or .ensures) (c .before .before .if3 .left)
@@ -70,21 +70,21 @@ same-length-2 c = omega (arith, c .before .before .before .before .before .befor
 
 returns-3 : tie.Need-returns-3 Inv-loop μ-loop
 returns-3 c =
-    let took = c .before .before .before .before .code .ensures (now (c .before .before .before .before .before .before .before .before .before .before .before .before .before .before .before .before .before .before .args .src)) _ (c .before .before .before .before .before .before .ahead .ensures) (omega arith) in
-    took-other (c .before .before .before .before .before .before .before .before .before .before .before .before .before .before .before .before .before .before .pre .0) (c .before .before .before .before .before .before .before .before .before .before .before .before .before .before .loop .inv) _ _ took (c .enum-told .given .1)
+    let took = c .before .before .before .before .code .ensures (now (c .before .before .before .before .before .before .before .before .before .before .before .before .before .before .before .before .before .before .before .before .args .src)) _ (c .before .before .before .before .before .before .ahead .ensures) (omega arith) in
+    took-other (c .before .before .before .before .before .before .before .before .before .before .before .before .before .before .before .before .before .before .before .before .pre .0) (c .before .before .before .before .before .before .before .before .before .before .before .before .before .before .loop .inv) _ _ took (c .enum-told .given .1)
 
 enum-known-next : tie.Need-enum-known-next Inv-loop μ-loop
 enum-known-next c = search needs
 
 loop-less : tie.Need-loop-less Inv-loop μ-loop
 loop-less c =
-    let took = c .before .before .before .before .before .code .ensures (now (c .before .before .before .before .before .before .before .before .before .before .before .before .before .before .before .before .before .before .before .args .src)) _ (c .before .before .before .before .before .before .before .ahead .ensures) (omega arith) in
-    took-less (c .before .before .before .before .before .before .before .before .before .before .before .before .before .before .before .before .before .before .before .pre .0) (c .before .before .before .before .before .before .before .before .before .before .before .before .before .before .before .loop .inv) _ (c .before .before .before .before .before .code .last .1 .1 .0) took (c .before .next .given .1)
+    let took = c .before .before .before .before .before .code .ensures (now (c .before .before .before .before .before .before .before .before .before .before .before .before .before .before .before .before .before .before .before .before .before .args .src)) _ (c .before .before .before .before .before .before .before .ahead .ensures) (omega arith) in
+    took-less (c .before .before .before .before .before .before .before .before .before .before .before .before .before .before .before .before .before .before .before .before .before .pre .0) (c .before .before .before .before .before .before .before .before .before .before .before .before .before .before .before .loop .inv) _ (c .before .before .before .before .before .code .last .1 .1 .0) took (c .before .next .given .1)
 
 loop-again : tie.Need-loop-again Inv-loop μ-loop
 loop-again c =
-    let took = c .before .before .before .before .before .code .ensures (now (c .before .before .before .before .before .before .before .before .before .before .before .before .before .before .before .before .before .before .before .args .src)) _ (c .before .before .before .before .before .before .before .ahead .ensures) (omega arith) in
-    took-on (c .before .before .before .before .before .before .before .before .before .before .before .before .before .before .before .before .before .before .before .pre .0) (c .before .before .before .before .before .before .before .before .before .before .before .before .before .before .before .loop .inv) _ _ took (c .before .next .given .1)
+    let took = c .before .before .before .before .before .code .ensures (now (c .before .before .before .before .before .before .before .before .before .before .before .before .before .before .before .before .before .before .before .before .before .args .src)) _ (c .before .before .before .before .before .before .before .ahead .ensures) (omega arith) in
+    took-on (c .before .before .before .before .before .before .before .before .before .before .before .before .before .before .before .before .before .before .before .before .before .pre .0) (c .before .before .before .before .before .before .before .before .before .before .before .before .before .before .before .loop .inv) _ _ took (c .before .next .given .1)
 
 same-length-3 : tie.Need-same-length-3 Inv-loop μ-loop
 same-length-3 c = c .before .before .loop .inv .size
