@@ -1,8 +1,11 @@
 // Calls of the public functions of codes::front, each with the contract that its promises are about.
 use codes::front::Front;
 ghost use mathlib.Core.Path.{_≡_};
+ghost use mathlib.Core.Bool.{true};
 ghost use Prim.Native.Nat.{_/_, _^_, _<_};
-ghost use lib.ListN.{getD};
+ghost use lib.ListN.{length, getD};
+ghost use Rattle.rules.specs.Lookup.{lookupTable};
+ghost use Rattle.tables.specs.Tables.{colourOf};
 ghost use Rattle.codes.specs.Fronts.{Fronted};
 
 pub fn top13(bits: u64) -> usize
@@ -11,9 +14,23 @@ pub fn top13(bits: u64) -> usize
     codes::front::top13(bits)
 }
 
-pub fn front_run(table: &[u16; 8192], top: usize, bits: u64) -> Front
-    requires { ⌜ top < 8192 ⌝ }
+pub fn front_run(table: &[u16], top: usize, bits: u64) -> Front
+    requires { ⌜ (top < 8192) × (length (now table) ≡ 8192) ⌝ }
     ensures { λ r. ⌜ Fronted (now (table .entry)) (getD (now (table .entry)) top 0) bits r ⌝ }
 {
     codes::front::front_run(table, top, bits)
+}
+
+pub fn front_run_of(colour: usize, top: usize, bits: u64) -> Front
+    requires { ⌜ top < 8192 ⌝ }
+    ensures { λ r. ⌜ Fronted (lookupTable (colourOf colour)) (getD (lookupTable (colourOf colour)) top 0) bits r ⌝ }
+{
+    codes::front::front_run_of(colour, top, bits)
+}
+
+pub fn front_run_by(lent: bool, table: &[u16], colour: usize, top: usize, bits: u64) -> Front
+    requires { ⌜ (top < 8192) × (lent ≡ true → now table ≡ lookupTable (colourOf colour)) ⌝ }
+    ensures { λ r. ⌜ Fronted (lookupTable (colourOf colour)) (getD (lookupTable (colourOf colour)) top 0) bits r ⌝ }
+{
+    codes::front::front_run_by(lent, table, colour, top, bits)
 }

@@ -9,45 +9,27 @@ ghost use Rattle.rules.specs.Bits.{bitsOf};
 ghost use Rattle.rules.specs.Plain.{byLookup};
 ghost use Rattle.rules.specs.Runs.{sum, runStep};
 ghost use Rattle.tables.specs.Tables.{colourOf};
+ghost use Rattle.bit_reader.specs.Loaded.{Loading};
 ghost use Rattle.codes.specs.Plain.{foundOf};
-ghost use Rattle.codes.specs.Runs.{Reading, RunRead, CodeFrom, codeOf};
+ghost use Rattle.codes.specs.Runs.{Reading, RunRead, codeOf};
 
-pub fn read_run<'a>(
-    white: &'a [u16; 8192],
-    black: &'a [u16; 8192],
-    colour: usize,
-    src: &[u8],
-    start: Buffer,
-) -> Run
-    requires { ⌜ Reading (now white) (now black) (now src) start ⌝ }
+pub fn read_run(colour: usize, src: &[u8], start: Buffer) -> Run
+    requires { ⌜ Reading (now src) start ⌝ }
     ensures { λ r. ⌜ RunRead (colourOf colour) (now (src .entry)) (start .at) r ⌝ }
 {
-    codes::run::read_run(white, black, colour, src, start)
+    codes::run::read_run(colour, src, start)
 }
 
-pub fn read_code<'a>(
-    white: &'a [u16; 8192],
-    black: &'a [u16; 8192],
-    colour: usize,
-    src: &[u8],
-    at: usize,
-    total: u32,
-) -> RunCode
-    requires { ⌜ CodeFrom (now white) (now black) (now src) at ⌝ }
+pub fn read_code(colour: usize, src: &[u8], at: usize, total: u32) -> RunCode
+    requires { ⌜ Loading (now src) at ⌝ }
     ensures { λ r. ⌜ codeOf r ≡ runStep (colourOf colour) (bitsOf (now (src .entry))) (sum at total) ⌝ }
 {
-    codes::run::read_code(white, black, colour, src, at, total)
+    codes::run::read_code(colour, src, at, total)
 }
 
-pub fn look_up<'a>(
-    white: &'a [u16; 8192],
-    black: &'a [u16; 8192],
-    colour: usize,
-    src: &[u8],
-    at: usize,
-) -> Found
-    requires { ⌜ CodeFrom (now white) (now black) (now src) at ⌝ }
+pub fn look_up(colour: usize, src: &[u8], at: usize) -> Found
+    requires { ⌜ Loading (now src) at ⌝ }
     ensures { λ r. ⌜ foundOf r ≡ byLookup (colourOf colour) (drop at (bitsOf (now (src .entry)))) ⌝ }
 {
-    codes::run::look_up(white, black, colour, src, at)
+    codes::run::look_up(colour, src, at)
 }

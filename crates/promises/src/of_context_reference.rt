@@ -1,5 +1,6 @@
 // Calls of the public functions of context::reference, each with the contract that its promises are about.
 use context::reference::FoundChanges;
+use context::reference::Reference;
 ghost use mathlib.Core.Path.{_≡_};
 ghost use lib.ListN.{drop};
 ghost use Rattle.rules.specs.Lines.{headOr};
@@ -7,6 +8,7 @@ ghost use Rattle.rules.specs.Pages.{ascends};
 ghost use Rattle.tables.specs.Tables.{colourOf};
 ghost use Rattle.context.specs.Places.{B1At};
 ghost use Rattle.context.specs.Reference.{Searches, Finds};
+ghost use Rattle.context.specs.Coding.{isKept};
 
 pub fn change_or(row: &[u32], place: usize, width: u32) -> u32
     ensures { λ r. ⌜ r ≡ headOr width (drop place (now (row .entry))) ⌝ }
@@ -32,4 +34,10 @@ pub fn ascends(row: &[u32], width: u32) -> bool
     ensures { λ r. ⌜ r ≡ ascends width (now (row .entry)) ⌝ }
 {
     context::reference::ascends(row, width)
+}
+
+pub fn is_kept(place: Reference) -> bool
+    ensures { λ r. ⌜ r ≡ isKept place ⌝ }
+{
+    context::reference::is_kept(place)
 }

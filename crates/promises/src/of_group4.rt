@@ -10,6 +10,7 @@ ghost use lib.ListN.{length};
 ghost use Rattle.rules.specs.Bits.{bitsOf};
 ghost use Rattle.rules.specs.Group4.{over, row4};
 ghost use Rattle.codes.specs.Eols.{eolsOf};
+ghost use Rattle.context.specs.Coding.{TabledFor};
 ghost use Rattle.settings.specs.Settings.{settingsOf};
 ghost use Rattle.settings.specs.Between.{stateOf, RowFrom, RowGives};
 
@@ -20,31 +21,46 @@ pub fn is_over(src: &[u8], settings: DecodeSettings, state: State, eols: Eols) -
 }
 
 pub fn row<'a>(
-    white: &'a [u16; 8192],
-    black: &'a [u16; 8192],
+    white: &'a [u16],
+    black: &'a [u16],
     src: &[u8],
     settings: DecodeSettings,
     lent: &[u32],
     changes: &mut [u32],
     state: State,
 ) -> Row
-    requires { ⌜ RowFrom (now white) (now black) (now src) (now lent) (now changes) settings state ⌝ }
+    requires { ⌜ RowFrom (now src) (now lent) (now changes) settings state × TabledFor (state .reference) (now white) (now black) ⌝ }
     ensures { λ r. ⌜ RowGives (state .base) (now (changes .entry)) (row4 (settingsOf settings) (bitsOf (now (src .entry))) (length (now (changes .entry)) - state .base) (stateOf (now (lent .entry)) (now (changes .entry)) state)) r (now (changes .exit)) ⌝ }
 {
     group4::row(white, black, src, settings, lent, changes, state)
 }
 
 pub fn swift_row<'a>(
-    white: &'a [u16; 8192],
-    black: &'a [u16; 8192],
+    white: &'a [u16],
+    black: &'a [u16],
     src: &[u8],
     settings: DecodeSettings,
     lent: &[u32],
     changes: &mut [u32],
     state: State,
 ) -> Row
-    requires { ⌜ RowFrom (now white) (now black) (now src) (now lent) (now changes) settings state ⌝ }
+    requires { ⌜ RowFrom (now src) (now lent) (now changes) settings state × TabledFor (state .reference) (now white) (now black) ⌝ }
     ensures { λ r. ⌜ RowGives (state .base) (now (changes .entry)) (row4 (settingsOf settings) (bitsOf (now (src .entry))) (length (now (changes .entry)) - state .base) (stateOf (now (lent .entry)) (now (changes .entry)) state)) r (now (changes .exit)) ⌝ }
 {
     group4::swift_row(white, black, src, settings, lent, changes, state)
+}
+
+pub fn lone_row<'a>(
+    white: &'a [u16],
+    black: &'a [u16],
+    src: &[u8],
+    settings: DecodeSettings,
+    lent: &[u32],
+    changes: &mut [u32],
+    state: State,
+) -> Row
+    requires { ⌜ RowFrom (now src) (now lent) (now changes) settings state × TabledFor (state .reference) (now white) (now black) ⌝ }
+    ensures { λ r. ⌜ RowGives (state .base) (now (changes .entry)) (row4 (settingsOf settings) (bitsOf (now (src .entry))) (length (now (changes .entry)) - state .base) (stateOf (now (lent .entry)) (now (changes .entry)) state)) r (now (changes .exit)) ⌝ }
+{
+    group4::lone_row(white, black, src, settings, lent, changes, state)
 }

@@ -2,11 +2,11 @@
 use context::reference::Reference;
 use context::step::Rules;
 use context::step::Step;
-ghost use Rattle.context.specs.Coding.{Lines, Lined};
+ghost use Rattle.context.specs.Coding.{Lines, TabledFor, Lined};
 
 pub fn decode_2d_line<'a>(
-    white: &'a [u16; 8192],
-    black: &'a [u16; 8192],
+    white: &'a [u16],
+    black: &'a [u16],
     src: &[u8],
     reference: &[u32],
     changes: &mut [u32],
@@ -16,7 +16,7 @@ pub fn decode_2d_line<'a>(
     start: usize,
     rules: Rules,
 ) -> Step
-    requires { ⌜ Lines (now white) (now black) (now src) (now reference) (now changes) base place width start ⌝ }
+    requires { ⌜ Lines (now src) (now reference) (now changes) base place width start × TabledFor place (now white) (now black) ⌝ }
     ensures { λ r. ⌜ Lined (now (src .entry)) (now (reference .entry)) (now (changes .entry)) base place width start rules r (now (changes .exit)) ⌝ }
 {
     one_line::line_2d::decode_2d_line(

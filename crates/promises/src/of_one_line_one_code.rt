@@ -9,7 +9,8 @@ ghost use mathlib.Core.Bool.{_&&_};
 ghost use Rattle.rules.specs.Bits.{bitsOf};
 ghost use Rattle.rules.specs.Runs.{sum, runStep};
 ghost use Rattle.tables.specs.Tables.{colourOf};
-ghost use Rattle.codes.specs.Runs.{CodeFrom, codeOf};
+ghost use Rattle.bit_reader.specs.Loaded.{Loading};
+ghost use Rattle.codes.specs.Runs.{codeOf};
 ghost use Rattle.context.specs.State.{Holds};
 ghost use Rattle.context.specs.Coding.{unlessIdleFor};
 ghost use Rattle.one_line.specs.OneCode.{OneCoding, OneCoded, RunEnded};
@@ -29,19 +30,11 @@ pub fn mode_code(
     one_line::one_code::mode_code(src, changes, line, at, b1, b2, rules)
 }
 
-pub fn run_code<'a>(
-    white: &'a [u16; 8192],
-    black: &'a [u16; 8192],
-    colour: usize,
-    src: &[u8],
-    at: usize,
-    total: u32,
-    plain: bool,
-) -> RunCode
-    requires { ⌜ CodeFrom (now white) (now black) (now src) at ⌝ }
+pub fn run_code(colour: usize, src: &[u8], at: usize, total: u32, plain: bool) -> RunCode
+    requires { ⌜ Loading (now src) at ⌝ }
     ensures { λ r. ⌜ codeOf r ≡ runStep (colourOf colour) (bitsOf (now (src .entry))) (sum at total) ⌝ }
 {
-    one_line::one_code::run_code(white, black, colour, src, at, total, plain)
+    one_line::one_code::run_code(colour, src, at, total, plain)
 }
 
 pub fn end_run(

@@ -17,24 +17,25 @@ pub fn line_of(width: u32, s: BetweenRuns) -> Line
 }
 
 pub fn pairs<'a>(
-    white: &'a [u16; 8192],
-    black: &'a [u16; 8192],
-    both: &'a [u16; 2048],
+    lent: bool,
+    white: &'a [u16],
+    black: &'a [u16],
+    both: &'a [u16],
     src: &[u8],
     row: &mut [u32],
     width: u32,
     at: usize,
     plain: bool,
 ) -> BetweenRuns
-    requires { ⌜ Pairing (now white) (now black) (now both) (now src) width at ⌝ }
+    requires { ⌜ Pairing lent (now white) (now black) (now both) (now src) width at ⌝ }
     ensures { λ r. ⌜ Ran (bitsOf (now (src .entry))) (length (now (row .entry))) width (now (row .entry)) (startAt at) (now (row .exit)) r ⌝ }
 {
-    swift_loops::fast_1d::pairs(white, black, both, src, row, width, at, plain)
+    swift_loops::fast_1d::pairs(lent, white, black, both, src, row, width, at, plain)
 }
 
 pub fn swift_codes<'a>(
-    white: &'a [u16; 8192],
-    black: &'a [u16; 8192],
+    white: &'a [u16],
+    black: &'a [u16],
     src: &[u8],
     changes: &mut [u32],
     start: usize,

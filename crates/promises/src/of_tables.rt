@@ -1,7 +1,8 @@
-// Calls of the public functions of tables, each with the contract that its promises are about.
+// Calls of the public functions of the crates of tables, each with the contract that its promises are about.
 use tables::Code;
 ghost use mathlib.Core.Path.{_≡_};
 ghost use Prim.Native.Nat.{_-_, _≤_, _<_};
+ghost use lib.ListN.{getD};
 ghost use Rattle.rules.specs.Bits.{bitsFor};
 ghost use Rattle.rules.specs.Codes.{white, black, whiteTerminating, whiteMakeup, blackTerminating};
 ghost use Rattle.rules.specs.Codes.{blackMakeup, commonMakeup, terminatingOf, makeupOf, codeAt};
@@ -25,6 +26,20 @@ pub fn pair_lookup() -> [u16; 2048]
     ensures { λ r. ⌜ r ≡ pairTable ⌝ }
 {
     tables::pair_lookup()
+}
+
+pub fn entry(colour: usize, top: usize) -> u16
+    requires { ⌜ top < 8192 ⌝ }
+    ensures { λ r. ⌜ r ≡ getD (lookupTable (colourOf colour)) top 0 ⌝ }
+{
+    squeezed::entry(colour, top)
+}
+
+pub fn pair(top: usize) -> u16
+    requires { ⌜ top < 2048 ⌝ }
+    ensures { λ r. ⌜ r ≡ getD pairTable top 0 ⌝ }
+{
+    squeezed::pair(top)
 }
 
 pub fn white_terminating() -> [[u16; 3]; 64]
