@@ -3,5 +3,5 @@ pub mod RunLoop
 pub mod ModeCode
 pub mod OneCode
 pub mod LineLoop
-pub mod KeptLine
+pub mod SwiftLine
 pub mod OneLine

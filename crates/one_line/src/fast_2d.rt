@@ -20,7 +20,7 @@ ghost use Rattle.context.specs.Coding.{Coding, Coded, Lines, Lined};
 ghost use Rattle.swift_loops.specs.Swift.{lineOf};
 ghost use Rattle.one_line.specs.Kept.{Restands, Restood};
 
-fn line_at(width: u32, s: BetweenCodes, cut: u32) -> Line
+pub(crate) fn line_at(width: u32, s: BetweenCodes, cut: u32) -> Line
     ensures { λ r. ⌜ r ≡ lineOf width s cut ⌝ }
 {
     Line {
@@ -46,7 +46,7 @@ fn seen_before(len: usize, place: usize) -> usize
 }
 
 // Where the line stands behind a code.
-fn stand_at(reference: &[u32], place: usize, line: Line, at: usize) -> BetweenCodes
+pub(crate) fn stand_at(reference: &[u32], place: usize, line: Line, at: usize) -> BetweenCodes
     requires { ⌜ Restands (now reference) place line ⌝ }
     ensures { λ r. ⌜ Restood (now (reference .entry)) line at r ⌝ }
 {
@@ -62,7 +62,7 @@ fn stand_at(reference: &[u32], place: usize, line: Line, at: usize) -> BetweenCo
 
 // A code by the full rules, as `line_2d::code_2d`: with this caller too that one would no longer be compiled in place in the loop
 // of a line whose reference is lent, which feels it.
-fn full_code(
+pub(crate) fn full_code(
     src: &[u8],
     changes: &mut [u32],
     line: Line,

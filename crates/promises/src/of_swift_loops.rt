@@ -3,12 +3,15 @@ use context::line::Line;
 use swift_loops::fast_1d::BetweenRuns;
 use swift_loops::fast_2d::BetweenCodes;
 ghost use mathlib.Core.Path.{_≡_};
-ghost use Prim.Native.Nat.{_+_, _-_};
+ghost use mathlib.Core.List.{[]};
+ghost use Prim.Native.Nat.{_+_};
 ghost use lib.ListN.{length};
 ghost use Rattle.rules.specs.Bits.{bitsOf};
+ghost use Rattle.tables.specs.Tables.{Lookups};
+ghost use Rattle.context.specs.declared.reference.Reference.the-variants.{Kept};
 ghost use Rattle.context.specs.Places.{Onward, Reached, Turning};
 ghost use Rattle.swift_loops.specs.Pairs.{haltLine, startAt, Ran, Pairing};
-ghost use Rattle.swift_loops.specs.Swift.{keptIn, Walks, Walked};
+ghost use Rattle.swift_loops.specs.Swift.{Walks, WalkedIn};
 
 pub fn line_of(width: u32, s: BetweenRuns) -> Line
     ensures { λ r. ⌜ r ≡ haltLine width s ⌝ }
@@ -43,8 +46,8 @@ pub fn swift_codes<'a>(
     width: u32,
     from: BetweenCodes,
 ) -> BetweenCodes
-    requires { ⌜ Walks (now white) (now black) (now src) (now changes) start base width from ⌝ }
-    ensures { λ r. ⌜ Walked (keptIn start base (now (changes .entry))) (bitsOf (now (src .entry))) base (length (now (changes .entry)) - base) width (now (changes .entry)) from (now (changes .exit)) r ⌝ }
+    requires { ⌜ Lookups (now white) (now black) × Walks (now src) (Kept start) [] (now changes) base width from ⌝ }
+    ensures { λ r. ⌜ WalkedIn (now (src .entry)) (Kept start) [] (now (changes .entry)) base width from (now (changes .exit)) r ⌝ }
 {
     swift_loops::fast_2d::swift_codes(white, black, src, changes, start, base, width, from)
 }

@@ -1,8 +1,8 @@
 -- Runs that are taken from the front of some bits, as a line reads them. Assumes nothing.
-use mathlib.Core.Path.{_≡_, ap, _∙_}
+use mathlib.Core.Path.{_≡_, refl, ap, _∙_}
 use mathlib.Core.Bool.{cond}
 use mathlib.Core.List.{List}
-use Prim.Native.Nat.{ℕ, zero, suc, _+_, _/_, _^_, _≤_, _<_}
+use Prim.Native.Nat.{ℕ, zero, suc, _+_, _-_, _/_, _^_, _≤_, _<_}
 use native.Mathlib.Omega.{arith}
 use lib.Dec.{eqb}
 use lib.ListN.{getD, drop}
@@ -28,6 +28,12 @@ module _ (colour : Colour) {table : List ℕ} (t : table ≡ lookupTable colour)
   -- or by the first 13 of the bits themselves
   pub front-reads : top ≡ bits / 2 ^ 51 → {r : Front} → Fronted table (getD table top 0) bits r → 0 < r .pixels + r .size → FrontRun colour bytes at r
   front-reads k f some = front-known (k ∙ ahead-first h 13 (omega arith)) f some
+
+-- the other colour, by its number
+pub turned-number : (c : ℕ) → c ≤ 1 → opposite (colourOf c) ≡ colourOf (1 - c)
+turned-number zero h = refl
+turned-number (suc zero) h = refl
+turned-number (suc (suc c)) h = absurd (omega arith)
 
 -- the table of a colour, and of the other one, by the colour's number
 module _ {w b : List ℕ} (l : Lookups w b) where

@@ -7,7 +7,7 @@ use native.Mathlib.Omega.{arith}
 use lib.ListN.{length, take, set, length-append, length-take, length-set}
 use lib.Seq.{length-take-le}
 use Rattle.rules.specs.Bits.{bitsOf}
-use Rattle.rules.specs.Codes.{white, black, opposite, differ}
+use Rattle.rules.specs.Codes.{white, black}
 use Rattle.rules.specs.Runs.{ok, sum, readRun}
 use Rattle.rules.specs.Machine.{Out, more, done}
 use Rattle.rules.specs.Lines as Rule
@@ -33,13 +33,9 @@ use Rattle.swift_loops.specs.Pairs.{PairRun, Known, KnownIn, halting, ha
 use Rattle.context.proofs.State.{line-for, turns-is, overlaid-same, overlaid-set}
 use Rattle.context.proofs.Carried.{Carries, carries-step, front-of, overlaid-over}
 use Rattle.context.proofs.Goes.{recorded-by, run-goes, run-none}
+use Rattle.swift_loops.proofs.Fronting.{turned-number}
 
 -- ---- One run
-
-turned-number : (c : ℕ) → c ≤ 1 → opposite (colourOf c) ≡ colourOf (1 - c)
-turned-number zero h = refl
-turned-number (suc zero) h = refl
-turned-number (suc (suc c)) h = absurd (omega arith)
 
 module _ {bs : List Bool} {room width : ℕ} {xs : List ℕ} {s : BetweenRuns} where
   -- a run that takes the line of the rules on takes the row with it

@@ -5,30 +5,30 @@ use mathlib.Core.List.{List, []}
 use Prim.Native.Nat.{ℕ, zero, suc, _+_, _-_, _*_, _/_, _%_, _^_, _≤_, _<_}
 use native.Mathlib.Omega.{arith}
 use lib.ListN.{length, getD, take, drop, set, length-take, length-drop, length-set}
-use lib.Seq.{getD-take, getD-drop, getD-set-other}
+use lib.Seq.{getD-take, getD-drop}
 use borrow.Author.Tests.{ne-eqb}
-use borrow.Rule.Slice.PartMut.{midOf, putMid, set-mid-at}
 use Rattle.rules.specs.Bits.{bitsOf}
 use Rattle.rules.proofs.Bits.{length-bitsOf}
-use Rattle.rules.specs.Runs.{ok}
-use Rattle.rules.specs.Modes.{VR, moded, readMode}
 use Rattle.rules.specs.Lines.{headOr, recorded}
 use Rattle.tables.specs.Tables.{colourOf}
 use Rattle.bit_reader.specs.Cursor.{mostBits}
 use Rattle.bit_reader.specs.Loaded.{Ahead}
 use Rattle.bit_reader.proofs.Window.{ahead-shift}
 use Rattle.codes.proofs.Modes.{one-live, top-straight}
+use Rattle.context.specs.declared.reference.Reference.{Reference}
 use Rattle.context.specs.declared.reference.Reference.the-variants.{Kept}
+use Rattle.context.specs.Coding.{referenceIn, Placed}
 use Rattle.swift_loops.specs.declared.fast_2d.BetweenCodes.{BetweenCodes}
 use Rattle.context.specs.State.{turns}
 use Rattle.context.specs.Places.{Seen}
-use Rattle.swift_loops.specs.Swift.{standing, Stands, Roomy, keptIn, Noted, Walked, Ready, Turned, WentStraight}
+use Rattle.swift_loops.specs.Swift.{standing, Stands, Roomy, roomIn, Noted, WalkedIn, Ready, Turned, WentStraight}
 use Rattle.context.proofs.State.{parity}
 use Rattle.context.proofs.Search.{head-at, right-more}
-use Rattle.context.proofs.RowPart.{reference-same, row-lent}
+use Rattle.context.proofs.RowPart.{placed-base, placed-as, reference-same}
 use Rattle.context.proofs.Placing.{seen-next, change-fits}
 use Rattle.context.proofs.Goes.{last-recorded}
-use Rattle.swift_loops.proofs.Swiftly.{noted-turned, fits-b1, ready-note, noted-few, after-length, after-front, after-reference, straight-walked, walked-none, walked-then}
+use Rattle.swift_loops.proofs.Swiftly.{NotedIn, StoredIn, stored-part, noted-turned, ready-note, after-length, straight-walked}
+use Rattle.swift_loops.proofs.Swiftly.{room-full, room-same, walked-none, walked-further}
 
 -- ---- Parities
 
@@ -57,27 +57,25 @@ pub record Shows (bytes : List ℕ) (end at rest : ℕ) : Type 0 where
   pub ends : at + live ≡ end
 
 -- The line has come from s to t by V0 codes, out of `bits`, of which `rest` is left.
-pub record Along (xs : List ℕ) (start base width : ℕ) (s : BetweenCodes) (bits : ℕ) (zs : List ℕ) (t : BetweenCodes) (rest : ℕ) : Type 0 where
+pub record Along (place : Reference) (lent xs : List ℕ) (base width : ℕ) (s : BetweenCodes) (bits : ℕ) (zs : List ℕ) (t : BetweenCodes)
+    (rest : ℕ) : Type 0 where
   pub size : length zs ≡ length xs
   pub front : take base zs ≡ take base xs
-  pub stands : Stands (keptIn start base xs) (length xs - base) width t
-  pub roomy : Roomy (length xs - base) width t
+  pub stands : Stands (referenceIn place base lent xs) (roomIn base xs) width t
+  pub roomy : Roomy (roomIn base xs) width t
   pub begun : 0 < t .position
   pub turns : t .count % 2 ≡ (t .place + 1) % 2
   pub level : t .at + s .place ≡ s .at + t .place
   pub forth : s .at ≤ t .at
   pub walked : (bytes : List ℕ) (live : ℕ) → Ahead bytes (s .at) live bits
-      → Walked (keptIn start base xs) (bitsOf bytes) base (length xs - base) width xs s zs t × Shows bytes (s .at + live) (t .at) rest
+      → WalkedIn bytes place lent xs base width s zs t × Shows bytes (s .at + live) (t .at) rest
 
-module _ {xs : List ℕ} {start base width : ℕ} {s : BetweenCodes} (g : Turned xs start base width s) where
-  full : (length xs - base) + base ≡ length xs
-  full = omega (arith, g .placed)
-
-  length-kept : length (keptIn start base xs) ≡ base - start
-  length-kept = omega (arith, length-take (base - start) (drop start xs), length-drop start xs, g .placed)
+module _ {place : Reference} {lent xs : List ℕ} {base width : ℕ} {s : BetweenCodes} (g : Turned place lent xs base width s) where
+  full : roomIn base xs + base ≡ length xs
+  full = room-full base xs (placed-base place base xs (g .placed))
 
   -- none yet
-  pub along-new : (bits : ℕ) → Along xs start base width s bits xs s bits
+  pub along-new : (bits : ℕ) → Along place lent xs base width s bits xs s bits
   along-new bits = record {
     size = refl;
     front = refl;
@@ -93,119 +91,133 @@ module _ {xs : List ℕ} {start base width : ℕ} {s : BetweenCodes} (g : Turned
     );
   }
 
-  module _ {bits : ℕ} {zs : List ℕ} {t : BetweenCodes} {rest : ℕ} (a : Along xs start base width s bits zs t rest) where
-    based : base ≤ length zs
-    based = omega (arith, a .size, g .placed)
+  module _ {bits : ℕ} {zs : List ℕ} {t : BetweenCodes} {rest : ℕ} (a : Along place lent xs base width s bits zs t rest) where
+    placed : Placed place base zs
+    placed = placed-as place base xs zs (a .size) (g .placed)
 
-    kept : keptIn start base zs ≡ keptIn start base xs
-    kept = reference-same (Kept start) base [] xs zs (g .placed) (g .placed .0, based) (a .front)
+    kept : referenceIn place base lent zs ≡ referenceIn place base lent xs
+    kept = reference-same place base lent xs zs (g .placed) placed (a .front)
+
+    room-is : roomIn base zs ≡ roomIn base xs
+    room-is = room-same base xs zs (a .size)
 
     -- what the loop is left with
-    pub along-went : WentStraight xs start base width s bits t zs
+    pub along-went : WentStraight place lent xs base width s bits t zs
     along-went = record {
       turned = record {
-        placed = (g .placed .0, based);
+        placed = placed;
         narrow = g .narrow;
         rising = rw kept (g .rising);
-        stands = rw (kept, a .size) (a .stands);
-        roomy = rw (a .size) (a .roomy);
+        stands = rw (kept, room-is) (a .stands);
+        roomy = rw room-is (a .roomy);
         begun = a .begun;
         turns = a .turns;
-        long = omega (arith, a .size, g .long);
+        long = rw kept (g .long);
       };
       forth = a .forth;
       walked = λ bytes live h. let w = a .walked bytes live h in (w .0, omega (arith, w .1 .ends));
     }
 
-    module _ (there : t .place < base - start) where
-      inside : t .place < length (keptIn start base xs)
-      inside = omega (arith, length-kept)
-
+    module _ (inside : t .place < length (referenceIn place base lent xs)) where
       -- no sum leaves the type
       pub along-low : s .at ≤ mostBits + 71 → t .at < 4611686018427387904
-      along-low low = omega (arith, a .level, g .long, g .placed)
+      along-low low = omega (arith, a .level, g .long)
 
-      pub along-next : (v : ℕ) → start + t .place < length (set zs (base + t .count) v)
-      along-next v = omega (arith, a .size, g .placed, length-set zs (base + t .count) v)
+      b1-was : getD (referenceIn place base lent xs) (t .place) 0 ≡ headOr width (drop (t .place) (referenceIn place base lent xs))
+      b1-was = head-at width (referenceIn place base lent xs) (t .place) inside
 
-      b1-is : getD zs (start + t .place) 0 ≡ headOr width (drop (t .place) (keptIn start base zs))
-      b1-is =
-          sym (getD-take (base - start) (drop start zs) (t .place) 0 there ∙ getD-drop start zs (t .place) 0)
-          ∙ head-at width (keptIn start base zs) (t .place) (omega (arith, inside, ap length kept))
+      b1-is : getD (referenceIn place base lent xs) (t .place) 0 ≡ headOr width (drop (t .place) (referenceIn place base lent zs))
+      b1-is = b1-was ∙ ap (λ (l : List ℕ). headOr width (drop (t .place) l)) (sym kept)
 
-      b1-was : getD zs (start + t .place) 0 ≡ headOr width (drop (t .place) (keptIn start base xs))
-      b1-was = b1-is ∙ ap (λ (l : List ℕ). headOr width (drop (t .place) l)) kept
+      b1-right : t .position < getD (referenceIn place base lent xs) (t .place) 0
+      b1-right = omega (arith, a .stands .seen .right inside, right-more (t .position) (λ z. omega (arith, a .begun)))
 
-      b1-right : t .position < getD zs (start + t .place) 0
-      b1-right =
-          omega (arith, a .stands .seen .right inside, right-more (t .position) (λ z. omega (arith, a .begun)), b1-was, head-at width (keptIn start base xs) (t .place) inside)
-
-      b1-fits : getD zs (start + t .place) 0 ≤ width
+      b1-fits : getD (referenceIn place base lent xs) (t .place) 0 ≤ width
       b1-fits = omega (arith, b1-was, change-fits (g .rising) (t .place))
 
-      ready : Ready zs start base width t (getD zs (start + t .place) 0)
+      ready : Ready place lent zs base width t (getD (referenceIn place base lent xs) (t .place) 0)
       ready = record {
-        placed = (g .placed .0, based);
+        placed = placed;
         narrow = g .narrow;
         rising = rw kept (g .rising);
-        stands = rw (kept, a .size) (a .stands);
-        roomy = rw (a .size) (a .roomy);
+        stands = rw (kept, room-is) (a .stands);
+        roomy = rw room-is (a .roomy);
         b1-is = b1-is;
         ahead = b1-right;
       }
 
-      held : t .count < length (midOf base (length zs - base) zs)
-      held = ready-note ready
+      -- the change is stored in the room
+      pub along-room : t .count < length (drop base zs)
+      along-room = ready-note ready
 
-      pub along-index : base + t .count < length zs
-      along-index = omega (arith, held, ap length (row-lent zs base), length-drop base zs)
+      module _ {us : List ℕ} (put : StoredIn base zs (t .count) (t .position) us) where
+        noted : NotedIn base zs t (t .count + 1) us
+        noted = record {
+          noted =
+              subst (λ (l : List ℕ). Noted (drop base zs) t (t .count + 1) l) (sym (put .stored))
+              (noted-turned (drop base zs) t along-room (turning (t .count) (t .place) (a .turns)));
+          front = put .front;
+        }
 
-      noted : Noted (midOf base (length zs - base) zs) t (t .count + 1) (set (midOf base (length zs - base) zs) (t .count) (t .position))
-      noted = noted-turned (midOf base (length zs - base) zs) t held (turning (t .count) (t .place) (a .turns))
+        -- one code on, to b1
+        pub along-on : {x : ℕ} → x ≡ getD (referenceIn place base lent xs) (t .place) 0 → rest / 2 ^ 63 ≡ 1
+            → Along place lent xs base width s bits us
+            (record { at = t .at + 1; position = x; count = t .count + 1; place = t .place + 1 }) (rest * 2 ^ 1 % 2 ^ 64)
+        along-on x-is one = rw x-is (record {
+          size = after-length ready noted ∙ a .size;
+          front = put .front ∙ a .front;
+          stands = record {
+            fits = b1-fits;
+            held = omega (arith, a .roomy, b1-right, b1-fits);
+            seen =
+                subst (λ (m : ℕ). Seen (referenceIn place base lent xs) m (t .place + 1))
+                (right-more (getD (referenceIn place base lent xs) (t .place) 0) (λ z. omega (arith, b1-right)))
+                (subst (λ (x : ℕ). Seen (referenceIn place base lent xs) (x + 1) (t .place + 1)) (sym b1-was) (seen-next (g .rising) (t .place)));
+            near = omega (arith, inside);
+          };
+          roomy = omega (arith, a .roomy, b1-right);
+          begun = omega (arith, b1-right);
+          turns = omega (arith, a .turns);
+          level = omega (arith, a .level);
+          forth = omega (arith, a .forth);
+          walked = λ bytes live h.
+              let w = a .walked bytes live h in
+              let shown = w .1 .next in (
+                walked-further place lent (g .placed) (w .0) (straight-walked ready noted bytes (top-straight shown one)),
+                record {
+                  live = w .1 .live - 1;
+                  next = ahead-shift shown 1 (one-live shown one);
+                  ends = omega (arith, w .1 .ends, one-live shown one);
+                },
+              );
+        })
 
-      stored : putMid base (length zs - base) zs (set (midOf base (length zs - base) zs) (t .count) (t .position)) ≡ set zs (base + t .count) (t .position)
-      stored = set-mid-at base (length zs - base) (t .count) zs (t .position) held
+-- ---- The loop under a reference that is kept: it lies before the row, where the store leaves it
 
-      -- the store leaves the reference
-      apart : getD (set zs (base + t .count) (t .position)) (start + t .place) 0 ≡ getD zs (start + t .place) 0
-      apart = getD-set-other zs (base + t .count) (start + t .place) (t .position) 0 (λ e. omega arith)
+module _ {xs : List ℕ} {start base width : ℕ} {s : BetweenCodes} (g : Turned (Kept start) [] xs base width s) {bits : ℕ} {zs : List ℕ}
+    {t : BetweenCodes} {rest : ℕ}
+    (a : Along (Kept start) [] xs base width s bits zs t rest) (there : t .place < base - start) where
+  pub kept-inside : t .place < length (referenceIn (Kept start) base [] xs)
+  kept-inside = omega (arith, length-take (base - start) (drop start xs), length-drop start xs, g .placed)
 
-      -- one code on
-      pub along-on : rest / 2 ^ 63 ≡ 1
-          → Along xs start base width s bits (set zs (base + t .count) (t .position)) (record { at = t .at + 1; position = getD (set zs (base + t .count) (t .position)) (start + t .place) 0; count = t .count + 1; place = t .place + 1 }) (rest * 2 ^ 1 % 2 ^ 64)
-      along-on one = rw apart (record {
-        size = length-set zs (base + t .count) (t .position) ∙ a .size;
-        front = sym (ap (take base) stored) ∙ after-front ready noted ∙ a .front;
-        stands = record {
-          fits = b1-fits;
-          held = omega (arith, a .roomy, b1-right, b1-fits);
-          seen = subst (λ (m : ℕ). Seen (keptIn start base xs) m (t .place + 1)) (right-more (getD zs (start + t .place) 0) (λ z. omega (arith, b1-right)))
-              (subst (λ (x : ℕ). Seen (keptIn start base xs) (x + 1) (t .place + 1)) (sym b1-was) (seen-next (g .rising) (t .place)));
-          near = omega (arith, inside);
-        };
-        roomy = omega (arith, a .roomy, b1-right);
-        begun = omega (arith, b1-right);
-        turns = omega (arith, a .turns);
-        level = omega (arith, a .level);
-        forth = omega (arith, a .forth);
-        walked = λ bytes live h.
-            let w = a .walked bytes live h in
-            let shown = w .1 .next in (
-              walked-then full (w .0) (next bytes (top-straight shown one)),
-              record {
-                live = w .1 .live - 1;
-                next = ahead-shift shown 1 (one-live shown one);
-                ends = omega (arith, w .1 .ends, one-live shown one);
-              },
-            );
-      })
-        where
-          end : BetweenCodes
-          end = record { at = t .at + 1; position = getD zs (start + t .place) 0; count = t .count + 1; place = t .place + 1 }
+  pub kept-index : base + t .count < length zs
+  kept-index = omega (arith, along-room g a kept-inside, length-drop base zs)
 
-          next : (bytes : List ℕ) → readMode (bitsOf bytes) (t .at) ≡ ok (moded (t .at + 1) (VR 0)) → Walked (keptIn start base xs) (bitsOf bytes) base (length xs - base) width zs t (set zs (base + t .count) (t .position)) end
-          next bytes read =
-              subst (λ (l : List ℕ). Walked (keptIn start base xs) (bitsOf bytes) base (length xs - base) width zs t l end) stored
-              (subst (λ (n : ℕ). Walked (keptIn start base xs) (bitsOf bytes) base (n - base) width zs t (putMid base (length zs - base) zs (set (midOf base (length zs - base) zs) (t .count) (t .position))) end) (a .size)
-              (subst (λ (r : List ℕ). Walked r (bitsOf bytes) base (length zs - base) width zs t (putMid base (length zs - base) zs (set (midOf base (length zs - base) zs) (t .count) (t .position))) end) kept
-              (straight-walked ready noted bytes read)))
+  pub kept-next : (v : ℕ) → start + t .place < length (set zs (base + t .count) v)
+  kept-next v = omega (arith, a .size, g .placed, length-set zs (base + t .count) v)
+
+  pub kept-on : rest / 2 ^ 63 ≡ 1
+      → Along (Kept start) [] xs base width s bits (set zs (base + t .count) (t .position))
+      (record { at = t .at + 1; position = getD (set zs (base + t .count) (t .position)) (start + t .place) 0; count = t .count + 1; place = t .place + 1 })
+      (rest * 2 ^ 1 % 2 ^ 64)
+  kept-on one = along-on g a kept-inside put is one
+    where
+      put : StoredIn base zs (t .count) (t .position) (set zs (base + t .count) (t .position))
+      put = stored-part
+
+      is : getD (set zs (base + t .count) (t .position)) (start + t .place) 0 ≡ getD (take (base - start) (drop start xs)) (t .place) 0
+      is =
+          sym (getD-take base (set zs (base + t .count) (t .position)) (start + t .place) 0 (omega arith))
+          ∙ ap (λ (l : List ℕ). getD l (start + t .place) 0) (put .front ∙ a .front)
+          ∙ getD-take base xs (start + t .place) 0 (omega arith)
+          ∙ sym (getD-take (base - start) (drop start xs) (t .place) 0 there ∙ getD-drop start xs (t .place) 0)

@@ -10,6 +10,8 @@ use lib.ListN.{length, take, drop, set, length-append, length-take, length-drop,
 use lib.Seq.{length-take-le, take-set-le, drop-set-add}
 use borrow.Author.Tests.{eq-eqb, ne-eqb}
 use borrow.Rule.Slice.PartMut.{midOf, putMid}
+use Rattle.context.specs.declared.reference.Reference.{Reference}
+use Rattle.context.specs.declared.reference.Reference.the-variants.{Kept}
 use Rattle.rules.specs.Bits.{bitsOf}
 use Rattle.rules.specs.Codes.{Colour, opposite, differ}
 use Rattle.rules.specs.Runs.{ok, sum, readRun}
@@ -22,19 +24,20 @@ use Rattle.rules.proofs.Lines.{moves, line-more}
 use Rattle.tables.specs.Tables.{colourOf}
 use Rattle.bit_reader.specs.Cursor.{mostBits}
 use Rattle.context.specs.declared.offset.Move.the-variants.{By}
-use Rattle.context.specs.declared.reference.Reference.the-variants.{Kept}
 use Rattle.swift_loops.specs.declared.fast_2d.BetweenCodes.{BetweenCodes}
 use Rattle.swift_loops.specs.declared.fast_2d.TakenCode.{TakenCode}
 use Rattle.swift_loops.specs.declared.fast_2d.TakenCode.the-variants.{On, Other}
 use Rattle.context.specs.State.{ruling, turns}
+use Rattle.context.specs.Coding.{referenceIn, Placed}
 use Rattle.context.specs.Offset.{moveBy}
 use Rattle.context.specs.Places.{Left, Seen, Reached, Onward, Turning}
-use Rattle.swift_loops.specs.Swift.{standing, Stands, Roomy, keptIn, Noted, Walked, Took, sideMode, Ready, Asks, Sided, Walks}
+use Rattle.swift_loops.specs.Swift.{standing, Stands, Roomy, roomIn, Noted, Walked, WalkedIn, TookIn, sideMode, Ready, Asks, Sided}
+use Rattle.swift_loops.specs.Swift.{Walks}
 use Rattle.context.proofs.State.{turns-is, overlaid-same, overlaid-set}
 use Rattle.context.proofs.Carried.{front-of, overlaid-over, overlaid-length}
 use Rattle.context.proofs.Search.{right-more}
 use Rattle.context.proofs.Moves.{Upright}
-use Rattle.context.proofs.RowPart.{reference-same, row-lent, row-back, back-front, back-row}
+use Rattle.context.proofs.RowPart.{placed-base, placed-as, reference-same, row-lent, row-back, back-front, back-row}
 use Rattle.context.proofs.Placing.{seen-b1, seen-b2, change-fits, change-next, seen-next}
 use Rattle.context.proofs.Goes.{recorded-by, recorded-few, moves-right, moves-left, vertical-goes, pass-goes, horizontal-goes}
 
@@ -70,9 +73,11 @@ module _ (row : List ℕ) (s : BetweenCodes) (h : s .count < length row) where
 
 module _ {reference : List ℕ} {bs : List Bool} {base room width : ℕ} {xs : List ℕ} {s : BetweenCodes} where
   -- A code that takes the line of the rules from one stand to another takes the array with it.
-  walk : (u : BetweenCodes) (qs ys : List ℕ) → room + base ≡ length xs → Stands reference room width u → Roomy room width u → s .position < width → s .count ≤ u .count → u .count ≡ length qs
+  walk : (u : BetweenCodes) (qs ys : List ℕ) → room + base ≡ length xs → Stands reference room width u → Roomy room width u
+      → s .position < width → s .count ≤ u .count → u .count ≡ length qs
       → length ys ≡ length xs → take base ys ≡ take base xs → drop base ys ≡ overlaid qs (drop base xs)
-      → ((strict exact cut : Bool) → code2D (ruling width room strict exact) reference bs (standing (drop base xs) cut s) ≡ went (Rule.line (u .at) (u .position) (colourOf (u .place % 2)) qs cut))
+      →
+      ((strict exact cut : Bool) → code2D (ruling width room strict exact) reference bs (standing (drop base xs) cut s) ≡ went (Rule.line (u .at) (u .position) (colourOf (u .place % 2)) qs cut))
       → Walked reference bs base room width xs s ys u
   walk u qs ys full stands roomy short longer count size front store goes = record {
     stands = stands;
@@ -84,16 +89,22 @@ module _ {reference : List ℕ} {bs : List Bool} {base room width : ℕ} {xs : L
     front = front;
     store = store ∙ ap (λ (l : List ℕ). overlaid l (drop base xs)) (sym changes);
     same = λ strict exact cut.
-        line-more width (code2D (ruling width room strict exact) reference bs) bs (moves (ruling width room strict exact) (two reference) bs)
-        (standing (drop base xs) cut s) (Rule.line (u .at) (u .position) (colourOf (u .place % 2)) qs cut) (λ z. omega arith) (goes strict exact cut)
-        ∙ ap (λ (l : List ℕ). lineEnd width (code2D (ruling width room strict exact) reference bs) bs (Rule.line (u .at) (u .position) (colourOf (u .place % 2)) l cut)) (sym changes);
+        line-more width (code2D (ruling width room strict exact) reference bs) bs
+        (moves (ruling width room strict exact) (two reference) bs)
+        (standing (drop base xs) cut s) (Rule.line (u .at) (u .position) (colourOf (u .place % 2)) qs cut) (λ z. omega arith)
+        (goes strict exact cut)
+        ∙ ap
+        (λ (l : List ℕ). lineEnd width (code2D (ruling width room strict exact) reference bs) bs (Rule.line (u .at) (u .position) (colourOf (u .place % 2)) l cut))
+        (sym changes);
   }
     where
       changes : take (u .count) (drop base ys) ≡ qs
       changes = front-of (u .count) qs (drop base xs) (drop base ys) count store
 
       bits : (s .at < u .at) × (u .at ≤ length bs)
-      bits = moves (ruling width room false false) (two reference) bs (standing (drop base xs) false s) (Rule.line (u .at) (u .position) (colourOf (u .place % 2)) qs false) (goes false false false)
+      bits =
+          moves (ruling width room false false) (two reference) bs (standing (drop base xs) false s)
+          (Rule.line (u .at) (u .position) (colourOf (u .place % 2)) qs false) (goes false false false)
 
 -- ---- Codes one behind the other
 
@@ -112,7 +123,8 @@ module _ {reference : List ℕ} {bs : List Bool} {base room width : ℕ} {xs : L
     same = λ strict exact cut. refl;
   }
 
-  pub walked-then : {ys zs : List ℕ} {t u : BetweenCodes} → Walked reference bs base room width xs s ys t → Walked reference bs base room width ys t zs u → Walked reference bs base room width xs s zs u
+  pub walked-then : {ys zs : List ℕ} {t u : BetweenCodes} → Walked reference bs base room width xs s ys t
+      → Walked reference bs base room width ys t zs u → Walked reference bs base room width xs s zs u
   walked-then {ys} {zs} {t} {u} a b = record {
     stands = b .stands;
     roomy = λ h. b .roomy (a .roomy h);
@@ -129,19 +141,37 @@ module _ {reference : List ℕ} {bs : List Bool} {base room width : ℕ} {xs : L
   }
     where
       fewer : length (take (t .count) (drop base ys)) ≤ length (take (u .count) (drop base zs))
-      fewer = omega (arith, length-take (t .count) (drop base ys), length-take (u .count) (drop base zs), length-drop base zs, b .stands .held, b .longer, b .size, a .size)
+      fewer =
+          omega (
+            arith,
+            length-take (t .count) (drop base ys),
+            length-take (u .count) (drop base zs),
+            length-drop base zs,
+            b .stands .held,
+            b .longer,
+            b .size,
+            a .size,
+          )
+
+-- the room of the row
+pub room-full : (base : ℕ) (xs : List ℕ) → base ≤ length xs → roomIn base xs + base ≡ length xs
+room-full base xs h = omega (arith, length-drop base xs)
+
+pub room-same : (base : ℕ) (xs zs : List ℕ) → length zs ≡ length xs → roomIn base zs ≡ roomIn base xs
+room-same base xs zs e = omega (arith, length-drop base xs, length-drop base zs)
 
 -- the same where the second part is told of its own array: what lies before the row is as it was, and so is the reference
-pub walked-further : {bs : List Bool} {start base width : ℕ} {xs zs us : List ℕ} {s t u : BetweenCodes}
-    → (start ≤ base) × (base ≤ length xs)
-    → Walked (keptIn start base xs) bs base (length xs - base) width xs s zs t
-    → Walked (keptIn start base zs) bs base (length zs - base) width zs t us u
-    → Walked (keptIn start base xs) bs base (length xs - base) width xs s us u
-walked-further {bs} {start} {base} {width} {xs} {zs} {us} {s} {t} {u} placed v a =
-    walked-then (omega (arith, placed)) v
-    (subst (λ (n : ℕ). Walked (keptIn start base xs) bs base (n - base) width zs t us u) (v .size)
-    (subst (λ (l : List ℕ). Walked l bs base (length zs - base) width zs t us u)
-    (reference-same (Kept start) base [] xs zs placed (placed .0, omega (arith, v .size, placed)) (v .front)) a))
+module _ (place : Reference) (lent : List ℕ) {bs : List Bool} {base width : ℕ} {xs zs us : List ℕ} {s t u : BetweenCodes} where
+  pub walked-further : Placed place base xs
+      → Walked (referenceIn place base lent xs) bs base (roomIn base xs) width xs s zs t
+      → Walked (referenceIn place base lent zs) bs base (roomIn base zs) width zs t us u
+      → Walked (referenceIn place base lent xs) bs base (roomIn base xs) width xs s us u
+  walked-further placed v a =
+      let room-is : roomIn base zs ≡ roomIn base xs = room-same base xs zs (v .size) in
+      let kept-is = reference-same place base lent xs zs placed (placed-as place base xs zs (v .size) placed) (v .front) in
+      walked-then (room-full base xs (placed-base place base xs placed)) v
+      (subst (λ (n : ℕ). Walked (referenceIn place base lent xs) bs base n width zs t us u) room-is
+      (subst (λ (l : List ℕ). Walked l bs base (roomIn base zs) width zs t us u) kept-is a))
 
 -- ---- The array behind a change that was noted
 
@@ -160,12 +190,46 @@ parity-turns p q e = cases (p % 2) (q % 2) (omega arith) (omega arith)
     cases (suc zero) (suc n) h k = absurd (omega arith)
     cases (suc (suc m)) n h k = absurd (omega arith)
 
-module _ {xs : List ℕ} {start base width : ℕ} {s : BetweenCodes} {b : ℕ} (g : Ready xs start base width s b) where
-  abbrev ref : List ℕ
-  ref = keptIn start base xs
+-- A change is noted in the row of an array, or one is stored there; what lies before the row is as it was.
+pub record NotedIn (base : ℕ) (xs : List ℕ) (s : BetweenCodes) (r : ℕ) (zs : List ℕ) : Type 0 where
+  pub noted : Noted (drop base xs) s r (drop base zs)
+  pub front : take base zs ≡ take base xs
 
-  abbrev room : ℕ
-  room = length xs - base
+pub record StoredIn (base : ℕ) (xs : List ℕ) (i v : ℕ) (zs : List ℕ) : Type 0 where
+  pub stored : drop base zs ≡ set (drop base xs) i v
+  pub front : take base zs ≡ take base xs
+
+-- in a part of it that was lent,
+pub noted-part : {base : ℕ} {xs : List ℕ} → base ≤ length xs → {s : BetweenCodes} {r : ℕ} {ys : List ℕ}
+    → Noted (midOf base (length xs - base) xs) s r ys
+    → NotedIn base xs s r (putMid base (length xs - base) xs ys)
+noted-part {base} {xs} h {s} {r} {ys} n =
+    let is : putMid base (length xs - base) xs ys ≡ take base xs ++ ys = row-back xs base h ys in
+    record {
+      noted =
+          subst (λ (l : List ℕ). Noted (drop base xs) s r l) (sym (ap (drop base) is ∙ back-row xs base h ys))
+          (subst (λ (l : List ℕ). Noted l s r ys) (row-lent xs base) n);
+      front = ap (take base) is ∙ back-front xs base h ys;
+    }
+
+pub stored-part : {base : ℕ} {xs : List ℕ} {i v : ℕ} → StoredIn base xs i v (set xs (base + i) v)
+stored-part {base} {xs} {i} {v} = record { stored = drop-set-add base xs i v; front = take-set-le base xs (base + i) v (omega arith) }
+
+-- or where it is the row
+pub noted-whole : {xs : List ℕ} {s : BetweenCodes} {r : ℕ} {zs : List ℕ} → Noted xs s r zs → NotedIn 0 xs s r zs
+noted-whole n = record { noted = n; front = refl }
+
+pub stored-whole : {xs : List ℕ} {i v : ℕ} → StoredIn 0 xs i v (set xs i v)
+stored-whole = record { stored = refl; front = refl }
+
+-- an array whose front and whose row are as long as they were
+same-size : (base : ℕ) (xs zs : List ℕ) → base ≤ length xs → take base zs ≡ take base xs → length (drop base zs) ≡ length (drop base xs)
+    → length zs ≡ length xs
+same-size base xs zs h e k = omega (arith, ap length e, length-take base xs, length-take base zs, length-drop base xs, length-drop base zs)
+
+module _ {place : Reference} {lent xs : List ℕ} {base width : ℕ} {s : BetweenCodes} {b : ℕ} (g : Ready place lent xs base width s b) where
+  abbrev ref : List ℕ
+  ref = referenceIn place base lent xs
 
   abbrev row : List ℕ
   row = drop base xs
@@ -173,10 +237,13 @@ module _ {xs : List ℕ} {start base width : ℕ} {s : BetweenCodes} {b : ℕ} (
   abbrev line : Rule.Line
   line = standing (drop base xs) false s
 
-  full : (length xs - base) + base ≡ length xs
-  full = omega (arith, g .placed)
+  based : base ≤ length xs
+  based = placed-base place base xs (g .placed)
 
-  b1-rule : b ≡ b1 width (keptIn start base xs) (s .position) (colourOf (s .place % 2))
+  full : roomIn base xs + base ≡ length xs
+  full = room-full base xs based
+
+  b1-rule : b ≡ b1 width (referenceIn place base lent xs) (s .position) (colourOf (s .place % 2))
   b1-rule = g .b1-is ∙ seen-b1 width (s .position) (g .stands .seen)
 
   pub fits-b1 : b ≤ width
@@ -185,83 +252,76 @@ module _ {xs : List ℕ} {start base width : ℕ} {s : BetweenCodes} {b : ℕ} (
   pub ready-short : s .position < width
   ready-short = omega (arith, g .ahead, fits-b1)
 
-  roomy : s .count < length xs - base
-  roomy = omega (arith, ready-short, g .roomy)
+  -- a change can be noted
+  pub ready-note : s .count < length (drop base xs)
+  ready-note = omega (arith, ready-short, g .roomy)
 
-  pub ready-note : s .count < length (midOf base (length xs - base) xs)
-  ready-note = omega (arith, roomy, ap length (row-lent xs base), length-drop base xs)
-
-  ref-short : length ref ≤ length xs
-  ref-short = omega (arith, length-take (base - start) (drop start xs), length-drop start xs)
+  pub ready-part : s .count < length (midOf base (length xs - base) xs)
+  ready-part = omega (arith, ready-note, ap length (row-lent xs base))
 
   -- what lies left of the line lies left of where it goes
   left-of : {p : ℕ} → s .position < p → Left ref (p + 1) (s .place)
   left-of {p} h = λ j k m. omega (arith, g .stands .seen .left j k m, right-near (s .position))
 
   -- the line that is recorded has room, whatever its flag
-  noted-room : (cut : Bool) → length (recorded (standing row cut s)) ≤ length xs - base
-  noted-room cut = omega (arith, recorded-few (standing row cut s), length-take-le (s .count) row (omega (arith, roomy, length-drop base xs)), roomy)
+  noted-room : (cut : Bool) → length (recorded (standing row cut s)) ≤ roomIn base xs
+  noted-room cut = omega (arith, recorded-few (standing row cut s), length-take-le (s .count) row (omega (arith, ready-note)), ready-note)
 
   flagless : (cut : Bool) → recorded (standing row cut s) ≡ recorded line
   unfolding recorded
   flagless cut = refl
 
-  module _ {r : ℕ} {ys : List ℕ} (n : Noted (midOf base (length xs - base) xs) s r ys) where
-    abbrev after : List ℕ
-    after = putMid base (length xs - base) xs ys
-
-    noted : Noted row s r ys
-    noted = subst (λ (l : List ℕ). Noted l s r ys) (row-lent xs base) n
-
+  module _ {r : ℕ} {zs : List ℕ} (n : NotedIn base xs s r zs) where
     pub noted-few : (s .count ≤ r) × (r ≤ suc (s .count))
-    noted-few = omega (arith, noted .counted, recorded-few line, length-take-le (s .count) row (omega (arith, roomy, length-drop base xs)))
+    noted-few = omega (arith, n .noted .counted, recorded-few line, length-take-le (s .count) row (omega (arith, ready-note)))
 
-    after-is : putMid base (length xs - base) xs ys ≡ take base xs ++ ys
-    after-is = row-back xs base (g .placed .1) ys
+    after-room : length (drop base zs) ≡ length (drop base xs)
+    after-room = ap length (n .noted .stored) ∙ overlaid-length (recorded line) row (noted-room false)
 
-    pub after-front : take base (putMid base (length xs - base) xs ys) ≡ take base xs
-    after-front = ap (take base) after-is ∙ back-front xs base (g .placed .1) ys
+    pub after-length : length zs ≡ length xs
+    after-length = same-size base xs zs based (n .front) after-room
 
-    after-row : drop base (putMid base (length xs - base) xs ys) ≡ overlaid (recorded line) row
-    after-row = ap (drop base) after-is ∙ back-row xs base (g .placed .1) ys ∙ noted .stored
+    pub after-placed : Placed place base zs
+    after-placed = placed-as place base xs zs after-length (g .placed)
 
-    pub after-length : length (putMid base (length xs - base) xs ys) ≡ length xs
-    after-length =
-        omega (arith, ap length after-is, length-append (take base xs) ys, length-take base xs, g .placed, ap length (noted .stored), overlaid-length (recorded line) row (omega (arith, noted-room false, length-drop base xs)), length-drop base xs)
-
-    pub after-reference : keptIn start base (putMid base (length xs - base) xs ys) ≡ keptIn start base xs
-    after-reference = reference-same (Kept start) base [] xs (putMid base (length xs - base) xs ys) (g .placed) (g .placed .0, omega (arith, after-length, g .placed)) after-front
+    pub after-reference : referenceIn place base lent zs ≡ referenceIn place base lent xs
+    after-reference = reference-same place base lent xs zs (g .placed) after-placed (n .front)
 
     -- the stand that a code has come to, with one change noted
-    module _ (bs : List Bool) (u : BetweenCodes) (count-is : u .count ≡ r) (right : s .position < u .position) (fits : u .position ≤ width) (seen : Seen ref (u .position + 1) (u .place)) (near : u .place ≤ suc (length ref) + u .at)
-        (goes : (strict exact cut : Bool) → code2D (ruling width (length xs - base) strict exact) ref bs (standing row cut s) ≡ went (Rule.line (u .at) (u .position) (colourOf (u .place % 2)) (recorded (standing row cut s)) cut)) where
-      pub noted-walked : Walked ref bs base (length xs - base) width xs s (putMid base (length xs - base) xs ys) u
-      noted-walked =
-          walk u (recorded line) after full
-          (record {
-            fits = fits;
-            held = omega (arith, noted-few, roomy, count-is);
-            seen = subst (λ (m : ℕ). Seen ref m (u .place)) (right-more (u .position) (λ z. omega arith)) seen;
-            near = near;
-          })
-          (omega (arith, g .roomy, noted-few, count-is)) ready-short (omega (arith, noted-few, count-is)) (count-is ∙ noted .counted) after-length after-front after-row
-          (λ strict exact cut. goes strict exact cut ∙ ap (λ (l : List ℕ). went (Rule.line (u .at) (u .position) (colourOf (u .place % 2)) l cut)) (flagless cut))
+    module _ (bs : List Bool) (u : BetweenCodes) (count-is : u .count ≡ r) (right : s .position < u .position) (fits : u .position ≤ width)
+        (seen : Seen ref (u .position + 1) (u .place)) (near : u .place ≤ suc (length ref) + u .at)
+        (goes : (strict exact cut : Bool) → code2D (ruling width (roomIn base xs) strict exact) ref bs (standing row cut s) ≡ went (Rule.line (u .at) (u .position) (colourOf (u .place % 2)) (recorded (standing row cut s)) cut))
+      where
+        pub noted-walked : Walked ref bs base (roomIn base xs) width xs s zs u
+        noted-walked =
+            walk u (recorded line) zs full
+            (record {
+              fits = fits;
+              held = omega (arith, noted-few, ready-note, count-is);
+              seen = subst (λ (m : ℕ). Seen ref m (u .place)) (right-more (u .position) (λ z. omega arith)) seen;
+              near = near;
+            })
+            (omega (arith, g .roomy, noted-few, count-is)) ready-short (omega (arith, noted-few, count-is)) (count-is ∙ n .noted .counted)
+            after-length (n .front) (n .noted .stored)
+            (λ strict exact cut. goes strict exact cut ∙ ap (λ (l : List ℕ). went (Rule.line (u .at) (u .position) (colourOf (u .place % 2)) l cut)) (flagless cut))
 
     -- ---- Vertical modes
 
-    module _ (bytes : List ℕ) (m : Mode) (upright : Upright m) (end a1 p : ℕ) (read : readMode (bitsOf bytes) (s .at) ≡ ok (moded end m)) (move : moveBy b m (s .position) ≡ By (a1 - s .position))
-        (right : s .position < a1) (fits : a1 ≤ width) (seen : Seen ref (a1 + 1) p) (parity : p % 2 ≡ (s .place + 1) % 2) (near : p ≤ suc (length ref) + end) where
-      vertical-walked : Walked ref (bitsOf bytes) base (length xs - base) width xs s (putMid base (length xs - base) xs ys) (record { at = end; position = a1; count = r; place = p })
+    module _ (bytes : List ℕ) (m : Mode) (upright : Upright m) (end a1 p : ℕ) (read : readMode (bitsOf bytes) (s .at) ≡ ok (moded end m))
+        (move : moveBy b m (s .position) ≡ By (a1 - s .position))
+        (right : s .position < a1) (fits : a1 ≤ width) (seen : Seen ref (a1 + 1) p) (parity : p % 2 ≡ (s .place + 1) % 2)
+        (near : p ≤ suc (length ref) + end) where
+      vertical-walked : WalkedIn bytes place lent xs base width s zs (record { at = end; position = a1; count = r; place = p })
       vertical-walked =
           noted-walked (bitsOf bytes) (record { at = end; position = a1; count = r; place = p }) refl right fits seen near
           (λ strict exact cut.
-          vertical-goes (ruling width (length xs - base) strict exact) ref (bitsOf bytes) (standing row cut s) end m upright read a1
+          vertical-goes (ruling width (roomIn base xs) strict exact) ref (bitsOf bytes) (standing row cut s) end m upright read a1
           (ap (λ (x : ℕ). moveBy x m (s .position)) (sym b1-rule) ∙ move)
           right fits (noted-room cut)
           ∙ ap (λ (c : Colour). went (Rule.line end a1 c (recorded (standing row cut s)) cut)) (parity-turns (s .place) p parity))
 
     pub straight-walked : (bytes : List ℕ) → readMode (bitsOf bytes) (s .at) ≡ ok (moded (s .at + 1) (VR 0))
-        → Walked ref (bitsOf bytes) base (length xs - base) width xs s (putMid base (length xs - base) xs ys) (record { at = s .at + 1; position = b; count = r; place = s .place + 1 })
+        → WalkedIn bytes place lent xs base width s zs (record { at = s .at + 1; position = b; count = r; place = s .place + 1 })
     straight-walked bytes read =
         let same : b + 0 ≡ b = omega arith in
         vertical-walked bytes (VR 0) tt (s .at + 1) b (s .place + 1) read
@@ -272,10 +332,12 @@ module _ {xs : List ℕ} {start base width : ℕ} {s : BetweenCodes} {b : ℕ} (
 
     -- ---- Pass mode
 
-    pub pass-walked : (bytes : List ℕ) (c : ℕ) → c ≡ headOr width (drop (s .place + 1) (keptIn start base (putMid base (length xs - base) xs ys))) → readMode (bitsOf bytes) (s .at) ≡ ok (moded (s .at + 4) pass)
-        → Walked ref (bitsOf bytes) base (length xs - base) width xs s (putMid base (length xs - base) xs ys) (record { at = s .at + 4; position = c; count = r; place = s .place + 2 })
+    pub pass-walked : (bytes : List ℕ) (c : ℕ) → c ≡ headOr width (drop (s .place + 1) (referenceIn place base lent zs))
+        → readMode (bitsOf bytes) (s .at) ≡ ok (moded (s .at + 4) pass)
+        → WalkedIn bytes place lent xs base width s zs (record { at = s .at + 4; position = c; count = r; place = s .place + 2 })
     pass-walked bytes c e read =
-        let c-is : c ≡ headOr width (drop (s .place + 1) ref) = e ∙ ap (λ (l : List ℕ). headOr width (drop (s .place + 1) l)) after-reference in
+        let c-is : c ≡ headOr width (drop (s .place + 1) ref) =
+        e ∙ ap (λ (l : List ℕ). headOr width (drop (s .place + 1) l)) after-reference in
         let rule : c ≡ b2 width ref (s .position) (colourOf (s .place % 2)) = c-is ∙ seen-b2 width (s .position) (g .stands .seen) in
         let right : s .position < c = omega (arith, c-is, g .b1-is, g .ahead, change-next (g .rising) (s .place)) in
         let fits : c ≤ width = omega (arith, c-is, change-fits (g .rising) (s .place + 1)) in
@@ -285,51 +347,56 @@ module _ {xs : List ℕ} {start base width : ℕ} {s : BetweenCodes} {b : ℕ} (
         (subst (λ (x : ℕ). Seen ref (c + 1) x) two-on (subst (λ (x : ℕ). Seen ref (x + 1) (s .place + 1 + 1)) (sym c-is) (seen-next (g .rising) (s .place + 1))))
         (omega (arith, g .stands .near))
         (λ strict exact cut.
-        pass-goes (ruling width (length xs - base) strict exact) ref (bitsOf bytes) (standing row cut s) (s .at + 4) read (omega (arith, right, rule)) (omega (arith, fits, rule)) (noted-room cut)
+        pass-goes (ruling width (roomIn base xs) strict exact) ref (bitsOf bytes) (standing row cut s) (s .at + 4) read
+        (omega (arith, right, rule)) (omega (arith, fits, rule)) (noted-room cut)
         ∙ (λ i. went (Rule.line (s .at + 4) (sym rule i) (colourOf (stays i)) (recorded (standing row cut s)) cut)))
 
     -- ---- Two runs
 
     -- room for two changes, as two pixels are left at least
     module _ (p1 p2 : ℕ) (some1 : 0 < p1) (some2 : 0 < p2) (within : p1 + p2 ≤ width - s .position) where
-      two-roomy : suc r ≤ length xs - base
+      two-roomy : suc r ≤ roomIn base xs
       two-roomy = omega (arith, noted-few, g .roomy)
 
-      pub two-index : base + r < length (putMid base (length xs - base) xs ys)
-      two-index = omega (arith, two-roomy, after-length, g .placed)
+      pub two-index : base + r < length zs
+      two-index = omega (arith, two-roomy, after-length, full)
 
-      module _ (a1 : ℕ) (a1-is : a1 ≡ s .position + p1) where
-        abbrev both : List ℕ
-        both = set (putMid base (length xs - base) xs ys) (base + r) a1
-
-        pub both-length : length (set (putMid base (length xs - base) xs ys) (base + r) a1) ≡ length xs
-        both-length = length-set (putMid base (length xs - base) xs ys) (base + r) a1 ∙ after-length
+      module _ (a1 : ℕ) (a1-is : a1 ≡ s .position + p1) {both : List ℕ} (m : StoredIn base zs r a1 both) where
+        pub both-length : length both ≡ length xs
+        both-length =
+            same-size base zs both (omega (arith, after-length, based)) (m .front) (ap length (m .stored) ∙ length-set (drop base zs) r a1)
+            ∙ after-length
 
         both-front : take base both ≡ take base xs
-        both-front = take-set-le base (putMid base (length xs - base) xs ys) (base + r) a1 (omega arith) ∙ after-front
+        both-front = m .front ∙ n .front
 
         both-row : drop base both ≡ overlaid (recorded line ++ a1 ∷ []) row
         both-row =
-            let k : r < length (overlaid (recorded line) row) = omega (arith, two-roomy, overlaid-length (recorded line) row (omega (arith, noted-room false, length-drop base xs)), length-drop base xs) in
-            drop-set-add base (putMid base (length xs - base) xs ys) r a1
-            ∙ ap (λ (l : List ℕ). set l r a1) after-row
+            let k : r < length (overlaid (recorded line) row) =
+            omega (arith, two-roomy, overlaid-length (recorded line) row (noted-room false)) in
+            m .stored
+            ∙ ap (λ (l : List ℕ). set l r a1) (n .noted .stored)
             ∙ overlaid-set r (overlaid (recorded line) row) a1 k
-            ∙ ap (λ (l : List ℕ). overlaid (l ++ a1 ∷ []) (overlaid (recorded line) row)) (front-of r (recorded line) row (overlaid (recorded line) row) (noted .counted) refl)
+            ∙ ap (λ (l : List ℕ). overlaid (l ++ a1 ∷ []) (overlaid (recorded line) row))
+            (front-of r (recorded line) row (overlaid (recorded line) row) (n .noted .counted) refl)
             ∙ overlaid-over (recorded line ++ a1 ∷ []) (recorded line) row (omega (arith, length-append (recorded line) (a1 ∷ [])))
 
-        pub both-reference : keptIn start base (set (putMid base (length xs - base) xs ys) (base + r) a1) ≡ keptIn start base xs
-        both-reference = reference-same (Kept start) base [] xs both (g .placed) (g .placed .0, omega (arith, both-length, g .placed)) both-front
+        pub both-reference : referenceIn place base lent both ≡ referenceIn place base lent xs
+        both-reference =
+            reference-same place base lent xs both (g .placed) (placed-as place base xs both both-length (g .placed)) both-front
 
-        pub two-onward : (q : ℕ) → s .position < q → Onward (keptIn start base (set (putMid base (length xs - base) xs ys) (base + r) a1)) (s .place) q
+        pub two-onward : (q : ℕ) → s .position < q → Onward (referenceIn place base lent both) (s .place) q
         two-onward q h = rw both-reference (record { width = width; rising = g .rising; left = left-of h })
 
-        module _ (bytes : List ℕ) (n1 n2 q p : ℕ) (q-is : q ≡ a1 + p2) (read : readMode (bitsOf bytes) (s .at) ≡ ok (moded (s .at + 3) horizontal))
-            (one : readRun (colourOf (s .place % 2)) (bitsOf bytes) (s .at + 3) ≡ ok (sum n1 p1)) (other : readRun (opposite (colourOf (s .place % 2))) (bitsOf bytes) n1 ≡ ok (sum n2 p2))
-            (bits : s .at ≤ n2) (reached : Reached (keptIn start base (set (putMid base (length xs - base) xs ys) (base + r) a1)) (q + 1) (s .place) p) where
+        module _ (bytes : List ℕ) (n1 n2 q p : ℕ) (q-is : q ≡ a1 + p2)
+            (read : readMode (bitsOf bytes) (s .at) ≡ ok (moded (s .at + 3) horizontal))
+            (one : readRun (colourOf (s .place % 2)) (bitsOf bytes) (s .at + 3) ≡ ok (sum n1 p1))
+            (other : readRun (opposite (colourOf (s .place % 2))) (bitsOf bytes) n1 ≡ ok (sum n2 p2))
+            (bits : s .at ≤ n2) (reached : Reached (referenceIn place base lent both) (q + 1) (s .place) p) where
           there : Reached ref (q + 1) (s .place) p
           there = subst (λ (l : List ℕ). Reached l (q + 1) (s .place) p) both-reference reached
 
-          pub two-walked : Walked ref (bitsOf bytes) base (length xs - base) width xs s (set (putMid base (length xs - base) xs ys) (base + r) a1) (record { at = n2; position = q; count = r + 1; place = p })
+          pub two-walked : WalkedIn bytes place lent xs base width s both (record { at = n2; position = q; count = r + 1; place = p })
           two-walked =
               let sums : s .position + p1 + p2 ≡ q = omega arith in
               walk (record { at = n2; position = q; count = r + 1; place = p }) (recorded line ++ a1 ∷ []) both full
@@ -339,62 +406,84 @@ module _ {xs : List ℕ} {start base width : ℕ} {s : BetweenCodes} {b : ℕ} (
                 seen = subst (λ (m : ℕ). Seen ref m p) (right-more q (λ z. omega arith)) (there .seen);
                 near = omega (arith, there .near, g .stands .near);
               })
-              (omega (arith, g .roomy, noted-few)) ready-short (omega (arith, noted-few)) (omega (arith, noted .counted, length-append (recorded line) (a1 ∷ []))) both-length both-front both-row
+              (omega (arith, g .roomy, noted-few)) ready-short (omega (arith, noted-few))
+              (omega (arith, n .noted .counted, length-append (recorded line) (a1 ∷ []))) both-length both-front both-row
               (λ strict exact cut.
-              horizontal-goes (ruling width (length xs - base) strict exact) ref (bitsOf bytes) (standing row cut s) (s .at + 3) read n1 p1 n2 p2 one other some1 some2 (omega (arith, ready-short)) (omega (arith, two-roomy, noted .counted, ap length (flagless cut)))
+              horizontal-goes (ruling width (roomIn base xs) strict exact) ref (bitsOf bytes) (standing row cut s) (s .at + 3) read n1 p1
+              n2 p2 one other some1 some2 (omega (arith, ready-short))
+              (omega (arith, two-roomy, n .noted .counted, ap length (flagless cut)))
               ∙ (λ i. went (Rule.line n2 (sums i) (colourOf (sym (there .parity) i)) (flagless cut i ++ sym a1-is i ∷ []) cut)))
 
 -- ---- The loop over codes
 
-module _ {w b bytes xs : List ℕ} {start base width : ℕ} {s : BetweenCodes} (h : Walks w b bytes xs start base width s) {zs : List ℕ} {t : BetweenCodes}
-    (v : Walked (keptIn start base xs) (bitsOf bytes) base (length xs - base) width xs s zs t) where
-  pub walked-base : base ≤ length zs
-  walked-base = omega (arith, v .size, h .placed)
+module _ {bytes : List ℕ} {place : Reference} {lent xs : List ℕ} {base width : ℕ} {s : BetweenCodes}
+    (h : Walks bytes place lent xs base width s) {zs : List ℕ} {t : BetweenCodes}
+    (v : WalkedIn bytes place lent xs base width s zs t) where
+  walked-placed : Placed place base zs
+  walked-placed = placed-as place base xs zs (v .size) (h .placed)
 
-  walked-reference : keptIn start base zs ≡ keptIn start base xs
-  walked-reference = reference-same (Kept start) base [] xs zs (h .placed) (h .placed .0, walked-base) (v .front)
+  pub walked-base : base ≤ length zs
+  walked-base = placed-base place base zs walked-placed
+
+  walked-reference : referenceIn place base lent zs ≡ referenceIn place base lent xs
+  walked-reference = reference-same place base lent xs zs (h .placed) walked-placed (v .front)
+
+  walked-room : roomIn base zs ≡ roomIn base xs
+  walked-room = room-same base xs zs (v .size)
 
   pub walked-low : t .at ≤ mostBits
   walked-low = omega (arith, v .inside, length-bitsOf bytes, h .loading .size)
 
   -- left of b1 the next code may be a swift one
-  pub walked-asks : {c : ℕ} → Roomy (length xs - base) width s → c ≡ headOr width (drop (t .place) (keptIn start base zs)) → t .position < c → length xs < 2305843009213693952 → Asks zs start base width t c
+  pub walked-asks : {c : ℕ} → Roomy (roomIn base xs) width s → c ≡ headOr width (drop (t .place) (referenceIn place base lent zs))
+      → t .position < c → length (referenceIn place base lent xs) < 2305843009213693952
+      → Asks place lent zs base width t c
   walked-asks r e k long = record {
     ready = record {
-      placed = (h .placed .0, walked-base);
+      placed = walked-placed;
       narrow = h .narrow;
       rising = rw walked-reference (h .rising);
-      stands = rw (walked-reference, v .size) (v .stands);
-      roomy = rw (v .size) (v .roomy r);
+      stands = rw (walked-reference, walked-room) (v .stands);
+      roomy = rw walked-room (v .roomy r);
       b1-is = e;
       ahead = k;
     };
     low = omega (arith, walked-low);
-    long = omega (arith, v .size);
+    long = rw walked-reference long;
   }
 
   -- as the code is seen to be, with what it makes of the loop's measure
-  module _ (r : TakenCode) (ys : List ℕ) (took : Took (keptIn start base zs) (bitsOf bytes) base (length zs - base) width zs t r ys) where
-    pub took-other : r ≡ Other → Walked (keptIn start base xs) (bitsOf bytes) base (length xs - base) width xs s ys t
-    took-other e = rw (subst (λ (q : TakenCode). Took (keptIn start base zs) (bitsOf bytes) base (length zs - base) width zs t q ys) e took) v
+  module _ (r : TakenCode) (ys : List ℕ) (took : TookIn bytes place lent zs base width t r ys) where
+    pub took-other : r ≡ Other → WalkedIn bytes place lent xs base width s ys t
+    took-other e = rw (subst (λ (q : TakenCode). TookIn bytes place lent zs base width t q ys) e took) v
 
     module _ {u : BetweenCodes} (e : r ≡ On u) where
-      on : Walked (keptIn start base zs) (bitsOf bytes) base (length zs - base) width zs t ys u × (t .at < u .at)
-      on = subst (λ (q : TakenCode). Took (keptIn start base zs) (bitsOf bytes) base (length zs - base) width zs t q ys) e took
+      on : WalkedIn bytes place lent zs base width t ys u × (t .at < u .at)
+      on = subst (λ (q : TakenCode). TookIn bytes place lent zs base width t q ys) e took
 
-      pub took-on : Walked (keptIn start base xs) (bitsOf bytes) base (length xs - base) width xs s ys u
-      took-on = walked-further (h .placed) v (on .0)
+      pub took-on : WalkedIn bytes place lent xs base width s ys u
+      took-on = walked-further place lent (h .placed) v (on .0)
 
       pub took-less : 8 * length bytes - u .at < 8 * length bytes - t .at
       took-less = omega (arith, on .1, on .0 .inside, length-bitsOf bytes)
 
-pub walks-none : {w b bytes xs : List ℕ} {start base width : ℕ} {s : BetweenCodes} → Walks w b bytes xs start base width s → Walked (keptIn start base xs) (bitsOf bytes) base (length xs - base) width xs s xs s
-walks-none {bytes = bytes} h = walked-none (omega (arith, h .placed)) (h .stands) (omega (arith, h .loading .inside, length-bitsOf bytes))
+-- a reference that is kept is no longer than the array
+pub kept-long : (start base : ℕ) (xs : List ℕ) → length xs < 2305843009213693952
+    → length (referenceIn (Kept start) base [] xs) < 2305843009213693952
+kept-long start base xs h = omega (arith, length-take (base - start) (drop start xs), length-drop start xs)
+
+pub walks-none : {bytes : List ℕ} {place : Reference} {lent xs : List ℕ} {base width : ℕ} {s : BetweenCodes}
+    → Walks bytes place lent xs base width s
+    → WalkedIn bytes place lent xs base width s xs s
+walks-none {bytes} {place} {lent} {xs} {base} h =
+    walked-none (room-full base xs (placed-base place base xs (h .placed))) (h .stands)
+    (omega (arith, h .loading .inside, length-bitsOf bytes))
 
 -- ---- A vertical mode of so many pixels to a side
 
-pub asks-place : {xs : List ℕ} {start base width : ℕ} {s : BetweenCodes} {b : ℕ} → Asks xs start base width s b → s .place < 4611686018427387904
-asks-place q = omega (arith, q .ready .stands .near, ref-short (q .ready), q .low, q .long)
+pub asks-place : {place : Reference} {lent xs : List ℕ} {base width : ℕ} {s : BetweenCodes} {b : ℕ} → Asks place lent xs base width s b
+    → s .place < 4611686018427387904
+asks-place q = omega (arith, q .ready .stands .near, q .low, q .long)
 
 side-upright : (d twice : ℕ) → Upright (sideMode d twice)
 side-upright d twice = cases (eqb twice 0)
@@ -403,17 +492,23 @@ side-upright d twice = cases (eqb twice 0)
     cases true = tt
     cases false = tt
 
-module _ {xs : List ℕ} {start base width : ℕ} {s : BetweenCodes} {b d twice size : ℕ} (q : Sided xs start base width s b d twice size) (far : s .position + d < b + twice) (within : b + twice ≤ width + d) where
+module _ {place : Reference} {lent xs : List ℕ} {base width : ℕ} {s : BetweenCodes} {b d twice size : ℕ}
+    (q : Sided place lent xs base width s b d twice size)
+    (far : s .position + d < b + twice) (within : b + twice ≤ width + d) where
   -- it moves to a1
   side-moves : moveBy b (sideMode d twice) (s .position) ≡ By (b + twice - d - s .position)
   side-moves = cases (q .sides)
     where
       cases : (twice ≡ 0) ⊎ (twice ≡ 2 * d) → moveBy b (sideMode d twice) (s .position) ≡ By (b + twice - d - s .position)
-      cases (inl e) = rw (eq-eqb twice 0 e) (moves-left b (b + twice - d) d (s .position) (omega (arith, within, q .asks .ready .narrow)) (omega (arith, far)) (omega (arith, far)))
-      cases (inr e) = rw (ne-eqb twice 0 (λ z. omega (arith, q .some-pixels))) (moves-right b (b + twice - d) d (s .position) (omega (arith, within, q .asks .ready .narrow)) (omega (arith, far)) (omega arith))
+      cases (inl e) =
+          rw (eq-eqb twice 0 e)
+          (moves-left b (b + twice - d) d (s .position) (omega (arith, within, q .asks .ready .narrow)) (omega (arith, far)) (omega (arith, far)))
+      cases (inr e) =
+          rw (ne-eqb twice 0 (λ z. omega (arith, q .some-pixels)))
+          (moves-right b (b + twice - d) d (s .position) (omega (arith, within, q .asks .ready .narrow)) (omega (arith, far)) (omega arith))
 
-  module _ {r : ℕ} {ys : List ℕ} (n : Noted (midOf base (length xs - base) xs) s r ys) where
-    pub side-turning : Turning (keptIn start base (putMid base (length xs - base) xs ys)) (s .place) d (b + twice - d)
+  module _ {r : ℕ} {zs : List ℕ} (n : NotedIn base xs s r zs) where
+    pub side-turning : Turning (referenceIn place base lent zs) (s .place) d (b + twice - d)
     side-turning = rw (after-reference (q .asks .ready) n) (record {
       width = width;
       rising = q .asks .ready .rising;
@@ -423,11 +518,14 @@ module _ {xs : List ℕ} {start base width : ℕ} {s : BetweenCodes} {b d twice 
       low = omega (arith, asks-place (q .asks));
     })
 
-    pub side-walked : (p : ℕ) → Reached (keptIn start base (putMid base (length xs - base) xs ys)) (b + twice - d + 1) (s .place + 1) p → (bytes : List ℕ) → readMode (bitsOf bytes) (s .at) ≡ ok (moded (s .at + size) (sideMode d twice))
-        → Walked (keptIn start base xs) (bitsOf bytes) base (length xs - base) width xs s (putMid base (length xs - base) xs ys) (record { at = s .at + size; position = b + twice - d; count = r; place = p })
+    pub side-walked : (p : ℕ) → Reached (referenceIn place base lent zs) (b + twice - d + 1) (s .place + 1) p → (bytes : List ℕ)
+        → readMode (bitsOf bytes) (s .at) ≡ ok (moded (s .at + size) (sideMode d twice))
+        → WalkedIn bytes place lent xs base width s zs (record { at = s .at + size; position = b + twice - d; count = r; place = p })
     side-walked p reached bytes read =
-        let there : Reached (keptIn start base xs) (b + twice - d + 1) (s .place + 1) p = subst (λ (l : List ℕ). Reached l (b + twice - d + 1) (s .place + 1) p) (after-reference (q .asks .ready) n) reached in
-        vertical-walked (q .asks .ready) n bytes (sideMode d twice) (side-upright d twice) (s .at + size) (b + twice - d) p read side-moves (omega (arith, far)) (omega (arith, within)) (there .seen) (there .parity)
+        let there : Reached (referenceIn place base lent xs) (b + twice - d + 1) (s .place + 1) p =
+        subst (λ (l : List ℕ). Reached l (b + twice - d + 1) (s .place + 1) p) (after-reference (q .asks .ready) n) reached in
+        vertical-walked (q .asks .ready) n bytes (sideMode d twice) (side-upright d twice) (s .at + size) (b + twice - d) p read side-moves
+        (omega (arith, far)) (omega (arith, within)) (there .seen) (there .parity)
         (omega (arith, there .near, q .asks .ready .stands .near, q .some-bits))
 
 -- the side by the bit that tells it: twice d where that is a one, nothing where it is a zero

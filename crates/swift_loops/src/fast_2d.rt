@@ -5,16 +5,17 @@ use context::line;
 use context::reference;
 ghost use mathlib.Core.Path.{_≡_};
 ghost use mathlib.Core.Bool.{cond};
+ghost use mathlib.Core.List.{[]};
 ghost use Prim.Native.Nat.{_+_, _-_, _/_, _%_, _^_, _≤_, _<_};
 ghost use lib.Dec.{eqb, leb};
 ghost use lib.ListN.{length};
 ghost use lib.Count.{leadingZeros};
-ghost use Rattle.rules.specs.Bits.{bitsOf};
 ghost use Rattle.rules.specs.Modes.{pass, horizontal};
 ghost use Rattle.tables.specs.Tables.{Lookups};
+ghost use Rattle.context.specs.declared.reference.Reference.the-variants.{Kept};
 ghost use Rattle.context.specs.Places.{Onward, Reached, Turning, Back};
 ghost use Rattle.bit_reader.specs.Cursor.{mostBits};
-ghost use Rattle.swift_loops.specs.Swift.{Noted, keptIn, Walked, TookMode, TookBits, TookAhead, Turns, WalkedTo};
+ghost use Rattle.swift_loops.specs.Swift.{Noted, roomIn, WalkedIn, TookMode, TookBits, TookAhead, Turns, WalkedTo};
 ghost use Rattle.swift_loops.specs.Swift.{Asks, Sided, Turned, SideTaken, GoesAlong, WentStraight, Walks, Roomy};
 
 // Where a line stands between two codes: the next bit, the position, the changes it has, and b1's place on the reference. Its colour is the
@@ -33,7 +34,7 @@ pub enum TakenCode {
 }
 
 // How many changes there are once pixels of the line's colour follow: one more where the colour is not that of the last pixel.
-fn note(row: &mut [u32], s: BetweenCodes) -> usize
+pub(crate) fn note(row: &mut [u32], s: BetweenCodes) -> usize
     requires { ⌜ s .count < length (now row) ⌝ }
     ensures { λ r. ⌜ Noted (now (row .entry)) s r (now (row .exit)) ⌝ }
 {
@@ -99,8 +100,8 @@ fn vertical(
     twice: usize,
     size: usize,
 ) -> TakenCode
-    requires { ⌜ Sided (now changes) start base width s b1 d twice size ⌝ }
-    ensures { λ r. ⌜ SideTaken (now (changes .entry)) start base width s d twice size r (now (changes .exit)) ⌝ }
+    requires { ⌜ Sided (Kept start) [] (now changes) base width s b1 d twice size ⌝ }
+    ensures { λ r. ⌜ SideTaken (Kept start) [] (now (changes .entry)) base width s d twice size r (now (changes .exit)) ⌝ }
 {
     let to = b1 as usize + twice;
     if to <= s.position as usize + d {
@@ -130,8 +131,8 @@ fn to_each(
     from: BetweenCodes,
     ones: u64,
 ) -> BetweenCodes
-    requires { ⌜ Turned (now changes) start base width from × (from .at ≤ mostBits + 71) ⌝ }
-    ensures { λ r. ⌜ WentStraight (now (changes .entry)) start base width from ones r (now (changes .exit)) ⌝ }
+    requires { ⌜ Turned (Kept start) [] (now changes) base width from × (from .at ≤ mostBits + 71) ⌝ }
+    ensures { λ r. ⌜ WentStraight (Kept start) [] (now (changes .entry)) base width from ones r (now (changes .exit)) ⌝ }
 {
     let end = base - start;
     let mut s = from;
@@ -157,7 +158,7 @@ fn to_each(
     s
 }
 
-fn bit_of(bits: u64, k: usize) -> usize
+pub(crate) fn bit_of(bits: u64, k: usize) -> usize
     requires { ⌜ k < 64 ⌝ }
     ensures { λ r. ⌜ r ≡ bits / 2 ^ k % 2 ⌝ }
 {
@@ -173,8 +174,8 @@ fn beside(
     s: BetweenCodes,
     rest: u64,
 ) -> TakenCode
-    requires { ⌜ Turned (now changes) start base width s × (s .at ≤ mostBits + 64) ⌝ }
-    ensures { λ r. ⌜ Turns (now (changes .entry)) start base width s rest r (now (changes .exit)) ⌝ }
+    requires { ⌜ Turned (Kept start) [] (now changes) base width s × (s .at ≤ mostBits + 64) ⌝ }
+    ensures { λ r. ⌜ Turns (Kept start) [] (now (changes .entry)) base width s rest r (now (changes .exit)) ⌝ }
 {
     if rest >> 62 != 1 {
         return TakenCode::Other;
@@ -206,8 +207,8 @@ fn along(
     bits: u64,
     stop: usize,
 ) -> BetweenCodes
-    requires { ⌜ GoesAlong (now changes) start base width from stop ⌝ }
-    ensures { λ r. ⌜ WalkedTo (now (changes .entry)) start base width from bits stop r (now (changes .exit)) ⌝ }
+    requires { ⌜ GoesAlong (Kept start) [] (now changes) base width from stop ⌝ }
+    ensures { λ r. ⌜ WalkedTo (Kept start) [] (now (changes .entry)) base width from bits stop r (now (changes .exit)) ⌝ }
 {
     let mut s = from;
     let mut rest = bits;
@@ -240,8 +241,8 @@ fn to_b1(
     bits: u64,
     zeros: u32,
 ) -> TakenCode
-    requires { ⌜ Asks (now changes) start base width s b1 × (zeros ≡ leadingZeros 64 bits) × (zeros ≤ 1) ⌝ }
-    ensures { λ r. ⌜ Turns (now (changes .entry)) start base width s bits r (now (changes .exit)) ⌝ }
+    requires { ⌜ Asks (Kept start) [] (now changes) base width s b1 × (zeros ≡ leadingZeros 64 bits) × (zeros ≤ 1) ⌝ }
+    ensures { λ r. ⌜ Turns (Kept start) [] (now (changes .entry)) base width s bits r (now (changes .exit)) ⌝ }
 {
     if zeros == 0 {
         let count = note(&mut changes[base..], s);
@@ -276,8 +277,8 @@ fn straight(
     bits: u64,
     zeros: u32,
 ) -> TakenCode
-    requires { ⌜ Asks (now changes) start base width s b1 × (s .at ≤ mostBits) × (zeros ≡ leadingZeros 64 bits) × (zeros ≤ 1) ⌝ }
-    ensures { λ r. ⌜ TookAhead (now (changes .entry)) start base width s bits r (now (changes .exit)) ⌝ }
+    requires { ⌜ Asks (Kept start) [] (now changes) base width s b1 × (s .at ≤ mostBits) × (zeros ≡ leadingZeros 64 bits) × (zeros ≤ 1) ⌝ }
+    ensures { λ r. ⌜ TookAhead (Kept start) [] (now (changes .entry)) base width s bits r (now (changes .exit)) ⌝ }
 {
     match to_b1(changes, start, base, width, s, b1, bits, zeros) {
         TakenCode::Other => TakenCode::Other,
@@ -298,8 +299,8 @@ fn to_b2(
     s: BetweenCodes,
     b1: u32,
 ) -> TakenCode
-    requires { ⌜ Asks (now changes) start base width s b1 ⌝ }
-    ensures { λ r. ⌜ TookMode (now (changes .entry)) start base width s (s .at + 4) pass r (now (changes .exit)) ⌝ }
+    requires { ⌜ Asks (Kept start) [] (now changes) base width s b1 ⌝ }
+    ensures { λ r. ⌜ TookMode (Kept start) [] (now (changes .entry)) base width s (s .at + 4) pass r (now (changes .exit)) ⌝ }
 {
     let count = note(&mut changes[base..], s);
     let b2 = reference::change_or(&changes[start..base], s.place + 1, width);
@@ -329,8 +330,8 @@ fn two_runs<'a>(
     b1: u32,
     bits: u64,
 ) -> TakenCode
-    requires { ⌜ Lookups (now white) (now black) × Asks (now changes) start base width s b1 ⌝ }
-    ensures { λ r. ⌜ TookBits (now (changes .entry)) start base width s bits 57 (s .at + 3) horizontal r (now (changes .exit)) ⌝ }
+    requires { ⌜ Lookups (now white) (now black) × Asks (Kept start) [] (now changes) base width s b1 ⌝ }
+    ensures { λ r. ⌜ TookBits (Kept start) [] (now (changes .entry)) base width s bits 57 (s .at + 3) horizontal r (now (changes .exit)) ⌝ }
 {
     let ahead = bits << 3;
     let parity = s.place % 2;
@@ -375,8 +376,8 @@ fn code<'a>(
     b1: u32,
     bits: u64,
 ) -> TakenCode
-    requires { ⌜ Lookups (now white) (now black) × Asks (now changes) start base width s b1 × (s .at ≤ mostBits) ⌝ }
-    ensures { λ r. ⌜ TookAhead (now (changes .entry)) start base width s bits r (now (changes .exit)) ⌝ }
+    requires { ⌜ Lookups (now white) (now black) × Asks (Kept start) [] (now changes) base width s b1 × (s .at ≤ mostBits) ⌝ }
+    ensures { λ r. ⌜ TookAhead (Kept start) [] (now (changes .entry)) base width s bits r (now (changes .exit)) ⌝ }
 {
     let zeros = u64::leading_zeros(bits);
     if zeros < 2 {
@@ -422,8 +423,8 @@ fn codes<'a>(
     width: u32,
     from: BetweenCodes,
 ) -> BetweenCodes
-    requires { ⌜ Walks (now white) (now black) (now src) (now changes) start base width from × Roomy (length (now changes) - base) width from ⌝ }
-    ensures { λ r. ⌜ Walked (keptIn start base (now (changes .entry))) (bitsOf (now (src .entry))) base (length (now (changes .entry)) - base) width (now (changes .entry)) from (now (changes .exit)) r ⌝ }
+    requires { ⌜ Lookups (now white) (now black) × Walks (now src) (Kept start) [] (now changes) base width from × Roomy (roomIn base (now changes)) width from ⌝ }
+    ensures { λ r. ⌜ WalkedIn (now (src .entry)) (Kept start) [] (now (changes .entry)) base width from (now (changes .exit)) r ⌝ }
 {
     if src.len() < 8 {
         return from;
@@ -450,7 +451,7 @@ fn codes<'a>(
     s
 }
 
-fn has_room(room: usize, width: u32, s: BetweenCodes) -> bool
+pub(crate) fn has_room(room: usize, width: u32, s: BetweenCodes) -> bool
     requires { ⌜ (s .position ≤ width) × (s .count ≤ room) ⌝ }
     ensures { λ r. ⌜ r ≡ leb (width - s .position) (room - s .count) ⌝ }
 {
@@ -468,8 +469,8 @@ pub fn swift_codes<'a>(
     width: u32,
     from: BetweenCodes,
 ) -> BetweenCodes
-    requires { ⌜ Walks (now white) (now black) (now src) (now changes) start base width from ⌝ }
-    ensures { λ r. ⌜ Walked (keptIn start base (now (changes .entry))) (bitsOf (now (src .entry))) base (length (now (changes .entry)) - base) width (now (changes .entry)) from (now (changes .exit)) r ⌝ }
+    requires { ⌜ Lookups (now white) (now black) × Walks (now src) (Kept start) [] (now changes) base width from ⌝ }
+    ensures { λ r. ⌜ WalkedIn (now (src .entry)) (Kept start) [] (now (changes .entry)) base width from (now (changes .exit)) r ⌝ }
 {
     if has_room(changes.len() - base, width, from) {
         return codes(white, black, src, changes, start, base, width, from);

@@ -1,14 +1,18 @@
 -- The invariant is `Nearing`, which V0 codes and one beside b1 take further. The measure is what is left up to `stop`.
 use mathlib.Core.Path.{refl}
 use Prim.Native.Nat.{_-_}
+use mathlib.Core.List.{[]}
 use native.Mathlib.Omega.{arith}
+use Rattle.context.specs.declared.reference.Reference.the-variants.{Kept}
 use borrow.Author.Needs.{needs}
-use Rattle.swift_loops.proofs.Beside.{Nearing, nearing-new, nearing-done, nearing-few, nearing-low, nearing-other, nearing-short, nearing-on, nearing-less}
+use Rattle.swift_loops.proofs.Beside.{Nearing, nearing-new, nearing-done, nearing-few, nearing-low, nearing-other, nearing-short}
+use Rattle.swift_loops.proofs.Beside.{nearing-on, nearing-less}
 use Rattle.swift_loops.proofs.fast_2d.along.Statement.{statement}
 use Rattle.swift_loops.proofs.fast_2d.along.Tie as tie
 
 abbrev Inv-loop : tie.InvT-loop
-Inv-loop changes₀ start base width bits stop s₀ rest₀ changes s rest = Nearing changes₀ start base width s₀ rest₀ stop changes s rest
+Inv-loop changes₀ start base width bits stop s₀ rest₀ changes s rest =
+    Nearing (Kept start) [] changes₀ base width s₀ rest₀ stop changes s rest
 
 abbrev μ-loop : tie.MeasureT-loop
 μ-loop changes₀ start base width bits stop s₀ rest₀ changes s rest = stop - s .at
@@ -63,55 +67,71 @@ same-length-2 c =
 
 returns-2 : tie.Need-returns-2 Inv-loop μ-loop
 returns-2 c =
-    let side = c .before .before .before .before in
+    let at-before = c .before .before .before in
+    let side = at-before .before in
     let test = side .before .before .before .before in
     let straights = test .before .before .before .before in
     let head = straights .before .before in
     let start = head .before .before in
-    nearing-other (start .pre) (head .loop .inv) (straights .to-each .ensures) (test .if1 .left) (side .beside .ensures) (c .enum-told .given .1)
+    nearing-other (start .pre) (head .loop .inv) (straights .to-each .ensures) (test .if1 .left) (side .beside .ensures)
+    (c .enum-told .given .1)
 
 enum-known-next : tie.Need-enum-known-next Inv-loop μ-loop
 enum-known-next c = search needs
 
 sub-rest : tie.Need-sub-rest Inv-loop μ-loop
 sub-rest c =
-    let code = c .before .before .before in
+    let at-before = c .before .before in
+    let code = at-before .before in
     let side = code .before .before .before .before in
     let test = side .before .before .before .before in
     let straights = test .before .before .before .before in
     let head = straights .before .before in
     let start = head .before .before in
-    omega (arith, nearing-short (start .pre) (head .loop .inv) (straights .to-each .ensures) (test .if1 .left) (side .beside .ensures) (code .next .given .1))
+    omega (
+      arith,
+      nearing-short (start .pre) (head .loop .inv) (straights .to-each .ensures) (test .if1 .left) (side .beside .ensures)
+          (code .next .given .1),
+    )
 
 shl-rest : tie.Need-shl-rest Inv-loop μ-loop
 shl-rest c =
-    let code = c .before .before .before in
+    let at-before = c .before .before in
+    let code = at-before .before in
     let side = code .before .before .before .before in
     let test = side .before .before .before .before in
     let straights = test .before .before .before .before in
     let head = straights .before .before in
     let start = head .before .before in
-    omega (arith, nearing-short (start .pre) (head .loop .inv) (straights .to-each .ensures) (test .if1 .left) (side .beside .ensures) (code .next .given .1))
+    omega (
+      arith,
+      nearing-short (start .pre) (head .loop .inv) (straights .to-each .ensures) (test .if1 .left) (side .beside .ensures)
+          (code .next .given .1),
+    )
 
 loop-less : tie.Need-loop-less Inv-loop μ-loop
 loop-less c =
-    let code = c .before .before .before in
+    let at-before = c .before .before in
+    let code = at-before .before in
     let side = code .before .before .before .before in
     let test = side .before .before .before .before in
     let straights = test .before .before .before .before in
     let head = straights .before .before in
     let start = head .before .before in
-    nearing-less (start .pre) (head .loop .inv) (straights .to-each .ensures) (test .if1 .left) (side .beside .ensures) (code .next .given .1)
+    nearing-less (start .pre) (head .loop .inv) (straights .to-each .ensures) (test .if1 .left) (side .beside .ensures)
+    (code .next .given .1)
 
 loop-again : tie.Need-loop-again Inv-loop μ-loop
 loop-again c =
-    let code = c .before .before .before in
+    let at-before = c .before .before in
+    let code = at-before .before in
     let side = code .before .before .before .before in
     let test = side .before .before .before .before in
     let straights = test .before .before .before .before in
     let head = straights .before .before in
     let start = head .before .before in
-    nearing-on (start .pre) (head .loop .inv) (straights .to-each .ensures) (test .if1 .left) (side .beside .ensures) (code .next .given .1) (omega (arith, straights .to-each .kept .0)) (omega (arith, side .beside .kept .0))
+    nearing-on (start .pre) (head .loop .inv) (straights .to-each .ensures) (test .if1 .left) (side .beside .ensures)
+    (code .next .given .1) (omega (arith, straights .to-each .kept .0)) (omega (arith, side .beside .kept .0))
 
 pub along-spec : {M : Type 1} → statement M
 along-spec =

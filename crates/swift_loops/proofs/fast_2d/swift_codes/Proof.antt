@@ -2,7 +2,7 @@
 use mathlib.Core.Path.{sym, _∙_}
 use Prim.Native.Nat.{_-_}
 use native.Mathlib.Omega.{arith}
-use lib.ListN.{length}
+use lib.ListN.{length, length-drop}
 use denote.Ref.{now}
 use borrow.Author.Tests.{leb-true}
 use borrow.Author.Needs.{needs}
@@ -11,13 +11,25 @@ use Rattle.swift_loops.proofs.fast_2d.swift_codes.Statement.{statement}
 use Rattle.swift_loops.proofs.fast_2d.swift_codes.Tie as tie
 
 sub-has-room : tie.Need-sub-has-room
-sub-has-room c = omega (arith, c .before .before .before .before .pre .placed)
+sub-has-room c = omega (arith, c .before .before .before .before .pre .1 .placed)
 
 has-room-requires : tie.Need-has-room-requires
-has-room-requires c κs = (c .before .before .before .before .pre .stands .fits, omega (arith, c .before .before .before .before .pre .stands .held))
+has-room-requires c κs =
+    let entry = c .before .before .before .before in
+    (entry .pre .1 .stands .fits, omega (arith, entry .pre .1 .stands .held, length-drop (entry .args .base) (now (entry .args .changes))))
 
 codes-requires : tie.Need-codes-requires
-codes-requires c κs = (c .before .before .before .before .before .before .before .pre, omega (arith, leb-true (c .before .before .before .before .before .before .before .args .width - c .before .before .before .before .before .before .before .args .from .position) (length (now (c .before .before .before .before .before .before .before .args .changes)) - c .before .before .before .before .before .before .before .args .base - c .before .before .before .before .before .before .before .args .from .count) (sym (c .before .before .has-room .ensures) ∙ c .before .if1 .taken), c .before .before .before .before .before .before .before .pre .stands .fits, c .before .before .before .before .before .before .before .pre .stands .held))
+codes-requires c κs =
+    let at-if1 = c .before in
+    let at-has-room = at-if1 .before in
+    let entry = at-has-room .before .before .before .before .before in
+    let a = entry .args in
+    let walks = entry .pre .1 in
+    let room = length-drop (a .base) (now (a .changes)) in
+    let roomy =
+    leb-true (a .width - a .from .position) (length (now (a .changes)) - a .base - a .from .count)
+    (sym (at-has-room .has-room .ensures) ∙ at-if1 .if1 .taken) in
+    (entry .pre .0, walks, omega (arith, roomy, walks .stands .fits, walks .stands .held, room))
 
 same-length : tie.Need-same-length
 same-length c = search needs
@@ -26,7 +38,7 @@ returns : tie.Need-returns
 returns c = c .before .before .codes .ensures
 
 returns-2 : tie.Need-returns-2
-returns-2 c = walks-none (c .before .before .before .before .before .before .pre)
+returns-2 c = walks-none (c .before .before .before .before .before .before .pre .1)
 
 pub swift-codes-spec : {M : Type 1} → statement M
 swift-codes-spec =

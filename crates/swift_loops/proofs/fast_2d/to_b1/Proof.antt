@@ -5,7 +5,7 @@ use native.Mathlib.Omega.{arith}
 use borrow.Author.Needs.{needs}
 use Rattle.rules.specs.Modes.{VR, modeFor}
 use Rattle.codes.proofs.Modes.{top-mode}
-use Rattle.swift_loops.proofs.Swiftly.{ready-note, after-length, asks-place, straight-walked}
+use Rattle.swift_loops.proofs.Swiftly.{noted-part, ready-part, asks-place, straight-walked}
 use Rattle.swift_loops.proofs.Beside.{first-turned, one-sided, one-read}
 use Rattle.swift_loops.proofs.fast_2d.to_b1.Statement.{statement}
 use Rattle.swift_loops.proofs.fast_2d.to_b1.Tie as tie
@@ -23,7 +23,7 @@ part-note-end : tie.Need-part-note-end
 part-note-end c = search needs
 
 note-requires : tie.Need-note-requires
-note-requires c κs = ready-note (c .before .before .before .pre .0 .ready)
+note-requires c κs = ready-part (c .before .before .before .pre .0 .ready)
 
 add-t11 : tie.Need-add-t11
 add-t11 c = search needs
@@ -37,11 +37,15 @@ same-length c = search needs
 returns : tie.Need-returns
 unfolding modeFor
 returns c =
-    let q = c .before .before .before .before .before .before .before .before .pre in
-    let noted = c .before .before .before .before .note .ensures in
+    let at-note = c .before .before .before .before in
+    let at-if1 = at-note .before .before in
+    let entry = at-if1 .before .before in
+    let q = entry .pre in
+    let noted = noted-part (q .0 .ready .placed .1) (at-note .note .ensures) in
     record {
       took = λ bytes live h k. (
-        straight-walked (q .0 .ready) noted bytes (top-mode h k (sym (q .1) ∙ c .before .before .before .before .before .before .if1 .taken) (omega arith) (VR 0) 1 (λ side. refl) (omega arith)),
+        straight-walked (q .0 .ready) noted bytes
+            (top-mode h k (sym (q .1) ∙ at-if1 .if1 .taken) (omega arith) (VR 0) 1 (λ side. refl) (omega arith)),
         omega arith,
       );
       turned = (first-turned (q .0) noted, omega arith, omega arith);
@@ -61,11 +65,15 @@ same-length-2 c = search needs
 
 returns-2 : tie.Need-returns-2
 returns-2 c =
-    let q = c .before .before .before .before .before .before .before .pre in
-    let one : _≡_ {A = ℕ} (c .before .before .before .before .before .before .before .args .zeros) 1 = omega (arith, q .2, c .before .before .before .before .before .if1 .left) in
+    let at-vertical = c .before .before in
+    let at-bit-of = at-vertical .before in
+    let at-if1 = at-bit-of .before .before in
+    let entry = at-if1 .before .before in
+    let q = entry .pre in
+    let one : _≡_ {A = ℕ} (entry .args .zeros) 1 = omega (arith, q .2, at-if1 .if1 .left) in
     record {
-      took = λ bytes live h k. c .before .before .vertical .ensures .0 bytes (one-read _ _ (c .before .before .before .bit-of .ensures) h k (sym (q .1) ∙ one));
-      turned = c .before .before .vertical .ensures .1;
+      took = λ bytes live h k. at-vertical .vertical .ensures .0 bytes (one-read _ _ (at-bit-of .bit-of .ensures) h k (sym (q .1) ∙ one));
+      turned = at-vertical .vertical .ensures .1;
     }
 
 pub to-b1-spec : {M : Type 1} → statement M

@@ -1,7 +1,7 @@
 -- Pass mode is one code to b2.
 use native.Mathlib.Omega.{arith}
 use borrow.Author.Needs.{needs}
-use Rattle.swift_loops.proofs.Swiftly.{ready-note, after-length, asks-place, pass-walked}
+use Rattle.swift_loops.proofs.Swiftly.{noted-part, ready-part, after-length, asks-place, pass-walked}
 use Rattle.swift_loops.proofs.fast_2d.to_b2.Statement.{statement}
 use Rattle.swift_loops.proofs.fast_2d.to_b2.Tie as tie
 
@@ -18,10 +18,12 @@ part-note-end : tie.Need-part-note-end
 part-note-end c = search needs
 
 note-requires : tie.Need-note-requires
-note-requires c κs = ready-note (c .before .before .pre .ready)
+note-requires c κs = ready-part (c .before .before .pre .ready)
 
 mul-change-or : tie.Need-mul-change-or
-mul-change-or c = omega (arith, c .before .before .before .before .before .good .0 .1, c .before .before .before .before .before .pre .ready .placed)
+mul-change-or c =
+    let entry = c .before .before .before .before .before in
+    omega (arith, entry .good .0 .1, entry .pre .ready .placed)
 
 sub-change-or : tie.Need-sub-change-or
 sub-change-or c = omega (arith, c .before .before .before .before .before .pre .ready .placed)
@@ -30,7 +32,14 @@ part-change-or-start : tie.Need-part-change-or-start
 part-change-or-start c = omega (arith, c .before .before .before .before .before .before .pre .ready .placed)
 
 part-change-or-end : tie.Need-part-change-or-end
-part-change-or-end c = omega (arith, c .before .before .before .before .before .before .pre .ready .placed, after-length (c .before .before .before .before .before .before .pre .ready) (c .before .before .before .note .ensures))
+part-change-or-end c =
+    let at-note = c .before .before .before in
+    let entry = at-note .before .before .before in
+    omega (
+      arith,
+      entry .pre .ready .placed,
+      after-length (entry .pre .ready) (noted-part (entry .pre .ready .placed .1) (at-note .note .ensures)),
+    )
 
 add-change-or : tie.Need-add-change-or
 add-change-or c = omega (arith, asks-place (c .before .before .before .before .before .before .before .before .pre))
@@ -45,10 +54,18 @@ add-t17 : tie.Need-add-t17
 add-t17 c = omega (arith, asks-place (c .before .before .before .before .before .before .before .before .before .before .before .pre))
 
 same-length : tie.Need-same-length
-same-length c = after-length (c .before .before .before .before .before .before .before .before .before .before .before .pre .ready) (c .before .before .before .before .before .before .before .before .note .ensures)
+same-length c =
+    let at-note = c .before .before .before .before .before .before .before .before in
+    let entry = at-note .before .before .before in
+    after-length (entry .pre .ready) (noted-part (entry .pre .ready .placed .1) (at-note .note .ensures))
 
 returns : tie.Need-returns
-returns c = λ bytes read. (pass-walked (c .before .before .before .before .before .before .before .before .before .before .before .pre .ready) (c .before .before .before .before .before .before .before .before .note .ensures) bytes _ (c .before .before .change-or .ensures) read, omega arith)
+returns c =
+    let at-change-or = c .before .before in
+    let at-note = at-change-or .before .before .before .before .before .before in
+    let entry = at-note .before .before .before in
+    let noted = noted-part (entry .pre .ready .placed .1) (at-note .note .ensures) in
+    λ bytes read. (pass-walked (entry .pre .ready) noted bytes _ (at-change-or .change-or .ensures) read, omega arith)
 
 pub to-b2-spec : {M : Type 1} → statement M
 to-b2-spec =

@@ -1,12 +1,14 @@
 -- The invariant is `Along`, which a one takes a code further. The measure is what is left of the reference.
 use Prim.Native.Nat.{_-_}
+use mathlib.Core.List.{[]}
 use native.Mathlib.Omega.{arith}
-use Rattle.swift_loops.proofs.StraightLoop.{Along, along-new, along-went, along-low, along-index, along-next, along-on}
+use Rattle.context.specs.declared.reference.Reference.the-variants.{Kept}
+use Rattle.swift_loops.proofs.StraightLoop.{Along, along-new, along-went, along-low, kept-inside, kept-index, kept-next, kept-on}
 use Rattle.swift_loops.proofs.fast_2d.to_each.Statement.{statement}
 use Rattle.swift_loops.proofs.fast_2d.to_each.Tie as tie
 
 abbrev Inv-loop : tie.InvT-loop
-Inv-loop changes₀ start base width ones end s₀ rest₀ changes s rest = Along changes₀ start base width s₀ rest₀ changes s rest
+Inv-loop changes₀ start base width ones end s₀ rest₀ changes s rest = Along (Kept start) [] changes₀ base width s₀ rest₀ changes s rest
 
 abbrev μ-loop : tie.MeasureT-loop
 μ-loop changes₀ start base width ones end s₀ rest₀ changes s rest = base - start - s .place
@@ -29,8 +31,8 @@ add-last c =
     let start = head .before in
     omega (
       arith,
-      along-index (start .pre .0) (head .loop .inv) (omega (arith, c .before .if1 .left)),
-      start .pre .0 .long,
+      start .good .0 .1,
+      kept-index (start .pre .0) (head .loop .inv) (omega (arith, c .before .if1 .left)),
       head .loop .inv .size,
     )
 
@@ -40,8 +42,8 @@ mul-changes c =
     let start = head .before in
     omega (
       arith,
-      along-index (start .pre .0) (head .loop .inv) (omega (arith, c .before .if1 .left)),
-      start .pre .0 .long,
+      start .good .0 .1,
+      kept-index (start .pre .0) (head .loop .inv) (omega (arith, c .before .if1 .left)),
       head .loop .inv .size,
     )
 
@@ -49,31 +51,35 @@ slice-write-changes : tie.Need-slice-write-changes Inv-loop μ-loop
 slice-write-changes c =
     let head = c .before .before .before in
     let start = head .before in
-    along-index (start .pre .0) (head .loop .inv) (omega (arith, c .before .if1 .left))
+    kept-index (start .pre .0) (head .loop .inv) (omega (arith, c .before .if1 .left))
 
 add-next : tie.Need-add-next Inv-loop μ-loop
 add-next c =
     let start = c .before .before .before .before in
-    omega (arith, start .pre .0 .placed, start .pre .0 .long, c .before .if1 .left)
+    omega (arith, start .pre .0 .placed, start .good .0 .1, c .before .if1 .left)
 
 mul-b1 : tie.Need-mul-b1 Inv-loop μ-loop
 mul-b1 c =
     let start = c .before .before .before .before in
-    omega (arith, start .pre .0 .placed, start .pre .0 .long, c .before .if1 .left)
+    omega (arith, start .pre .0 .placed, start .good .0 .1, c .before .if1 .left)
 
 slice-read-b1 : tie.Need-slice-read-b1 Inv-loop μ-loop
 slice-read-b1 c =
     let test = c .before .before in
     let head = test .before .before in
     let start = head .before in
-    along-next (start .pre .0) (head .loop .inv) (omega (arith, test .if1 .left)) _
+    kept-next (start .pre .0) (head .loop .inv) (omega (arith, test .if1 .left)) _
 
 add-t17 : tie.Need-add-t17 Inv-loop μ-loop
 add-t17 c =
+    let at-before = c .before .before in
+    let test = at-before .before in
+    let head = test .before .before in
+    let start = head .before in
     omega (
       arith,
-      along-low (c .before .before .before .before .before .before .pre .0) (c .before .before .before .before .before .loop .inv)
-          (omega (arith, c .before .before .before .if1 .left)) (c .before .before .before .before .before .before .pre .1),
+      along-low (start .pre .0) (head .loop .inv) (kept-inside (start .pre .0) (head .loop .inv) (omega (arith, test .if1 .left)))
+          (start .pre .1),
     )
 
 add-t21 : tie.Need-add-t21 Inv-loop μ-loop
@@ -83,8 +89,8 @@ add-t21 c =
     let start = head .before in
     omega (
       arith,
-      along-index (start .pre .0) (head .loop .inv) (omega (arith, test .if1 .left)),
-      start .pre .0 .long,
+      start .good .0 .1,
+      kept-index (start .pre .0) (head .loop .inv) (omega (arith, test .if1 .left)),
       head .loop .inv .size,
     )
 
@@ -92,7 +98,7 @@ add-t22 : tie.Need-add-t22 Inv-loop μ-loop
 add-t22 c =
     let test = c .before .before .before .before in
     let start = test .before .before .before in
-    omega (arith, start .pre .0 .placed, start .pre .0 .long, test .if1 .left)
+    omega (arith, start .pre .0 .placed, start .good .0 .1, test .if1 .left)
 
 loop-less : tie.Need-loop-less Inv-loop μ-loop
 loop-less c = omega (arith, c .before .before .before .before .if1 .left)
@@ -103,7 +109,7 @@ loop-again c =
     let k5 = test .before in
     let head = k5 .before in
     let start = head .before in
-    along-on (start .pre .0) (head .loop .inv) (omega (arith, test .if1 .left)) (k5 .loop-test .taken)
+    kept-on (start .pre .0) (head .loop .inv) (omega (arith, test .if1 .left)) (k5 .loop-test .taken)
 
 same-length-2 : tie.Need-same-length-2 Inv-loop μ-loop
 same-length-2 c = c .before .loop .inv .size

@@ -3,7 +3,7 @@ use mathlib.Core.Path.{refl}
 use native.Mathlib.Omega.{arith}
 use borrow.Author.Needs.{needs}
 use Rattle.swift_loops.proofs.Beside.{side-turned}
-use Rattle.swift_loops.proofs.Swiftly.{ready-note, after-length, side-turning, side-walked}
+use Rattle.swift_loops.proofs.Swiftly.{noted-part, ready-part, after-length, side-turning, side-walked}
 use Rattle.swift_loops.proofs.fast_2d.vertical.Statement.{statement}
 use Rattle.swift_loops.proofs.fast_2d.vertical.Tie as tie
 
@@ -44,10 +44,12 @@ part-note-end : tie.Need-part-note-end
 part-note-end c = search needs
 
 note-requires : tie.Need-note-requires
-note-requires c κs = ready-note (c .before .before .before .before .before .pre .asks .ready)
+note-requires c κs = ready-part (c .before .before .before .before .before .pre .asks .ready)
 
 mul-behind : tie.Need-mul-behind
-mul-behind c = omega (arith, c .before .before .before .before .before .before .before .before .good .0 .1, c .before .before .before .before .before .before .before .before .pre .asks .ready .placed)
+mul-behind c =
+    let entry = c .before .before .before .before .before .before .before .before in
+    omega (arith, entry .good .0 .1, entry .pre .asks .ready .placed)
 
 sub-behind : tie.Need-sub-behind
 sub-behind c = omega (arith, c .before .before .before .before .before .before .before .before .pre .asks .ready .placed)
@@ -56,23 +58,41 @@ part-behind-start : tie.Need-part-behind-start
 part-behind-start c = omega (arith, c .before .before .before .before .before .before .before .before .before .pre .asks .ready .placed)
 
 part-behind-end : tie.Need-part-behind-end
-part-behind-end c = omega (arith, c .before .before .before .before .before .before .before .before .before .pre .asks .ready .placed, after-length (c .before .before .before .before .before .before .before .before .before .pre .asks .ready) (c .before .before .before .note .ensures))
+part-behind-end c =
+    let at-note = c .before .before .before in
+    let entry = at-note .before .before .before .before .before .before in
+    omega (
+      arith,
+      entry .pre .asks .ready .placed,
+      after-length (entry .pre .asks .ready) (noted-part (entry .pre .asks .ready .placed .1) (at-note .note .ensures)),
+    )
 
 behind-requires : tie.Need-behind-requires
-behind-requires c κs = side-turning (c .before .before .before .before .before .before .before .before .before .before .pre) (c .before .before .before .before .before .before .before .if1 .left) (c .before .before .before .before .before .before .if2 .left) (c .before .before .before .before .note .ensures)
+behind-requires c κs =
+    let at-note = c .before .before .before .before in
+    let at-if2 = at-note .before .before in
+    let at-if1 = at-if2 .before in
+    let entry = at-if1 .before .before .before in
+    side-turning (entry .pre) (at-if1 .if1 .left) (at-if2 .if2 .left)
+    (noted-part (entry .pre .asks .ready .placed .1) (at-note .note .ensures))
 
 add-t15 : tie.Need-add-t15
-add-t15 c = omega (arith, c .before .before .before .before .before .before .before .before .before .before .before .before .pre .asks .low, c .before .before .before .before .before .before .before .before .before .before .before .before .pre .short)
+add-t15 c =
+    let entry = c .before .before .before .before .before .before .before .before .before .before .before .before in
+    omega (arith, entry .pre .asks .low, entry .pre .short)
 
 same-length : tie.Need-same-length
-same-length c = after-length (c .before .before .before .before .before .before .before .before .before .before .before .before .pre .asks .ready) (c .before .before .before .before .before .before .note .ensures)
+same-length c =
+    let at-note = c .before .before .before .before .before .before in
+    let entry = at-note .before .before .before .before .before .before in
+    after-length (entry .pre .asks .ready) (noted-part (entry .pre .asks .ready .placed .1) (at-note .note .ensures))
 
 returns-3 : tie.Need-returns-3
 returns-3 c =
     let s = c .before .before .before .before .before .before .before .before .before .before .before .before in
     let far = c .before .before .before .before .before .before .before .before .before .if1 .left in
     let within = c .before .before .before .before .before .before .before .before .if2 .left in
-    let noted = c .before .before .before .before .before .before .note .ensures in
+    let noted = noted-part (s .pre .asks .ready .placed .1) (c .before .before .before .before .before .before .note .ensures) in
     let reached = c .before .behind .ensures in (
       λ bytes read. (side-walked (s .pre) far within noted _ reached bytes read, omega (arith, s .pre .some-bits)),
       side-turned (s .pre) far within noted _ reached,
