@@ -1,5 +1,6 @@
 // A 2D line: what one mode code does, given b1 and b2, and codes to the width.
 use crate::fast_2d;
+use crate::lent_2d;
 use crate::line_1d;
 use codes::mode;
 use codes::mode::Mode;
@@ -15,10 +16,8 @@ use context::step;
 use context::step::Rules;
 use context::step::Step;
 ghost use mathlib.Core.Path.{_≡_};
-ghost use mathlib.Core.Bool.{cond};
 ghost use Prim.Native.Nat.{_≤_};
 ghost use Rattle.tables.specs.Tables.{colourOf};
-ghost use Rattle.context.specs.declared.reference.Reference.the-variants.{Lent};
 ghost use Rattle.context.specs.Outcome.{Reads};
 ghost use Rattle.context.specs.Reference.{Finds};
 ghost use Rattle.context.specs.Coding.{Coloured, afterPush, unmovedFor, unlessIdleFor, TwoRuns};
@@ -189,18 +188,8 @@ fn line_by_codes(
     Step::On(line, at)
 }
 
-// Where the reference lies, for swift codes: by the plain engine (A14) it is as if it were lent.
-fn swiftly(place: Reference, plain: bool) -> Reference
-    ensures { λ r. ⌜ r ≡ cond plain Lent place ⌝ }
-{
-    if plain {
-        return Reference::Lent;
-    }
-    place
-}
-
-// A line whose changes go into `changes` from `base` on. Where the reference is lent no code is swift, and no table is asked for.
-// Each loop has one call alone, so that its answer is made where the caller wants it.
+// A line whose changes go into `changes` from `base` on. By the plain engine (A14) no code is swift; where the reference is lent no table
+// is asked for. Each loop has one call alone, so that its answer is made where the caller wants it.
 pub fn decode_2d_line<'a>(
     white: &'a [u16],
     black: &'a [u16],
@@ -216,12 +205,15 @@ pub fn decode_2d_line<'a>(
     requires { ⌜ Lines (now src) (now reference) (now changes) base place width start × TabledFor place (now white) (now black) ⌝ }
     ensures { λ r. ⌜ Lined (now (src .entry)) (now (reference .entry)) (now (changes .entry)) base place width start rules r (now (changes .exit)) ⌝ }
 {
-    match swiftly(place, rules.plain) {
+    if rules.plain {
+        return line_by_codes(src, reference, changes, base, place, width, start, rules);
+    }
+    match place {
         Reference::Kept(first) => {
             fast_2d::kept_line(white, black, src, changes, first, base, width, start, rules)
         }
         Reference::Lent => {
-            line_by_codes(src, reference, changes, base, place, width, start, rules)
+            lent_2d::lent_line(src, reference, changes, base, width, start, rules)
         }
     }
 }
