@@ -1,12 +1,13 @@
 -- A row behind one EOL that was expected. Assumes nothing.
-use mathlib.Core.Path.{_≡_, refl, sym, ap, _∙_}
+use mathlib.Core.Path.{_≡_, refl, sym, ap, _∙_, subst}
 use mathlib.Core.Bool.{Bool, true, false, not, _&&_}
-use mathlib.Core.List.{List}
+use mathlib.Core.List.{List, _++_}
 use Prim.Native.Nat.{ℕ, zero, suc, _+_, _-_, _*_, _/_, _%_, _^_, _≤_, _<_}
 use native.Mathlib.Omega.{arith}
 use lib.Dec.{eqb, leb}
-use lib.ListN.{length, drop}
+use lib.ListN.{length, take, drop, length-drop, take-append-drop}
 use lib.Seq.{drop-drop}
+use borrow.Rule.Slice.PartMut.{midOf, putMid}
 use borrow.Author.Tests.{not-true, eqb-true, eqb-false, lt-leb}
 use Rattle.rules.specs.Bits.{bitsOf, firstBit, peek}
 use Rattle.rules.specs.Eols.{eolsTo, allEols}
@@ -26,11 +27,20 @@ use Rattle.settings.specs.Between.{stateOf, RowFrom, RowGives}
 use Rattle.group3.specs.declared.eob.Before.the-variants.{Line}
 use Rattle.group3.specs.Tags.{isTagged}
 use Rattle.group3.specs.Ahead.{alignedFrom, singleAt, usual, beforeOf, beforeIn}
-use Rattle.group3.specs.Lined.{LineFrom, lineIn}
+use Rattle.context.proofs.RowPart.{row-lent, row-back}
+use Rattle.swift_loops.specs.declared.fast_1d.BeforePair.{BeforePair}
+use Rattle.swift_loops.specs.declared.fast_1d.AfterPair.{AfterPair}
+use Rattle.swift_loops.specs.declared.fast_1d.AfterPair.the-variants.{On, Other}
+use Rattle.swift_loops.specs.Pairs.{haltLine, paceOf, Filled}
+use Rattle.swift_loops.proofs.Running.{ran-done}
+use Rattle.settings.specs.declared.Row.the-variants.{Kept}
+use Rattle.group3.specs.declared.line.LineKind.the-variants.{One}
+use Rattle.group3.specs.Lined.{linesBy, LineFrom, lineIn, WhiteAt}
 use Rattle.group3.specs.Recovery.{afterLineIn}
 use Rattle.group3.proofs.TagBits.{Joined, all-read, joined-first, joined-done, joined-line, eols-untagged, eols-tagged}
 use Rattle.group3.proofs.Judging.{unaligned, lacks-none, judged-on, before-judged}
-use Rattle.group3.proofs.Outcomes.{row-line, row-gives}
+use Rattle.group3.proofs.Starts.{kind-untagged, line-one}
+use Rattle.group3.proofs.Outcomes.{line-read, row-line, row-gives}
 
 -- ---- One EOL, in 32 bits
 
@@ -101,6 +111,13 @@ module _ {bytes : List ℕ} {at : ℕ} (h : Loading bytes at) (single : singleAt
       cases false q = eols-untagged bs at t (eolsOf here) single-eol q
       cases true q = eols-tagged bs at t (eolsOf here) single-eol q (λ z. omega arith) (eolsOf here) single-tagged
 
+-- ---- A white line
+
+pub white-seen : (bytes : List ℕ) (settings : DecodeSettings) (room at : ℕ) → isTagged (taggingOf (settings .encoding)) ≡ false
+    → (r : AfterPair) → Filled bytes room (settings .columns) at r → WhiteAt bytes settings room at r
+white-seen bytes settings room at q (On v) f = (q, f)
+white-seen bytes settings room at q Other f = tt
+
 -- ---- The row behind it
 
 module _ {bytes lent xs : List ℕ} {settings : DecodeSettings} {st : State} (h : RowFrom bytes lent xs settings st) (seen : usual settings bytes st ≡ true) where
@@ -152,3 +169,18 @@ module _ {bytes lent xs : List ℕ} {settings : DecodeSettings} {st : State} (h 
   pub row-seen : (r : Row) (ys : List ℕ) → RowGives (st .base) xs (afterLineIn settings bytes lent xs st (st .at + 12) (st .eols) (lineIn settings bytes lent xs st (st .at + 12))) r ys
       → RowGives (st .base) xs (row3 S t (bitsOf bytes) (length xs - st .base) (stateOf lent xs st)) r ys
   row-seen r ys g = row-gives h (Line (st .at + 12) (st .eols)) before-is (st .at + 12) (st .eols) refl r ys g
+
+  -- a white line, which its first run fills; the store stays
+  pub row-white : (v : BeforePair) → isTagged t ≡ false → Filled bytes (length xs - st .base) (settings .columns) (st .at + 12) (On v)
+      → RowGives (st .base) xs (row3 S t (bitsOf bytes) (length xs - st .base) (stateOf lent xs st)) (Kept (v .count) 0 (v .at) (st .eols)) xs
+  row-white v q f =
+      let part = midOf (st .base) (length xs - st .base) xs in
+      let long : length part ≡ length xs - st .base = ap length (row-lent xs (st .base)) ∙ length-drop (st .base) xs in
+      let ran = f .1 part long in
+      let step = ran-done bytes part (settings .columns) (st .at + 12) (linesBy settings) (h .narrow) ran (f .0) in
+      let kind = kind-untagged (line-seen .loading) t q in
+      let back : putMid (st .base) (length xs - st .base) xs part ≡ xs =
+      row-back xs (st .base) (h .held) part ∙ ap (λ (l : List ℕ). take (st .base) xs ++ l) (row-lent xs (st .base)) ∙ take-append-drop (st .base) xs in
+      let lined = line-one line-seen (One (st .at + 12)) kind (st .at + 12) refl _ part step in
+      row-seen _ xs (subst (λ (ys : List ℕ). RowGives (st .base) xs (afterLineIn settings bytes lent xs st (st .at + 12) (st .eols) (lineIn settings bytes lent xs st (st .at + 12))) (Kept (v .count) 0 (v .at) (st .eols)) ys) back
+      (line-read line-seen (st .eols) _ _ lined (haltLine (settings .columns) (paceOf v)) (v .at) refl))

@@ -1,6 +1,6 @@
 -- The line of a row: where it begins, and what reading it asks and gives.
 use mathlib.Core.Path.{_≡_}
-use mathlib.Core.Bool.{Bool}
+use mathlib.Core.Bool.{Bool, false}
 use mathlib.Core.List.{List}
 use Prim.Native.Nat.{ℕ, _-_}
 use lib.ListN.{length}
@@ -10,12 +10,16 @@ use Rattle.rules.specs.Rows.{Settings, rulesOf}
 use Rattle.rules.specs.Group3.{Tagging, line3}
 use Rattle.bit_reader.specs.Loaded.{Loading}
 use Rattle.context.specs.declared.step.Rules as Line
+use Rattle.swift_loops.specs.declared.fast_1d.AfterPair.{AfterPair}
+use Rattle.swift_loops.specs.declared.fast_1d.AfterPair.the-variants.{On, Other}
+use Rattle.swift_loops.specs.Pairs.{Filled}
 use Rattle.settings.specs.declared.DecodeSettings.{DecodeSettings}
 use Rattle.settings.specs.declared.State.{State}
 use Rattle.settings.specs.Settings.{settingsOf, taggingOf}
 use Rattle.settings.specs.Between.{stateOf, RowFrom}
 use Rattle.group3.specs.declared.line.LineKind.{LineKind}
 use Rattle.group3.specs.declared.line.LineKind.the-variants.{One, Two, NoTag}
+use Rattle.group3.specs.Tags.{isTagged}
 
 -- how the lines of a page are read
 abbrev pub linesBy : DecodeSettings → Line.Rules
@@ -46,3 +50,8 @@ pub record LineFrom (bytes lent xs : List ℕ) (s : DecodeSettings) (st : State)
 abbrev pub lineIn : DecodeSettings → List ℕ → List ℕ → List ℕ → State → ℕ → Went
 lineIn s bytes lent xs st at =
     line3 (settingsOf s) (taggingOf (s .encoding)) (bitsOf bytes) (rulesOf (settingsOf s) (length xs - st .base)) (stateOf lent xs st .reference) at (taggingOf (s .encoding))
+
+-- a line without a tag bit that its first run fills, so that its row is white
+abbrev pub WhiteAt : List ℕ → DecodeSettings → ℕ → ℕ → AfterPair → Type 0
+WhiteAt bytes s room at (On t) = (isTagged (taggingOf (s .encoding)) ≡ false) × Filled bytes room (s .columns) at (On t)
+WhiteAt bytes s room at Other = Unit {0}

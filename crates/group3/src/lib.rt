@@ -5,19 +5,28 @@ mod line;
 mod recover;
 
 use crate::eob::Before;
+use context::reference;
+use context::reference::Reference;
 use context::step::Step;
 use settings::DecodeSettings;
 use settings::Row;
 use settings::State;
+use swift_loops::fast_1d;
+use swift_loops::fast_1d::AfterPair;
 ghost use mathlib.Core.Path.{_≡_};
+ghost use mathlib.Core.Bool.{true, false};
 ghost use Prim.Native.Nat.{_-_};
 ghost use lib.ListN.{length};
 ghost use Rattle.rules.specs.Bits.{bitsOf};
+ghost use Rattle.rules.specs.Codes as Colour;
 ghost use Rattle.rules.specs.Group3.{row3};
-ghost use Rattle.context.specs.Coding.{PairedFor};
+ghost use Rattle.rules.specs.Lookup.{lookupTable};
+ghost use Rattle.bit_reader.specs.Loaded.{Loading};
+ghost use Rattle.context.specs.Coding.{isKept, PairedFor};
 ghost use Rattle.settings.specs.Settings.{settingsOf, taggingOf};
 ghost use Rattle.settings.specs.Between.{stateOf, RowFrom, RowGives};
-ghost use Rattle.group3.specs.Lined.{LineFrom, lineIn};
+ghost use Rattle.group3.specs.Tags.{isTagged};
+ghost use Rattle.group3.specs.Lined.{LineFrom, lineIn, WhiteAt};
 ghost use Rattle.group3.specs.Recovery.{afterLineIn};
 
 // A row whose line begins at a bit.
@@ -95,6 +104,48 @@ fn any_row<'a>(
     row(white, black, both, src, settings, lent, changes, state)
 }
 
+// Whether the row before it is white, and lines have no tag bits: then a white row is looked for first.
+fn follows_white(settings: DecodeSettings, lent: &[u32], state: State) -> bool
+    ensures { λ r. ⌜ (r ≡ true → isTagged (taggingOf (settings .encoding)) ≡ false) ⌝ }
+{
+    if eols::is_tagged(settings) {
+        return false;
+    }
+    let place = state.reference;
+    match place {
+        Reference::Lent => lent.len() == 0,
+        Reference::Kept(start) => start == state.base,
+    }
+}
+
+// A white line at a bit, behind a white row, seen at once.
+fn white_line(
+    white: &[u16],
+    src: &[u8],
+    settings: DecodeSettings,
+    lent: &[u32],
+    state: State,
+    at: usize,
+    room: usize,
+) -> AfterPair
+    requires { ⌜ Loading (now src) at × (isKept (state .reference) ≡ true → now white ≡ lookupTable Colour.white) ⌝ }
+    ensures { λ r. ⌜ WhiteAt (now (src .entry)) settings room at r ⌝ }
+{
+    if !follows_white(settings, lent, state) {
+        return AfterPair::Other;
+    }
+    let place = state.reference;
+    fast_1d::whole_run(
+        reference::is_kept(place),
+        white,
+        src,
+        settings.columns,
+        at,
+        room,
+        settings.plain,
+    )
+}
+
 // The same row, with what is usual first. The page loop alone calls it, so that it is compiled in place there.
 pub fn swift_row<'a>(
     white: &'a [u16],
@@ -112,18 +163,25 @@ pub fn swift_row<'a>(
     if !eob::is_usual(src, settings, state) {
         return any_row(white, black, both, src, settings, lent, changes, state);
     }
-    row_at(
-        white,
-        black,
-        both,
-        src,
-        settings,
-        lent,
-        changes,
-        state,
-        state.at + 12,
-        state.eols,
-    )
+    let start = state.at + 12;
+    let room = changes.len() - state.base;
+    match white_line(white, src, settings, lent, state, start, room) {
+        AfterPair::On(line) => Row::Kept(line.count, 0, line.at, state.eols),
+        AfterPair::Other => {
+            row_at(
+                white,
+                black,
+                both,
+                src,
+                settings,
+                lent,
+                changes,
+                state,
+                start,
+                state.eols,
+            )
+        }
+    }
 }
 
 // The same for a row by itself: a function of its own, so that `swift_row` keeps its one caller.
@@ -143,16 +201,23 @@ pub fn lone_row<'a>(
     if !eob::is_usual(src, settings, state) {
         return row(white, black, both, src, settings, lent, changes, state);
     }
-    row_at(
-        white,
-        black,
-        both,
-        src,
-        settings,
-        lent,
-        changes,
-        state,
-        state.at + 12,
-        state.eols,
-    )
+    let start = state.at + 12;
+    let room = changes.len() - state.base;
+    match white_line(white, src, settings, lent, state, start, room) {
+        AfterPair::On(line) => Row::Kept(line.count, 0, line.at, state.eols),
+        AfterPair::Other => {
+            row_at(
+                white,
+                black,
+                both,
+                src,
+                settings,
+                lent,
+                changes,
+                state,
+                start,
+                state.eols,
+            )
+        }
+    }
 }

@@ -1,16 +1,21 @@
 // Calls of the public functions of swift_loops, each with the contract that its promises are about.
 use context::line::Line;
+use swift_loops::fast_1d::AfterPair;
 use swift_loops::fast_1d::BetweenRuns;
 use swift_loops::fast_2d::BetweenCodes;
 ghost use mathlib.Core.Path.{_≡_};
+ghost use mathlib.Core.Bool.{true};
 ghost use mathlib.Core.List.{[]};
 ghost use Prim.Native.Nat.{_+_};
 ghost use lib.ListN.{length};
 ghost use Rattle.rules.specs.Bits.{bitsOf};
+ghost use Rattle.rules.specs.Codes as Colour;
+ghost use Rattle.rules.specs.Lookup.{lookupTable};
 ghost use Rattle.tables.specs.Tables.{Lookups};
+ghost use Rattle.bit_reader.specs.Loaded.{Loading};
 ghost use Rattle.context.specs.declared.reference.Reference.the-variants.{Kept};
 ghost use Rattle.context.specs.Places.{Onward, Reached, Turning};
-ghost use Rattle.swift_loops.specs.Pairs.{haltLine, startAt, Ran, Pairing};
+ghost use Rattle.swift_loops.specs.Pairs.{haltLine, startAt, Ran, Filled, Pairing};
 ghost use Rattle.swift_loops.specs.Swift.{Walks, WalkedIn};
 
 pub fn line_of(width: u32, s: BetweenRuns) -> Line
@@ -34,6 +39,21 @@ pub fn pairs<'a>(
     ensures { λ r. ⌜ Ran (bitsOf (now (src .entry))) (length (now (row .entry))) width (now (row .entry)) (startAt at) (now (row .exit)) r ⌝ }
 {
     swift_loops::fast_1d::pairs(lent, white, black, both, src, row, width, at, plain)
+}
+
+pub fn whole_run(
+    lent: bool,
+    white: &[u16],
+    src: &[u8],
+    width: u32,
+    at: usize,
+    room: usize,
+    plain: bool,
+) -> AfterPair
+    requires { ⌜ Loading (now src) at × (lent ≡ true → now white ≡ lookupTable Colour.white) ⌝ }
+    ensures { λ r. ⌜ Filled (now (src .entry)) room width at r ⌝ }
+{
+    swift_loops::fast_1d::whole_run(lent, white, src, width, at, room, plain)
 }
 
 pub fn swift_codes<'a>(

@@ -155,6 +155,12 @@ Begins width at bits r =
 abbrev pub Fit : ℕ → ℕ → ℕ → ℕ → Bool → Type 0
 Fit room width len at r = r ≡ true → (0 < width) × (width ≤ room) × (at + 64 ≤ 8 * len)
 
+-- a line that its first run fills, whatever row there is so much room in
+abbrev pub Filled : List ℕ → ℕ → ℕ → ℕ → AfterPair → Type 0
+Filled bytes room width at (On t) =
+    (t .position ≡ width) × ((xs : List ℕ) → length xs ≡ room → Ran (bitsOf bytes) (length xs) width xs (startAt at) xs (paceOf t))
+Filled bytes room width at Other = Unit {0}
+
 -- the tables, where they are lent
 abbrev pub Tabled : Bool → List ℕ → List ℕ → List ℕ → Type 0
 Tabled lent w b both = lent ≡ true → Lookups w b × (both ≡ pairTable)

@@ -15,8 +15,9 @@ ghost use Rattle.rules.specs.Codes as Colour;
 ghost use Rattle.rules.specs.Lookup.{lookupTable};
 ghost use Rattle.tables.specs.Pairs.{pairTable};
 ghost use Rattle.tables.specs.Tables.{Lookups};
+ghost use Rattle.bit_reader.specs.Loaded.{Loading};
 ghost use Rattle.swift_loops.specs.Pairs.{haltLine, startAt, paceOf, entryPair, bothOf, Paired, Leaping, Leapt, Putting};
-ghost use Rattle.swift_loops.specs.Pairs.{Puts, Stepping, PacedTo, Pacing, Ran, Beginning, Begins, Fit, Tabled, Pairing};
+ghost use Rattle.swift_loops.specs.Pairs.{Puts, Stepping, PacedTo, Pacing, Ran, Beginning, Begins, Fit, Filled, Tabled, Pairing};
 
 // The colours of two runs, as the tables are asked for them.
 pub(crate) const WHITE: usize = 0;
@@ -250,6 +251,33 @@ fn fit(plain: bool, room: usize, width: u32, len: usize, at: usize) -> bool
         return false;
     }
     at <= 8 * len - 64
+}
+
+// A line that its first run fills, seen at once: a white one. It is looked for behind a white row.
+pub fn whole_run(
+    lent: bool,
+    white: &[u16],
+    src: &[u8],
+    width: u32,
+    at: usize,
+    room: usize,
+    plain: bool,
+) -> AfterPair
+    requires { ⌜ Loading (now src) at × (lent ≡ true → now white ≡ lookupTable Colour.white) ⌝ }
+    ensures { λ r. ⌜ Filled (now (src .entry)) room width at r ⌝ }
+{
+    if !fit(plain, room, width, src.len(), at) {
+        return AfterPair::Other;
+    }
+    match begun(lent, white, width, at, bit_reader::ahead(src, at)) {
+        AfterPair::Other => AfterPair::Other,
+        AfterPair::On(t) => {
+            if t.position != width {
+                return AfterPair::Other;
+            }
+            AfterPair::On(t)
+        }
+    }
 }
 
 fn halted(s: BeforePair) -> BetweenRuns
