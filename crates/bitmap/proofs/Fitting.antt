@@ -1,0 +1,107 @@
+-- The tests of the bytes, one after the other, and the answers that they decide. Assumes nothing.
+use mathlib.Core.Path.{_≡_, refl, sym, ap, _∙_}
+use mathlib.Core.Bool.{Bool, true, false, cond, _||_}
+use mathlib.Core.List.{List}
+use mathlib.Core.Logic.{_↔_}
+use Prim.Native.Nat.{ℕ, zero, suc, _+_, _-_, _*_, _/_, _≤_, _<_}
+use native.Mathlib.Omega.{arith}
+use native.Mathlib.Nat.{le-div-iff-mul-le, div-lt-iff-lt-mul}
+use lib.Dec.{eqb, leb, ltb}
+use lib.ListN.{length}
+use borrow.Author.Tests.{eq-eqb, ne-eqb, eqb-true, eqb-false, lt-ltb, le-ltb, le-leb, lt-leb, leb-true, ltb-false}
+use Rattle.rules.specs.Pages.{noLine, entries}
+use Rattle.rules.specs.Rows.{bytesTo}
+use Rattle.rules.specs.Write.{rowsIn}
+use Rattle.row_store.specs.Store.{goodRows}
+use Rattle.answer.specs.declared.Answer.{Answer}
+use Rattle.bitmap.specs.Packed.{fitTests, reach, Painted, unpainted, paint, paintedFrom}
+use Rattle.bitmap.specs.Steps.{Sheets, Paints, answerFor}
+
+-- ---- Rows in bytes
+
+-- one row or more, by a quotient
+pub reach-some : (width stride rows : ℕ) → (rows ≡ 0 → ⊥) → reach width stride rows ≡ (rows - 1) * stride + bytesTo width
+reach-some width stride zero h = absurd (h refl)
+reach-some width stride (suc rows) h = let e : rows ≡ suc rows - 1 = omega arith in rw (← e) refl
+
+module _ (width stride rows size : ℕ) (some : rows ≡ 0 → ⊥) where
+  pub reach-short : size < bytesTo width → size < reach width stride rows
+  reach-short h = rw (reach-some width stride rows some) (omega arith)
+
+  module _ (pos : 0 < stride) (h : bytesTo width ≤ size) where
+    pub reach-past : (size - bytesTo width) / stride < rows - 1 → size < reach width stride rows
+    reach-past l = rw (reach-some width stride rows some) (let m = div-lt-iff-lt-mul pos .0 l in omega arith)
+
+    pub reach-fits : rows - 1 ≤ (size - bytesTo width) / stride → reach width stride rows ≤ size
+    reach-fits l = rw (reach-some width stride rows some) (let m = le-div-iff-mul-le pos .0 l in omega arith)
+
+-- ---- The tests
+
+module _ (width stride rows size : ℕ) where
+  pub tests-zero : width ≡ 0 → 6 ≡ fitTests width stride rows size
+  tests-zero e = sym (rw (eq-eqb width 0 e))
+
+  module _ (some : width ≡ 0 → ⊥) where
+    pub tests-most : width ≡ 4294967295 → 6 ≡ fitTests width stride rows size
+    tests-most e = sym (rw (ne-eqb width 0 some, eq-eqb width 4294967295 e))
+
+    module _ (few : width ≡ 4294967295 → ⊥) where
+      pub tests-short : stride < bytesTo width → 10 ≡ fitTests width stride rows size
+      tests-short h = sym (rw (ne-eqb width 0 some, ne-eqb width 4294967295 few, lt-ltb stride (bytesTo width) h))
+
+      module _ (wide : bytesTo width ≤ stride) where
+        pub tests-past : size < reach width stride rows → 9 ≡ fitTests width stride rows size
+        tests-past h =
+            sym (rw (ne-eqb width 0 some, ne-eqb width 4294967295 few, le-ltb stride (bytesTo width) wide, lt-leb (reach width stride rows) size h))
+
+        pub tests-passed : reach width stride rows ≤ size → 0 ≡ fitTests width stride rows size
+        tests-passed h =
+            sym (rw (ne-eqb width 0 some, ne-eqb width 4294967295 few, le-ltb stride (bytesTo width) wide, le-leb (reach width stride rows) size h))
+
+-- what passed tests tell
+pub record Fits (width stride rows size : ℕ) : Type 0 where
+  pub some : width ≡ 0 → ⊥
+  pub few : width ≡ 4294967295 → ⊥
+  pub wide : bytesTo width ≤ stride
+  pub room : reach width stride rows ≤ size
+
+pub fits : (width stride rows size : ℕ) → 0 ≡ fitTests width stride rows size → Fits width stride rows size
+fits width stride rows size e =
+    by (eqb width 0) refl (eqb width 4294967295) refl (ltb stride (bytesTo width)) refl (leb (reach width stride rows) size) refl e
+  where
+    by : (a : Bool) → eqb width 0 ≡ a → (b : Bool) → eqb width 4294967295 ≡ b → (c : Bool) → ltb stride (bytesTo width) ≡ c
+        → (d : Bool) → leb (reach width stride rows) size ≡ d → _≡_ {A = ℕ} 0 (cond (a || b) 6 (cond c 10 (cond d 0 9))) → Fits width stride rows size
+    by false a false b false c true d e =
+        record { some = eqb-false width 0 a; few = eqb-false width 4294967295 b; wide = ltb-false stride (bytesTo width) c; room = leb-true (reach width stride rows) size d }
+    by true a b b′ c c′ d d′ e = absurd (omega (arith, e))
+    by false a true b c c′ d d′ e = absurd (omega (arith, e))
+    by false a false b true c d d′ e = absurd (omega (arith, e))
+    by false a false b false c false d e = absurd (omega (arith, e))
+
+-- ---- Painting
+
+module _ (one : Bool) (width stride : ℕ) (changes ends out : List ℕ) where
+  pub paint-refused : {n : ℕ} → n ≡ fitTests width stride (length ends) (length out) → (n ≡ 0 → ⊥) → {r : Answer} → r ≡ answerFor n 0
+      → Paints (paint one width stride changes ends out) r out
+  unfolding paint
+  paint-refused {n} e h a = by n e h a
+    where
+      by : (n : ℕ) → n ≡ fitTests width stride (length ends) (length out) → (n ≡ 0 → ⊥) → {r : Answer} → r ≡ answerFor n 0 → Paints (paint one width stride changes ends out) r out
+      by zero e h a = absurd (h refl)
+      by (suc n) e h a = rw (paint, ← e) (record { answer = a; bytes = refl })
+
+  module _ (e : 0 ≡ fitTests width stride (length ends) (length out)) where
+    pub paint-bad : goodRows width changes 0 ends ≡ false → {r : Answer} → r ≡ answerFor 8 0 → Paints (paint one width stride changes ends out) r out
+    unfolding paint
+    paint-bad g a = rw (paint, ← e, g) (record { answer = a; bytes = refl })
+
+    module _ (g : goodRows width changes 0 ends ≡ true) where
+      pub sheets : width < 4294967296 → Sheets width stride changes ends (length out)
+      sheets l =
+          let f = fits width stride (length ends) (length out) e in
+          record { some = omega (arith, f .some); few = omega (arith, f .few); wide = f .wide; good = g; room = f .room }
+
+      pub paint-done : {r : Answer} {out′ : List ℕ} → r ≡ answerFor 0 (reach width stride (length ends))
+          → out′ ≡ paintedFrom one width stride 0 (rowsIn 0 changes ends) out → Paints (paint one width stride changes ends out) r out′
+      unfolding paint
+      paint-done a b = rw (paint, ← e, g) (record { answer = a; bytes = b })

@@ -1,0 +1,4 @@
+pub mod Packing
+pub mod Colours
+pub mod RowBytes
+pub mod Fitting
