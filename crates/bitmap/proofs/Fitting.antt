@@ -9,7 +9,7 @@ use native.Mathlib.Nat.{le-div-iff-mul-le, div-lt-iff-lt-mul}
 use lib.Dec.{eqb, leb, ltb}
 use lib.ListN.{length}
 use borrow.Author.Tests.{eq-eqb, ne-eqb, eqb-true, eqb-false, lt-ltb, le-ltb, le-leb, lt-leb, leb-true, ltb-false}
-use Rattle.rules.specs.Pages.{noLine, entries}
+use Rattle.rules.specs.Pages.{mostBytes, noLine}
 use Rattle.rules.specs.Rows.{bytesTo}
 use Rattle.rules.specs.Write.{rowsIn}
 use Rattle.row_store.specs.Store.{goodRows}
@@ -46,37 +46,53 @@ module _ (width stride rows size : ℕ) where
     tests-most e = sym (rw (ne-eqb width 0 some, eq-eqb width 4294967295 e))
 
     module _ (few : width ≡ 4294967295 → ⊥) where
-      pub tests-short : stride < bytesTo width → 10 ≡ fitTests width stride rows size
-      tests-short h = sym (rw (ne-eqb width 0 some, ne-eqb width 4294967295 few, lt-ltb stride (bytesTo width) h))
+      pub tests-long : mostBytes < size → 7 ≡ fitTests width stride rows size
+      tests-long h = sym (rw (ne-eqb width 0 some, ne-eqb width 4294967295 few, lt-ltb mostBytes size h))
 
-      module _ (wide : bytesTo width ≤ stride) where
-        pub tests-past : size < reach width stride rows → 9 ≡ fitTests width stride rows size
-        tests-past h =
-            sym (rw (ne-eqb width 0 some, ne-eqb width 4294967295 few, le-ltb stride (bytesTo width) wide, lt-leb (reach width stride rows) size h))
+      module _ (short : size ≤ mostBytes) where
+        -- the first two are passed
+        past-two : fitTests width stride rows size ≡ cond (ltb stride (bytesTo width)) 10 (cond (leb (reach width stride rows) size) 0 9)
+        past-two = rw (ne-eqb width 0 some, ne-eqb width 4294967295 few, le-ltb mostBytes size short)
 
-        pub tests-passed : reach width stride rows ≤ size → 0 ≡ fitTests width stride rows size
-        tests-passed h =
-            sym (rw (ne-eqb width 0 some, ne-eqb width 4294967295 few, le-ltb stride (bytesTo width) wide, le-leb (reach width stride rows) size h))
+        pub tests-short : stride < bytesTo width → 10 ≡ fitTests width stride rows size
+        tests-short h = sym (past-two ∙ rw (lt-ltb stride (bytesTo width) h))
+
+        module _ (wide : bytesTo width ≤ stride) where
+          pub tests-past : size < reach width stride rows → 9 ≡ fitTests width stride rows size
+          tests-past h = sym (past-two ∙ rw (le-ltb stride (bytesTo width) wide, lt-leb (reach width stride rows) size h))
+
+          pub tests-passed : reach width stride rows ≤ size → 0 ≡ fitTests width stride rows size
+          tests-passed h = sym (past-two ∙ rw (le-ltb stride (bytesTo width) wide, le-leb (reach width stride rows) size h))
 
 -- what passed tests tell
 pub record Fits (width stride rows size : ℕ) : Type 0 where
   pub some : width ≡ 0 → ⊥
   pub few : width ≡ 4294967295 → ⊥
+  pub short : size ≤ mostBytes
   pub wide : bytesTo width ≤ stride
   pub room : reach width stride rows ≤ size
 
 pub fits : (width stride rows size : ℕ) → 0 ≡ fitTests width stride rows size → Fits width stride rows size
 fits width stride rows size e =
-    by (eqb width 0) refl (eqb width 4294967295) refl (ltb stride (bytesTo width)) refl (leb (reach width stride rows) size) refl e
+    by (eqb width 0) refl (eqb width 4294967295) refl (ltb mostBytes size) refl (ltb stride (bytesTo width)) refl
+    (leb (reach width stride rows) size) refl e
   where
-    by : (a : Bool) → eqb width 0 ≡ a → (b : Bool) → eqb width 4294967295 ≡ b → (c : Bool) → ltb stride (bytesTo width) ≡ c
-        → (d : Bool) → leb (reach width stride rows) size ≡ d → _≡_ {A = ℕ} 0 (cond (a || b) 6 (cond c 10 (cond d 0 9))) → Fits width stride rows size
-    by false a false b false c true d e =
-        record { some = eqb-false width 0 a; few = eqb-false width 4294967295 b; wide = ltb-false stride (bytesTo width) c; room = leb-true (reach width stride rows) size d }
-    by true a b b′ c c′ d d′ e = absurd (omega (arith, e))
-    by false a true b c c′ d d′ e = absurd (omega (arith, e))
-    by false a false b true c d d′ e = absurd (omega (arith, e))
-    by false a false b false c false d e = absurd (omega (arith, e))
+    by : (a : Bool) → eqb width 0 ≡ a → (b : Bool) → eqb width 4294967295 ≡ b → (s : Bool) → ltb mostBytes size ≡ s
+        → (c : Bool) → ltb stride (bytesTo width) ≡ c → (d : Bool) → leb (reach width stride rows) size ≡ d
+        → _≡_ {A = ℕ} 0 (cond (a || b) 6 (cond s 7 (cond c 10 (cond d 0 9)))) → Fits width stride rows size
+    by false a false b false s false c true d e =
+        record {
+          some = eqb-false width 0 a;
+          few = eqb-false width 4294967295 b;
+          short = ltb-false mostBytes size s;
+          wide = ltb-false stride (bytesTo width) c;
+          room = leb-true (reach width stride rows) size d;
+        }
+    by true a b b′ s s′ c c′ d d′ e = absurd (omega (arith, e))
+    by false a true b s s′ c c′ d d′ e = absurd (omega (arith, e))
+    by false a false b true s c c′ d d′ e = absurd (omega (arith, e))
+    by false a false b false s true c d d′ e = absurd (omega (arith, e))
+    by false a false b false s false c false d e = absurd (omega (arith, e))
 
 -- ---- Painting
 

@@ -5,12 +5,12 @@ use mathlib.Core.List.{List, [], _∷_, _++_}
 use Prim.Native.Nat.{ℕ, zero, suc, _+_, _-_, _*_, _/_, _%_, _^_}
 use lib.Dec.{leb, ltb}
 use lib.ListN.{length, getD, take, drop}
-use Rattle.rules.specs.Answers.{complete, noEntry, noRowEnd, badWidth, badRows, noFit, badNumber}
+use Rattle.rules.specs.Answers.{complete, noEntry, noRowEnd, badWidth, tooLong, badRows, noFit, badNumber}
 use Rattle.rules.specs.Bits.{bit, valueOf}
 use Rattle.rules.specs.Codes.{Colour, white, black}
 use Rattle.rules.specs.Pixels.{Pixels, pixelsOf, changing}
 use Rattle.rules.specs.Rows.{bytesTo}
-use Rattle.rules.specs.Pages.{Answer, refusal, noLine, entries}
+use Rattle.rules.specs.Pages.{Answer, refusal, mostBytes, noLine, entries}
 use Rattle.rules.specs.Write.{rowsIn}
 use Rattle.row_store.specs.Store.{goodRows}
 
@@ -79,11 +79,12 @@ rowsAt one width stride bytes (suc rows) at = turnsFrom (pixelsAt one bytes at) 
 
 -- ---- The answers
 
--- The tests of both: 6 of the width, 10 of a stride that is shorter than a row, 9 where so many rows pass the bytes, in this order; 0
--- where all are passed.
+-- The tests of both: 6 of the width, 7 of the bytes, 10 of a stride that is shorter than a row, 9 where so many rows pass the bytes, in
+-- this order; 0 where all are passed.
 abbrev pub fitTests : ℕ → ℕ → ℕ → ℕ → ℕ
 fitTests width stride rows size =
-    cond (noLine width) badWidth (cond (ltb stride (bytesTo width)) badNumber (cond (leb (reach width stride rows) size) complete noFit))
+    cond (noLine width) badWidth
+    (cond (ltb mostBytes size) tooLong (cond (ltb stride (bytesTo width)) badNumber (cond (leb (reach width stride rows) size) complete noFit)))
 
 -- an answer: its number; where 0, the byte after the last row; and the bytes then
 pub record Painted : Type 0 where
@@ -95,7 +96,7 @@ pub record Painted : Type 0 where
 abbrev pub unpainted : ℕ → List ℕ → Painted
 unpainted n out = record { number = n; end = 0; bytes = out }
 
--- A store of rows into packed rows: 6, 10 and 9, and then 8 where its rows are none.
+-- A store of rows into packed rows: 6, 7, 10 and 9, and then 8 where its rows are none.
 unfoldable pub paint : Bool → ℕ → ℕ → List ℕ → List ℕ → List ℕ → Painted
 paint one width stride changes ends out =
     elim (fitTests width stride (length ends) (length out)) [
@@ -115,7 +116,7 @@ paint one width stride changes ends out =
 abbrev pub readRows : ℕ → List (List ℕ) → Answer
 readRows end rows = record { number = complete; place = 0; bytes = end; rows = rows; marks = []; loose = [] }
 
--- Packed rows into a store, which has room for so many entries and row ends: 6, 10 and 9, and then 5 and 4. It is whole, or as it was.
+-- Packed rows into a store, which has room for so many entries and row ends: 6, 7, 10 and 9, and then 5 and 4. It is whole, or as it was.
 unfoldable pub unpaint : Bool → ℕ → ℕ → ℕ → List ℕ → ℕ → ℕ → Answer
 unpaint one width stride rows bytes room places =
     elim (fitTests width stride rows (length bytes)) [

@@ -11,7 +11,7 @@ pub(crate) fn row_size(width: u32) -> usize
     (width as usize + 7) / 8
 }
 
-// 6, 10 and 9, in this order; 0 where all are passed. The last test divides, since a product may pass 64 bits.
+// 6, 7, 10 and 9, in this order; 0 where all are passed. The last test divides, since a product may pass 64 bits.
 pub(crate) fn refused(width: u32, stride: usize, rows: usize, size: usize) -> u32
     ensures { λ r. ⌜ r ≡ fitTests width stride rows size ⌝ }
 {
@@ -20,6 +20,9 @@ pub(crate) fn refused(width: u32, stride: usize, rows: usize, size: usize) -> u3
     }
     if width == answer::MOST_PIXELS {
         return answer::BAD_WIDTH;
+    }
+    if answer::MOST_BYTES < size {
+        return answer::TOO_LONG;
     }
     let row = row_size(width);
     if stride < row {

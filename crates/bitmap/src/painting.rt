@@ -10,7 +10,7 @@ ghost use Rattle.bitmap.specs.Packed.{packed, rowBytes, paintedFrom};
 ghost use Rattle.bitmap.specs.Steps.{Standing, blackIn, Sheet, Sheets};
 
 // A word of pixels as the caller wants it: black is 1, or 0.
-fn shown(one: bool, bits: u64) -> u64
+pub(crate) fn shown(one: bool, bits: u64) -> u64
     ensures { λ r. ⌜ r ≡ cond one bits (18446744073709551615 - bits) ⌝ }
 {
     if one {
