@@ -94,6 +94,17 @@ fits width stride rows size e =
     by false a false b false s true c d d′ e = absurd (omega (arith, e))
     by false a false b false s false c false d e = absurd (omega (arith, e))
 
+-- none of them is 8
+never-eight : (width stride rows size : ℕ) → fitTests width stride rows size ≡ 8 → ⊥
+never-eight width stride rows size = by (noLine width) (ltb mostBytes size) (ltb stride (bytesTo width)) (leb (reach width stride rows) size)
+  where
+    by : (a s c d : Bool) → _≡_ {A = ℕ} (cond a 6 (cond s 7 (cond c 10 (cond d 0 9)))) 8 → ⊥
+    by true s c d e = omega (arith, e)
+    by false true c d e = omega (arith, e)
+    by false false true d e = omega (arith, e)
+    by false false false true e = omega (arith, e)
+    by false false false false e = omega (arith, e)
+
 -- ---- Painting
 
 module _ (one : Bool) (width stride : ℕ) (changes ends out : List ℕ) where
@@ -121,3 +132,30 @@ module _ (one : Bool) (width stride : ℕ) (changes ends out : List ℕ) where
           → out′ ≡ paintedFrom one width stride 0 (rowsIn 0 changes ends) out → Paints (paint one width stride changes ends out) r out′
       unfolding paint
       paint-done a b = rw (paint, ← e, g) (record { answer = a; bytes = b })
+
+  -- an 8 is the store's
+  pub eight-is-bad : paint one width stride changes ends out .number ≡ 8 → goodRows width changes 0 ends ≡ false
+  unfolding paint
+  eight-is-bad = by (fitTests width stride (length ends) (length out)) refl (goodRows width changes 0 ends) refl
+    where
+      by : (n : ℕ) → n ≡ fitTests width stride (length ends) (length out) → (g : Bool) → goodRows width changes 0 ends ≡ g
+          → paint one width stride changes ends out .number ≡ 8 → goodRows width changes 0 ends ≡ false
+      by (suc n) e g f = rw (paint, ← e) (λ z. absurd (never-eight width stride (length ends) (length out) (sym e ∙ z)))
+      by zero e false f = λ z. f
+      by zero e true f = rw (paint, ← e, f) (λ z. absurd (let q : _≡_ {A = ℕ} 0 8 = z in omega (arith, q)))
+
+  -- what a 0 tells
+  pub record IsPainted (p : Painted) : Type 0 where
+    pub fit : Fits width stride (length ends) (length out)
+    pub good : goodRows width changes 0 ends ≡ true
+    pub is : p .bytes ≡ paintedFrom one width stride 0 (rowsIn 0 changes ends) out
+
+  pub is-painted : paint one width stride changes ends out .number ≡ 0 → IsPainted (paint one width stride changes ends out)
+  unfolding paint
+  is-painted = by (fitTests width stride (length ends) (length out)) refl (goodRows width changes 0 ends) refl
+    where
+      by : (n : ℕ) → n ≡ fitTests width stride (length ends) (length out) → (g : Bool) → goodRows width changes 0 ends ≡ g
+          → paint one width stride changes ends out .number ≡ 0 → IsPainted (paint one width stride changes ends out)
+      by (suc n) e g f = rw (paint, ← e) (λ z. absurd (omega (arith, z)))
+      by zero e false f = rw (paint, ← e, f) (λ z. absurd (let q : _≡_ {A = ℕ} 8 0 = z in omega (arith, q)))
+      by zero e true f = rw (paint, ← e, f) (λ z. record { fit = fits width stride (length ends) (length out) e; good = f; is = refl })

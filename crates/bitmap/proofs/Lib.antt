@@ -6,3 +6,4 @@ pub mod Turnings
 pub mod Scanning
 pub mod Tracings
 pub mod Unpainting
+pub mod Inverse

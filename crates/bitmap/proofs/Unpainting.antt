@@ -4,8 +4,9 @@ use mathlib.Core.Bool.{Bool, true, false, cond, true≢false}
 use mathlib.Core.List.{List, [], append-nil}
 use Prim.Native.Nat.{ℕ, zero, suc, _≤_, _<_}
 use native.Mathlib.Omega.{arith}
+use lib.Dec.{ltb}
 use lib.ListN.{length}
-use borrow.Author.Tests.{lt-ltb, le-ltb}
+use borrow.Author.Tests.{ltb-false, lt-ltb, le-ltb}
 use Rattle.rules.specs.Pages as Page
 use Rattle.rules.specs.Pages.{mostBytes, entries, joined, endsFrom, overlaid, changesAfter, endsAfter}
 use Rattle.rules.proofs.Store.{overlaid-nothing}
@@ -13,7 +14,7 @@ use Rattle.answer.specs.Answer.{answerOf}
 use Rattle.answer.specs.declared.Answer.{Answer}
 use Rattle.bitmap.specs.Packed.{fitTests, reach, rowsAt, readRows, unpaint}
 use Rattle.bitmap.specs.Turning.{Lies, Rows, Unpaints}
-use Rattle.bitmap.proofs.Fitting.{fits}
+use Rattle.bitmap.proofs.Fitting.{Fits, fits, tests-passed}
 use Rattle.bitmap.proofs.Tracings.{length-rows}
 
 module _ (changes ends : List ℕ) where
@@ -94,3 +95,37 @@ module _ (changes ends : List ℕ) where
               entered = t .entered ∙ ap (overlaid (joined all)) (c .entered) ∙ ap (λ (l : List ℕ). overlaid l changes) (sym (append-nil (joined all)));
               ended = t .ended ∙ ap (overlaid (endsFrom 0 all)) (c .ended);
             })
+
+-- what a 0 tells
+module _ (one : Bool) (width stride rows : ℕ) (bytes : List ℕ) (room places : ℕ) where
+  pub record IsRead (a : Page.Answer) : Type 0 where
+    pub fit : Fits width stride rows (length bytes)
+    pub placed : rows ≤ places
+    pub roomy : entries (rowsAt one width stride bytes rows 0) ≤ room
+    pub is : a ≡ readRows (reach width stride rows) (rowsAt one width stride bytes rows 0)
+
+  pub is-read : unpaint one width stride rows bytes room places .number ≡ 0 → IsRead (unpaint one width stride rows bytes room places)
+  unfolding unpaint
+  is-read = by (fitTests width stride rows (length bytes)) refl (ltb places rows) refl (ltb room (entries (rowsAt one width stride bytes rows 0))) refl
+    where
+      by : (n : ℕ) → n ≡ fitTests width stride rows (length bytes) → (p : Bool) → ltb places rows ≡ p
+          → (q : Bool) → ltb room (entries (rowsAt one width stride bytes rows 0)) ≡ q
+          → unpaint one width stride rows bytes room places .number ≡ 0 → IsRead (unpaint one width stride rows bytes room places)
+      by (suc n) e p f q g = rw (unpaint, ← e) (λ z. absurd (omega (arith, z)))
+      by zero e true f q g = rw (unpaint, ← e, f) (λ z. absurd (let k : _≡_ {A = ℕ} 5 0 = z in omega (arith, k)))
+      by zero e false f true g = rw (unpaint, ← e, f, g) (λ z. absurd (let k : _≡_ {A = ℕ} 4 0 = z in omega (arith, k)))
+      by zero e false f false g =
+          rw (unpaint, ← e, f, g) (λ z. record {
+            fit = fits width stride rows (length bytes) e;
+            placed = ltb-false places rows f;
+            roomy = ltb-false room (entries (rowsAt one width stride bytes rows 0)) g;
+            is = refl;
+          })
+
+  -- and what gives it
+  pub reads : Fits width stride rows (length bytes) → rows ≤ places → entries (rowsAt one width stride bytes rows 0) ≤ room
+      → unpaint one width stride rows bytes room places ≡ readRows (reach width stride rows) (rowsAt one width stride bytes rows 0)
+  unfolding unpaint
+  reads f p r =
+      let e = tests-passed width stride rows (length bytes) (f .some) (f .few) (f .short) (f .wide) (f .room) in
+      rw (unpaint, ← e, le-ltb places rows p, le-ltb room (entries (rowsAt one width stride bytes rows 0)) r) refl

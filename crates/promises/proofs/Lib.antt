@@ -48,3 +48,4 @@ pub mod CountedTicks
 pub mod CountedRows
 pub mod CountedLine
 pub mod Booking
+pub mod Bitmaps

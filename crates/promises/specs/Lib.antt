@@ -37,3 +37,4 @@ pub mod Called
 pub mod Ledgers
 pub mod LedgerFiles
 pub mod Booking
+pub mod Bitmaps

@@ -5,6 +5,7 @@ pub mod of_answer;
 pub mod of_bit_reader;
 pub mod of_bit_reader_buffer;
 pub mod of_bit_reader_zeros;
+pub mod of_bitmap;
 pub mod of_booking;
 pub mod of_booking_reading;
 pub mod of_by_row;
