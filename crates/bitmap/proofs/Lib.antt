@@ -7,3 +7,4 @@ pub mod Scanning
 pub mod Tracings
 pub mod Unpainting
 pub mod Inverse
+pub mod Sheets

@@ -2,9 +2,10 @@
 // standard (docs/DIFFERENCES.md; lenient.rt has those of lenient reading), and one input for each clause of A7 (places.rt) and of
 // A12 (exact.rt), pages by both engines (engines.rt), and pages with a bad line or cut (bad_lines.rt): what reading each of them
 // answers. A line has the sheet's name; number, rows, entries, loose entries, bytes and place; the mark of the first row, or 3
-// where none was stored; and the changes, those of kept rows first. Behind them the booking forms of examples/ (parties.rt), and
-// the forms that take a reference (lent_forms.rt).
+// where none was stored; and the changes, those of kept rows first. Behind them the booking forms of examples/ (parties.rt), the
+// forms that take a reference (lent_forms.rt), and packed rows (bitmaps.rt).
 mod bad_lines;
+mod bitmaps;
 mod engines;
 mod exact;
 mod lenient;
@@ -383,4 +384,5 @@ fn main() {
     bad_lines::cut_between();
     parties::forms();
     lent_forms::forms();
+    bitmaps::rows();
 }
