@@ -2,11 +2,12 @@
 use mathlib.Core.Path.{_≡_, refl, sym, ap, _∙_}
 use mathlib.Core.Bool.{Bool, true, false, cond, not}
 use mathlib.Core.List.{List, [], _∷_, _++_}
-use Prim.Native.Nat.{ℕ, zero, suc, _+_, _-_, _*_, _^_, _≤_, _<_}
+use Prim.Native.Nat.{ℕ, zero, suc, _+_, _-_, _*_, _%_, _^_, _≤_, _<_}
 use native.Mathlib.Omega.{arith}
 use lib.Dec.{ltb}
 use lib.ListN.{length, getD, take}
-use lib.Pow.{pow-pos, pow-mono}
+use lib.Pow as Pow
+use lib.Pow.{pow-pos}
 use lib.Seq.{take-length}
 use borrow.Author.Tests.{ltb-true, ltb-false, lt-ltb, le-ltb}
 use Rattle.rules.specs.Codes.{Colour, white, black, opposite}
@@ -15,7 +16,7 @@ use Rattle.rules.specs.Rising.{Rising, none, some}
 use Rattle.bitmap.specs.Packed.{bitFor, packed, padded}
 use Rattle.bitmap.specs.Steps.{colourAfter, isBlack, pixelsTo, blackTo, onesFrom, Turnable, Standing, Has}
 use Rattle.bitmap.specs.declared.pixels.Span.{Span}
-use Rattle.bitmap.proofs.Packing.{packed-lt, packed-same, packed-zeros, packed-ones, packed-turned, packed-not}
+use Rattle.bitmap.proofs.Packing.{packed-lt, packed-add, packed-same, packed-zeros, packed-ones, packed-turned, packed-not}
 
 -- ---- Changes
 
@@ -109,14 +110,22 @@ module _ (f g : ℕ → Bool) (from x bits : ℕ) (b : Bool) (low : from ≤ x) 
   at = x - from
 
   pub turnable : Turnable b bits at
-  turnable = by b here there
+  turnable = by b here
     where
-      e : from + 64 - x ≡ 64 - (x - from)
-      e = omega arith
+      m : ℕ
+      m = 64 - (x - from)
 
-      by : (b : Bool) → ((j : ℕ) → x ≤ j → f j ≡ b) → ((j : ℕ) → x ≤ j → g j ≡ not b) → Turnable b bits (x - from)
-      by true p q = rw (← e) (omega (arith, is, packed-turned g f 64 from x low (omega arith) (λ j h. sym (same j h)) q p, pow-pos (from + 64 - x)))
-      by false p q = rw (← e) (omega (arith, is, packed-turned f g 64 from x low (omega arith) same p q, packed-lt g 64 from, pow-pos (from + 64 - x)))
+      parts : bits % 2 ^ m ≡ packed f m x
+      parts =
+          let n : (x - from) + m ≡ 64 = omega arith in
+          let p : from + (x - from) ≡ x = omega arith in
+          ap (λ (v : ℕ). v % 2 ^ m) (is ∙ ap (λ (k : ℕ). packed f k from) (sym n) ∙ packed-add f (x - from) m from)
+          ∙ Pow.low (packed f (x - from) from) m (packed-lt f m (from + (x - from)))
+          ∙ ap (packed f m) p
+
+      by : (b : Bool) → ((j : ℕ) → x ≤ j → f j ≡ b) → Turnable b bits (x - from)
+      by true p = omega (arith, parts, packed-ones f m x (λ j k l. p j k))
+      by false p = parts ∙ packed-zeros f m x (λ j k l. p j k)
 
   pub turned-is : cond b (bits - onesFrom at) (bits + onesFrom at) ≡ packed g 64 from
   turned-is = by b here there

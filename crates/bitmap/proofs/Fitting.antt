@@ -15,7 +15,8 @@ use Rattle.rules.specs.Write.{rowsIn}
 use Rattle.row_store.specs.Store.{goodRows}
 use Rattle.answer.specs.declared.Answer.{Answer}
 use Rattle.bitmap.specs.Packed.{fitTests, reach, Painted, unpainted, paint, paintedFrom}
-use Rattle.bitmap.specs.Steps.{Sheets, Paints, answerFor}
+use Rattle.bitmap.specs.Outcome.{answerFor, Paints}
+use Rattle.bitmap.specs.Steps.{Sheets}
 
 -- ---- Rows in bytes
 

@@ -4,16 +4,17 @@ use mathlib.Core.Bool.{Bool, true, false, cond, not}
 use mathlib.Core.List.{List, [], _∷_, _++_, append-assoc, append-nil}
 use Prim.Native.Nat.{ℕ, zero, suc, _+_, _-_, _*_, _/_, _%_, _^_, _≤_, _<_}
 use native.Mathlib.Omega.{arith}
-use native.Mathlib.Nat.{add-zero, add-mul, mul-assoc, mul-one, zero-mul, one-mul}
+use native.Mathlib.Nat.{add-zero, zero-add, mod-lt, add-mul, mul-assoc, mul-one, zero-mul, one-mul}
 use lib.Dec.{ltb, eqb}
 use lib.ListN.{length, take, drop, set, length-append, length-set}
-use lib.Pow.{pow-add, pow-pos, high, low, ones-split}
+use lib.Bits.{bitXor, xor-block, xor-self, xor-zero-l, xor-zero-r}
+use lib.Pow.{pow-add, pow-pos, split, high, low, ones-split}
 use lib.Seq.{take-suc-set, take-all}
 use borrow.Author.Tests.{eqb-true, eqb-false}
 use Rattle.rules.specs.Bits.{valueOf}
 use Rattle.rules.proofs.Bits.{pow-two}
 use Rattle.bitmap.specs.Packed.{packed, bytesFrom}
-use Rattle.bitmap.specs.Steps.{byteAt, topBytes, Puts, onesFrom}
+use Rattle.bitmap.specs.Steps.{byteAt, topBytes, Puts, onesFrom, Turnable}
 
 -- a number of n bits
 pub packed-lt : (f : ℕ → Bool) (n i : ℕ) → packed f n i < 2 ^ n
@@ -150,3 +151,32 @@ ones-shifted at h =
     let s : 2 ^ (64 - at + at) - 1 ≡ (2 ^ (64 - at) - 1) * 2 ^ at + (2 ^ at - 1) = ones-split (64 - at) at in
     let t : 18446744073709551615 ≡ (2 ^ (64 - at) - 1) * 2 ^ at + (2 ^ at - 1) = ap (λ (k : ℕ). 2 ^ k - 1) (sym e) ∙ s in
     ap (λ (k : ℕ). k / 2 ^ at) t ∙ high (2 ^ (64 - at) - 1) at (omega (arith, pow-pos at))
+
+-- flat bits that are turned against ones: added where they are zeros, and taken away where they are ones
+pub turned-flat : (black : Bool) (bits at : ℕ) → at < 64 → Turnable black bits at → bitXor bits (18446744073709551615 / 2 ^ at) ≡ cond black (bits - onesFrom at) (bits + onesFrom at)
+turned-flat black bits at h t =
+    ap (bitXor bits) (ones-shifted at h ∙ sym (zero-add (onesFrom at)))
+    ∙ ap (λ (b : ℕ). bitXor b (0 + onesFrom at)) (sym (split bits (64 - at)))
+    ∙ ap (λ (z : ℕ). bitXor (bits / 2 ^ (64 - at) * 2 ^ (64 - at) + bits % 2 ^ (64 - at)) (z + onesFrom at)) (sym (zero-mul (2 ^ (64 - at))))
+    ∙ xor-block (64 - at) (bits / 2 ^ (64 - at)) 0 (bits % 2 ^ (64 - at)) (onesFrom at) (mod-lt bits (pow-pos (64 - at))) (omega (arith, pow-pos (64 - at)))
+    ∙ by black t
+  where
+    high-part : ℕ
+    high-part = bits / 2 ^ (64 - at) * 2 ^ (64 - at)
+
+    parts : high-part + bits % 2 ^ (64 - at) ≡ bits
+    parts = split bits (64 - at)
+
+    front : (low-part : ℕ) → bitXor (bits / 2 ^ (64 - at)) 0 * 2 ^ (64 - at) + low-part ≡ high-part + low-part
+    front low-part = ap (λ (v : ℕ). v * 2 ^ (64 - at) + low-part) (xor-zero-r (bits / 2 ^ (64 - at)))
+
+    by : (b : Bool) → Turnable b bits at
+        → bitXor (bits / 2 ^ (64 - at)) 0 * 2 ^ (64 - at) + bitXor (bits % 2 ^ (64 - at)) (onesFrom at) ≡ cond b (bits - onesFrom at) (bits + onesFrom at)
+    by true e =
+        front _
+        ∙ ap (λ (v : ℕ). high-part + v) (ap (λ (v : ℕ). bitXor v (onesFrom at)) e ∙ xor-self (onesFrom at))
+        ∙ omega (arith, parts, e)
+    by false e =
+        front _
+        ∙ ap (λ (v : ℕ). high-part + v) (ap (λ (v : ℕ). bitXor v (onesFrom at)) e ∙ xor-zero-l (onesFrom at))
+        ∙ omega (arith, parts, e)

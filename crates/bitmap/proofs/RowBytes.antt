@@ -7,8 +7,8 @@ use native.Mathlib.Omega.{arith}
 use native.Mathlib.Numerals.{add-one}
 use native.Mathlib.Nat.{suc-mul, mul-le-mul-right}
 use lib.Dec.{ltb}
-use lib.ListN.{length, getD, take, drop, length-append, length-drop, drop-of-length-le}
-use lib.Seq.{take-length, take-all, drop-cons, drop-drop, length-take-le}
+use lib.ListN.{length, getD, take, drop, set, length-append, length-drop, drop-of-length-le}
+use lib.Seq.{take-length, take-all, take-suc-set, drop-cons, drop-drop, length-take-le}
 use borrow.Author.Tests.{ltb-true, ltb-false, lt-ltb, le-ltb}
 use Rattle.rules.specs.Codes.{Colour, white, black, opposite}
 use Rattle.rules.specs.Pixels.{colourAt}
@@ -18,7 +18,7 @@ use Rattle.rules.specs.Write.{rowsIn}
 use Rattle.bitmap.specs.Packed.{bitFor, packed, bytesFrom, padded, rowBytes, laid, paintedFrom, reach}
 use Rattle.bitmap.specs.Steps.{colourAfter, isBlack, pixelsTo, blackTo, blackIn, onesFrom, Turnable, Standing, Has, Puts, topBytes}
 use Rattle.bitmap.specs.declared.pixels.Span.{Span}
-use Rattle.bitmap.proofs.Packing.{packed-same, packed-not, packed-lt, bytes-add, length-bytes, top-bytes}
+use Rattle.bitmap.proofs.Packing.{packed-same, packed-zeros, packed-ones, packed-not, packed-lt, bytes-add, length-bytes, top-bytes}
 use Rattle.bitmap.proofs.Colours.{change-high, turnable, turned-is, behind-all}
 
 -- ---- The pixels of a word
@@ -129,6 +129,40 @@ module _ (one : Bool) (width : ℕ) (row : List ℕ) where
   pub length-row : length (rowBytes one width row) ≡ bytesTo width
   unfolding rowBytes
   length-row = length-bytes (shownIn one width row) (bytesTo width) 0
+
+-- ---- A row without changes
+
+-- each of its pixels is white
+blank-pixel : (one : Bool) (width i : ℕ) → shownIn one width [] i ≡ not one
+unfolding padded colourAt
+blank-pixel one width i = by (ltb i width)
+  where
+    by : (t : Bool) → bitFor one (cond t white white) ≡ not one
+    by true = refl
+    by false = refl
+
+-- and each of its bytes the same
+blank-byte : (one : Bool) (width i : ℕ) → packed (shownIn one width []) 8 i ≡ cond one 0 255
+blank-byte one width i = by one (λ j. blank-pixel one width j)
+  where
+    by : (o : Bool) → ((j : ℕ) → shownIn one width [] j ≡ not o) → packed (shownIn one width []) 8 i ≡ cond o 0 255
+    by true h = packed-zeros (shownIn one width []) 8 i (λ j a b. h j)
+    by false h = omega (arith, packed-ones (shownIn one width []) 8 i (λ j a b. h j))
+
+pub blank-next : (one : Bool) (width i b : ℕ) (out : List ℕ) → b ≡ cond one 0 255 → i < length out
+    → take i out ≡ bytesFrom (shownIn one width []) i 0 → take (i + 1) (set out i b) ≡ bytesFrom (shownIn one width []) (i + 1) 0
+unfolding bytesFrom
+blank-next one width i b out e h f =
+    let s : i + 1 ≡ suc i = omega arith in
+    ap (λ (n : ℕ). take n (set out i b)) s
+    ∙ take-suc-set out i b h
+    ∙ ap (λ (l : List ℕ). l ++ b ∷ []) f
+    ∙ ap (λ (v : ℕ). bytesFrom (shownIn one width []) i 0 ++ v ∷ []) (e ∙ sym (blank-byte one width (8 * (0 + i))))
+    ∙ sym (bytes-add (shownIn one width []) i 1 0)
+
+pub no-changes : (one : Bool) (width : ℕ) (row : List ℕ) {out : List ℕ} → length row ≡ 0 → out ≡ rowBytes one width [] → out ≡ rowBytes one width row
+no-changes one width [] e f = f
+no-changes one width (x ∷ xs) e f = absurd (omega (arith, e))
 
 -- ---- The rows of a store
 

@@ -13,7 +13,8 @@ use Rattle.rules.proofs.Store.{overlaid-nothing}
 use Rattle.answer.specs.Answer.{answerOf}
 use Rattle.answer.specs.declared.Answer.{Answer}
 use Rattle.bitmap.specs.Packed.{fitTests, reach, rowsAt, readRows, unpaint}
-use Rattle.bitmap.specs.Turning.{Lies, Rows, Unpaints}
+use Rattle.bitmap.specs.Outcome.{Unpaints}
+use Rattle.bitmap.specs.Turning.{Lies, Rows}
 use Rattle.bitmap.proofs.Fitting.{Fits, fits, tests-passed}
 use Rattle.bitmap.proofs.Tracings.{length-rows}
 

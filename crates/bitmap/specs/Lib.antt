@@ -1,3 +1,4 @@
 pub mod Packed
+pub mod Outcome
 pub mod Steps
 pub mod Turning

@@ -9,9 +9,7 @@ use Rattle.rules.specs.Pixels.{Pixels, colourAt}
 use Rattle.rules.specs.Rising.{Rising}
 use Rattle.rules.specs.Rows.{bytesTo}
 use Rattle.row_store.specs.Store.{goodRows}
-use Rattle.answer.specs.Answer.{answerOf}
-use Rattle.answer.specs.declared.Answer.{Answer}
-use Rattle.bitmap.specs.Packed.{bitFor, packed, padded, reach, Painted}
+use Rattle.bitmap.specs.Packed.{bitFor, packed, padded, reach}
 use Rattle.bitmap.specs.declared.pixels.Span.{Span}
 
 -- ---- 64 pixels
@@ -35,10 +33,10 @@ blackTo k row i = isBlack (pixelsTo k row i)
 abbrev pub onesFrom : ℕ → ℕ
 onesFrom at = 2 ^ (64 - at) - 1
 
--- turning these bits neither passes a word nor falls below zero
+-- from bit `at` on they are all ones, or all zeros
 abbrev pub Turnable : Bool → ℕ → ℕ → Type 0
-Turnable true bits at = onesFrom at ≤ bits
-Turnable false bits at = bits + onesFrom at < 2 ^ 64
+Turnable true bits at = bits % 2 ^ (64 - at) ≡ onesFrom at
+Turnable false bits at = bits % 2 ^ (64 - at) ≡ 0
 
 -- Before the pixels from `from` on: of the row's changes `next` lie left of them, and the colour behind these is black or not.
 pub record Standing (width : ℕ) (row : List ℕ) (next : ℕ) (black : Bool) (from : ℕ) : Type 0 where
@@ -89,12 +87,3 @@ pub record Sheets (width stride : ℕ) (changes ends : List ℕ) (size : ℕ) : 
   pub wide : bytesTo width ≤ stride
   pub good : goodRows width changes 0 ends ≡ true
   pub room : reach width stride (length ends) ≤ size
-
--- "A writer's 0 gives .. bytes; its other counts are 0."
-abbrev pub answerFor : ℕ → ℕ → Answer
-answerFor number end = answerOf (record { number = number; place = 0; bytes = end; rows = []; marks = []; loose = [] })
-
--- The answer and every byte are those of a definition.
-pub record Paints (p : Painted) (r : Answer) (out′ : List ℕ) : Type 0 where
-  pub answer : r ≡ answerFor (p .number) (p .end)
-  pub bytes : out′ ≡ p .bytes

@@ -8,11 +8,8 @@ use lib.ListN.{length, getD}
 use Rattle.rules.specs.Bits.{bit}
 use Rattle.rules.specs.Codes.{Colour, white}
 use Rattle.rules.specs.Pixels.{Pixels}
-use Rattle.rules.specs.Pages as Page
-use Rattle.rules.specs.Pages.{mostBytes, entries, joined, endsFrom, overlaid, changesAfter, endsAfter}
+use Rattle.rules.specs.Pages.{mostBytes, entries, joined, endsFrom, overlaid}
 use Rattle.rules.specs.Rows.{bytesTo}
-use Rattle.answer.specs.Answer.{answerOf}
-use Rattle.answer.specs.declared.Answer.{Answer}
 use Rattle.bitmap.specs.Packed.{laid, pixelsAt, turnsFrom, rowsAt, reach}
 use Rattle.bitmap.specs.Steps.{isBlack}
 use Rattle.bitmap.specs.declared.tracing.Turn.{Turn}
@@ -82,9 +79,3 @@ pub record Rows (rows : List (List ℕ)) (write : Bool) (changes ends : List ℕ
   pub count : r ≡ entries rows
   pub entered : changes′ ≡ cond write (overlaid (joined rows) changes) changes
   pub ended : ends′ ≡ cond write (overlaid (endsFrom 0 rows) ends) ends
-
--- The answer and every entry are those of a definition.
-pub record Unpaints (a : Page.Answer) (changes ends : List ℕ) (r : Answer) (changes′ ends′ : List ℕ) : Type 0 where
-  pub answer : r ≡ answerOf a
-  pub entered : changes′ ≡ changesAfter a changes
-  pub ended : ends′ ≡ endsAfter a ends

@@ -4,8 +4,7 @@ ghost use mathlib.Core.Path.{_≡_};
 ghost use Prim.Native.Nat.{_≤_};
 ghost use lib.ListN.{length};
 ghost use Rattle.bitmap.specs.Packed.{paint, unpaint};
-ghost use Rattle.bitmap.specs.Steps.{answerFor, Paints};
-ghost use Rattle.bitmap.specs.Turning.{Unpaints};
+ghost use Rattle.bitmap.specs.Outcome.{answerFor, Paints, Unpaints};
 
 mod fit;
 mod painting;

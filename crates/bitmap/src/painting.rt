@@ -4,7 +4,9 @@ use crate::put;
 ghost use mathlib.Core.Path.{_≡_};
 ghost use mathlib.Core.Bool.{cond};
 ghost use Prim.Native.Nat.{_+_, _-_, _^_, _≤_, _<_};
+ghost use mathlib.Core.List.{[]};
 ghost use lib.ListN.{length};
+ghost use Rattle.rules.specs.Rows.{bytesTo};
 ghost use Rattle.rules.specs.Write.{rowsIn};
 ghost use Rattle.bitmap.specs.Packed.{packed, rowBytes, paintedFrom};
 ghost use Rattle.bitmap.specs.Steps.{Standing, blackIn, Sheet, Sheets};
@@ -17,6 +19,16 @@ pub(crate) fn shown(one: bool, bits: u64) -> u64
         return bits;
     }
     pixels::ALL - bits
+}
+
+// Eight white pixels.
+fn white_byte(one: bool) -> u8
+    ensures { λ r. ⌜ r ≡ cond one 0 255 ⌝ }
+{
+    if one {
+        return 0;
+    }
+    255
 }
 
 // The word in which the row ends. A row that ends in black turns white at the width.
@@ -58,6 +70,30 @@ fn row(one: bool, width: u32, row: &[u32], out: &mut [u8])
     put::rest(out, i, bits);
 }
 
+// A row without changes is white: the same byte everywhere.
+fn blank(one: bool, width: u32, out: &mut [u8])
+    requires { ⌜ length (now out) ≡ bytesTo width ⌝ }
+    ensures { λ r. ⌜ now (out .exit) ≡ rowBytes one width [] ⌝ }
+{
+    let byte = white_byte(one);
+    let mut i: usize = 0;
+    while i < out.len() {
+        out[i] = byte;
+        i += 1;
+    }
+}
+
+fn row_or_blank(one: bool, width: u32, changes: &[u32], out: &mut [u8])
+    requires { ⌜ Sheet width (now changes) (now out) ⌝ }
+    ensures { λ r. ⌜ now (out .exit) ≡ rowBytes one width (now (changes .entry)) ⌝ }
+{
+    if changes.len() == 0 {
+        blank(one, width, out);
+        return;
+    }
+    row(one, width, changes, out);
+}
+
 // The rows of a store, the bytes between them left as they are.
 pub(crate) fn rows(
     one: bool,
@@ -77,7 +113,7 @@ pub(crate) fn rows(
         let end = ends[k] as usize;
         let at = k * stride;
         let to = at + size;
-        row(one, width, &changes[base..end], &mut out[at..to]);
+        row_or_blank(one, width, &changes[base..end], &mut out[at..to]);
         base = end;
         k += 1;
     }

@@ -30,10 +30,7 @@ pub(crate) fn turned(bits: u64, black: bool, at: usize) -> u64
     requires { ⌜ (at < 64) × Turnable black bits at ⌝ }
     ensures { λ r. ⌜ r ≡ cond black (bits - onesFrom at) (bits + onesFrom at) ⌝ }
 {
-    if black {
-        return bits - (ALL >> at);
-    }
-    bits + (ALL >> at)
+    bits ^ (ALL >> at)
 }
 
 // The 64 pixels from `from` on: each change turns those from it on.

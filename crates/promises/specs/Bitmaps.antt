@@ -19,8 +19,7 @@ use Rattle.settings.specs.declared.DecodeSettings.{DecodeSettings}
 use Rattle.settings.specs.Settings.{settingsOf}
 use Rattle.writer.specs.Outcome as Writer
 use Rattle.bitmap.specs.Packed.{pixelsAt, paint, unpaint}
-use Rattle.bitmap.specs.Steps.{Paints}
-use Rattle.bitmap.specs.Turning.{Unpaints}
+use Rattle.bitmap.specs.Outcome.{Paints, Unpaints}
 use Rattle.promises.specs.Demand3.{Plainly}
 use Rattle.promises.specs.OneAnswer.{OneWith}
 use Rattle.promises.specs.Rooms.{Call, places, rowsOf, Reading}

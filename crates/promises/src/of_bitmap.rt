@@ -2,8 +2,7 @@
 use answer::Answer;
 ghost use lib.ListN.{length};
 ghost use Rattle.bitmap.specs.Packed.{paint, unpaint};
-ghost use Rattle.bitmap.specs.Steps.{Paints};
-ghost use Rattle.bitmap.specs.Turning.{Unpaints};
+ghost use Rattle.bitmap.specs.Outcome.{Paints, Unpaints};
 
 pub fn paint(
     columns: u32,

@@ -5,7 +5,7 @@ use mathlib.Core.Path.{_≡_, sym, ap, _∙_}
 use borrow.Author.Tests.{not-true, not-false}
 use lib.ListN.{length}
 use Rattle.rules.specs.Pages.{entries}
-use Rattle.bitmap.specs.Steps.{answerFor}
+use Rattle.bitmap.specs.Outcome.{answerFor}
 use Rattle.bitmap.proofs.Fitting.{fits, paint-refused, paint-bad, sheets, paint-done}
 use borrow.Author.Needs.{needs}
 use Rattle.bitmap.proofs.paint.Statement.{statement}

@@ -52,54 +52,54 @@ add-to c =
     let r = row-room (a .args .width) (a .args .stride) (length (now (a .args .ends))) (l .loop .k) (length (now (a .args .out))) (c .before .loop-test .taken) (a .pre .room) in
     record { fits = omega (arith, r) }
 
-mul-row : tie.Need-mul-row Inv-loop μ-loop
-mul-row c =
+mul-row-or-blank : tie.Need-mul-row-or-blank Inv-loop μ-loop
+mul-row-or-blank c =
     let l = c .before .before in
     let a = c .before .before .before .before .before .before in
     let g = good (a .args .width) (now (a .args .changes)) (l .loop .base) (now (a .args .ends)) (l .loop .k) (c .before .loop-test .taken) (l .loop .inv .0) in
     let r = row-room (a .args .width) (a .args .stride) (length (now (a .args .ends))) (l .loop .k) (length (now (a .args .out))) (c .before .loop-test .taken) (a .pre .room) in
     omega (arith, g .low, g .high)
 
-sub-row : tie.Need-sub-row Inv-loop μ-loop
-sub-row c =
+sub-row-or-blank : tie.Need-sub-row-or-blank Inv-loop μ-loop
+sub-row-or-blank c =
     let l = c .before .before in
     let a = c .before .before .before .before .before .before in
     let g = good (a .args .width) (now (a .args .changes)) (l .loop .base) (now (a .args .ends)) (l .loop .k) (c .before .loop-test .taken) (l .loop .inv .0) in
     let r = row-room (a .args .width) (a .args .stride) (length (now (a .args .ends))) (l .loop .k) (length (now (a .args .out))) (c .before .loop-test .taken) (a .pre .room) in
     g .low
 
-part-row-start : tie.Need-part-row-start Inv-loop μ-loop
-part-row-start c =
+part-row-or-blank-start : tie.Need-part-row-or-blank-start Inv-loop μ-loop
+part-row-or-blank-start c =
     let l = c .before .before in
     let a = c .before .before .before .before .before .before in
     let g = good (a .args .width) (now (a .args .changes)) (l .loop .base) (now (a .args .ends)) (l .loop .k) (c .before .loop-test .taken) (l .loop .inv .0) in
     let r = row-room (a .args .width) (a .args .stride) (length (now (a .args .ends))) (l .loop .k) (length (now (a .args .out))) (c .before .loop-test .taken) (a .pre .room) in
     g .low
 
-part-row-end : tie.Need-part-row-end Inv-loop μ-loop
-part-row-end c =
+part-row-or-blank-end : tie.Need-part-row-or-blank-end Inv-loop μ-loop
+part-row-or-blank-end c =
     let l = c .before .before in
     let a = c .before .before .before .before .before .before in
     let g = good (a .args .width) (now (a .args .changes)) (l .loop .base) (now (a .args .ends)) (l .loop .k) (c .before .loop-test .taken) (l .loop .inv .0) in
     let r = row-room (a .args .width) (a .args .stride) (length (now (a .args .ends))) (l .loop .k) (length (now (a .args .out))) (c .before .loop-test .taken) (a .pre .room) in
     g .high
 
-sub-row-2 : tie.Need-sub-row-2 Inv-loop μ-loop
-sub-row-2 c = omega arith
+sub-row-or-blank-2 : tie.Need-sub-row-or-blank-2 Inv-loop μ-loop
+sub-row-or-blank-2 c = omega arith
 
-part-row-start-2 : tie.Need-part-row-start-2 Inv-loop μ-loop
-part-row-start-2 c = omega arith
+part-row-or-blank-start-2 : tie.Need-part-row-or-blank-start-2 Inv-loop μ-loop
+part-row-or-blank-start-2 c = omega arith
 
-part-row-end-2 : tie.Need-part-row-end-2 Inv-loop μ-loop
-part-row-end-2 c =
+part-row-or-blank-end-2 : tie.Need-part-row-or-blank-end-2 Inv-loop μ-loop
+part-row-or-blank-end-2 c =
     let l = c .before .before .before in
     let a = c .before .before .before .before .before .before .before in
     let g = good (a .args .width) (now (a .args .changes)) (l .loop .base) (now (a .args .ends)) (l .loop .k) (c .before .before .loop-test .taken) (l .loop .inv .0) in
     let r = row-room (a .args .width) (a .args .stride) (length (now (a .args .ends))) (l .loop .k) (length (now (a .args .out))) (c .before .before .loop-test .taken) (a .pre .room) in
     omega (arith, r, l .loop .inv .1)
 
-row-requires : tie.Need-row-requires Inv-loop μ-loop
-row-requires c κs =
+row-or-blank-requires : tie.Need-row-or-blank-requires Inv-loop μ-loop
+row-or-blank-requires c κs =
     let l = c .before .before .before .before in
     let a = c .before .before .before .before .before .before .before .before in
     let g = good (a .args .width) (now (a .args .changes)) (l .loop .base) (now (a .args .ends)) (l .loop .k) (c .before .before .before .loop-test .taken) (l .loop .inv .0) in
@@ -124,7 +124,7 @@ loop-again c =
     let at = l .loop .k * a .args .stride in
     let n = at + (a .args .width + 7) / 8 - at in
     let row = take (getD (now (a .args .ends)) (l .loop .k) 0 - l .loop .base) (drop (l .loop .base) (now (a .args .changes))) in
-    let is = c .before .before .row .ensures in
+    let is = c .before .before .row-or-blank .ensures in
     let m : (a .args .width + 7) / 8 ≡ n = omega arith in (
       g .rest,
       laid-length at n ((a .args .width + 7) / 8) (l .loop .out) is (length-row (a .args .one) (a .args .width) row) m (omega (arith, r, l .loop .inv .1)) ∙ l .loop .inv .1,
@@ -153,14 +153,14 @@ rows-spec =
     shared-slice-read-end
     mul-at
     add-to
-    mul-row
-    sub-row
-    part-row-start
-    part-row-end
-    sub-row-2
-    part-row-start-2
-    part-row-end-2
-    row-requires
+    mul-row-or-blank
+    sub-row-or-blank
+    part-row-or-blank-start
+    part-row-or-blank-end
+    sub-row-or-blank-2
+    part-row-or-blank-start-2
+    part-row-or-blank-end-2
+    row-or-blank-requires
     add-k
     loop-less
     loop-again
