@@ -97,13 +97,15 @@ decoded-shows bytes settings c narrow called one stride out r out′ p = (not-ba
     good : goodRows (settings .columns) (c .changes′) 0 (take (c .answer .rows) (c .ends′)) ≡ true
     good =
         ap₂ (λ (xs es : List ℕ). goodRows (settings .columns) xs 0 es) (called .changes) ends-are
-        ∙ rows-good a (c .changes) (c .ends) (c .marks) held (settings .columns) (decode-modest S bytes (length (c .changes)) (places c) .rising)
+        ∙ rows-good a (c .changes) (c .ends) (c .marks) held (settings .columns)
+        (decode-modest S bytes (length (c .changes)) (places c) .rising)
 
     not-bad : r .number ≡ 8 → ⊥
     not-bad e =
         true≢false
         (sym good
-        ∙ eight-is-bad one (settings .columns) stride (c .changes′) (take (c .answer .rows) (c .ends′)) out (sym (ap (λ (x : Answer). x .number) (p .answer)) ∙ e))
+        ∙ eight-is-bad one (settings .columns) stride (c .changes′) (take (c .answer .rows) (c .ends′)) out
+        (sym (ap (λ (x : Answer). x .number) (p .answer)) ∙ e))
 
 -- ---- Reading a bitmap
 
@@ -122,7 +124,8 @@ module _ (one : Bool) (columns stride rows : ℕ) (bytes changes ends : List ℕ
   in-store : rowsIn 0 changes′ (take rows ends′) ≡ rowsAt one columns stride bytes rows 0
   unfolding changesAfter endsAfter overlaid
   in-store =
-      ap₂ (λ (xs es : List ℕ). rowsIn 0 xs (take rows es)) (u .entered ∙ ap (λ (a : Page.Answer). changesAfter a changes) (read .is)) (u .ended ∙ ap (λ (a : Page.Answer). endsAfter a ends) (read .is))
+      ap₂ (λ (xs es : List ℕ). rowsIn 0 xs (take rows es)) (u .entered ∙ ap (λ (a : Page.Answer). changesAfter a changes) (read .is))
+      (u .ended ∙ ap (λ (a : Page.Answer). endsAfter a ends) (read .is))
       ∙ ap₂ (λ (xs es : List ℕ). rowsIn 0 (xs ++ drop (length (joined all ++ [])) changes) es) (append-nil (joined all))
       (take-at (endsFrom 0 all) (drop (length (endsFrom 0 all)) ends) rows (length-ends 0 all ∙ length-rows one columns stride bytes rows 0))
       ∙ rows-back all (drop (length (joined all ++ [])) changes)
@@ -156,8 +159,10 @@ written-shows one columns stride rows bitmap changes ends r changes′ ends′ u
     let long = ends-long one columns stride rows bitmap changes ends r changes′ ends′ u z in
     let count : r .entries ≡ entries (rowsIn 0 changes′ (take rows ends′)) =
     ap (λ (a : Answer). a .entries) (answer-is one columns stride rows bitmap changes ends r changes′ ends′ u z) ∙ sym (ap entries store) in
-    let back = written-page-reads-back columns changes′ (take rows ends′) out w out′ narrow written e bytes small same settings s (rw long counted′)
-    (c .changes) (c .ends) (c .marks) (c .answer) (c .changes′) (c .ends′) (c .marks′) (omega (arith, roomy, count)) (omega (arith, placed, long)) (omega (arith, marked, long)) called in (
+    let back = written-page-reads-back columns changes′ (take rows ends′) out w out′ narrow written e bytes small same settings s
+    (rw long counted′)
+    (c .changes) (c .ends) (c .marks) (c .answer) (c .changes′) (c .ends′) (c .marks′) (omega (arith, roomy, count))
+    (omega (arith, placed, long)) (omega (arith, marked, long)) called in (
       back .0,
       ap length (back .2) ∙ counted one columns stride rows bitmap changes ends r changes′ ends′ u z,
       rw (back .2) (shown one columns stride rows bitmap changes ends r changes′ ends′ u z),
@@ -179,11 +184,14 @@ painted-reads-back one columns stride changes ends out r out′ p z store places
 
     each : (y : ℕ) → y < length ends → turnsFrom (pixelsAt one out′ (y * stride)) columns 0 ≡ getD (rowsIn 0 changes ends) y []
     each y h =
-        turns-row (pixelsAt one out′ (y * stride)) columns (row-rises y (rise one columns stride changes ends out r out′ p z) (omega (arith, many)))
+        turns-row (pixelsAt one out′ (y * stride)) columns
+        (row-rises y (rise one columns stride changes ends out r out′ p z) (omega (arith, many)))
         (λ x l. shows one columns stride changes ends out r out′ p z y x (omega (arith, many)) l)
 
     same : rowsAt one columns stride out′ (length ends) 0 ≡ rowsIn 0 changes ends
-    same = ext-getD [] (rowsAt one columns stride out′ (length ends) 0) (rowsIn 0 changes ends) (length-rows one columns stride out′ (length ends) 0 ∙ sym many)
+    same =
+        ext-getD [] (rowsAt one columns stride out′ (length ends) 0) (rowsIn 0 changes ends)
+        (length-rows one columns stride out′ (length ends) 0 ∙ sym many)
         (λ y h.
         let n : y < length ends = omega (arith, length-rows one columns stride out′ (length ends) 0) in
         rows-at one columns stride out′ (length ends) 0 y n
@@ -194,12 +202,16 @@ painted-reads-back one columns stride changes ends out r out′ p z store places
     fit = rw wide (t .fit)
 
     done : s .number ≡ 0
-    done = ap (λ (a : Answer). a .number) (u .answer ∙ ap answerOf (reads one columns stride (length ends) out′ (length store) (length places) fit placed (rw same roomy)))
+    done =
+        ap (λ (a : Answer). a .number)
+        (u .answer ∙ ap answerOf (reads one columns stride (length ends) out′ (length store) (length places) fit placed (rw same roomy)))
 
 pub read-paints-back : ReadPaintsBack
 read-paints-back one columns stride rows bytes changes ends r changes′ ends′ u z other step out s out′ p q y x h l =
-    let n : y < length (rowsIn 0 changes′ (take rows ends′)) = omega (arith, counted one columns stride rows bytes changes ends r changes′ ends′ u z) in
-    shows other columns step changes′ (take rows ends′) out s out′ p q y x n l ∙ sym (shown one columns stride rows bytes changes ends r changes′ ends′ u z y x n l)
+    let many = counted one columns stride rows bytes changes ends r changes′ ends′ u z in
+    let n : y < length (rowsIn 0 changes′ (take rows ends′)) = omega (arith, many) in
+    shows other columns step changes′ (take rows ends′) out s out′ p q y x n l
+    ∙ sym (shown one columns stride rows bytes changes ends r changes′ ends′ u z y x n l)
 
 -- ---- Pinned down
 

@@ -1,5 +1,7 @@
--- Pixels in bytes: a page that is read from fax data and painted has the pixels of the rows that the rules read; a bitmap that is read into rows and written has its own
--- pixels when the page is read back; and painting and reading a bitmap undo each other. What bits behind the width hold is said of painting alone: they are white.
+-- Pixels in bytes: a page that is read from fax data and painted has the pixels of the rows that the rules read; a bitmap that is read
+-- into rows and written has its own
+-- pixels when the page is read back; and painting and reading a bitmap undo each other. What bits behind the width hold is said of
+-- painting alone: they are white.
 -- A statement is about whatever answers and arrays a function's contract permits.
 use mathlib.Core.Path.{_≡_}
 use mathlib.Core.Logic.{_⊎_}
@@ -40,17 +42,20 @@ Painting one columns stride changes ends out r out′ = Paints (paint one column
 
 abbrev pub PaintShows : Type 0
 PaintShows =
-    (one : Bool) (columns stride : ℕ) (changes ends out : List ℕ) (r : Answer) (out′ : List ℕ) → Painting one columns stride changes ends out r out′ → r .number ≡ complete
+    (one : Bool) (columns stride : ℕ) (changes ends out : List ℕ) (r : Answer) (out′ : List ℕ) → Painting one columns stride changes ends
+    out r out′ → r .number ≡ complete
     → Shows one columns stride (rowsIn 0 changes ends) out′ × WhiteBehind one columns stride (length ends) out′ × (length out′ ≡ length out)
 
--- From fax bytes to pixels: what a call of `decode` left, with any settings and whatever it answered, is no store that `paint` refuses; and it shows the rows that the rules read.
+-- From fax bytes to pixels: what a call of `decode` left, with any settings and whatever it answered, is no store that `paint` refuses;
+-- and it shows the rows that the rules read.
 abbrev pub DecodedShows : Type 0
 DecodedShows =
     (bytes : List ℕ) (settings : DecodeSettings) (c : Call) → settings .columns ≤ mostPixels → Reading bytes settings c
     → (one : Bool) (stride : ℕ) (out : List ℕ) (r : Answer) (out′ : List ℕ)
     → Painting one (settings .columns) stride (c .changes′) (take (c .answer .rows) (c .ends′)) out r out′
     → (r .number ≡ badRows → ⊥)
-    × (r .number ≡ complete → Shows one (settings .columns) stride (decode (settingsOf settings) bytes (length (c .changes)) (places c) .rows) out′)
+    ×
+    (r .number ≡ complete → Shows one (settings .columns) stride (decode (settingsOf settings) bytes (length (c .changes)) (places c) .rows) out′)
 
 -- ---- Reading a bitmap
 
@@ -67,7 +72,8 @@ UnpaintShows =
     → (r .rows ≡ rows) × (length (rowsIn 0 changes′ (take rows ends′)) ≡ rows) × Rows columns (rowsIn 0 changes′ (take rows ends′))
     × Shows one columns stride (rowsIn 0 changes′ (take rows ends′)) bytes
 
--- From pixels to fax bytes, and back: a bitmap that was read into rows, which `write_page` wrote, shows the rows that `decode` reads out of what was written.
+-- From pixels to fax bytes, and back: a bitmap that was read into rows, which `write_page` wrote, shows the rows that `decode` reads out
+-- of what was written.
 abbrev pub WrittenShows : Type 0
 WrittenShows =
     (one : Bool) (columns stride rows : ℕ) (bitmap changes ends : List ℕ) (r : Answer) (changes′ ends′ : List ℕ)
@@ -84,17 +90,21 @@ WrittenShows =
 -- rows that are painted are read back, given room for them
 abbrev pub PaintedReadsBack : Type 0
 PaintedReadsBack =
-    (one : Bool) (columns stride : ℕ) (changes ends out : List ℕ) (r : Answer) (out′ : List ℕ) → Painting one columns stride changes ends out r out′ → r .number ≡ complete
-    → (store places : List ℕ) (s : Answer) (store′ places′ : List ℕ) → entries (rowsIn 0 changes ends) ≤ length store → length ends ≤ length places
+    (one : Bool) (columns stride : ℕ) (changes ends out : List ℕ) (r : Answer) (out′ : List ℕ) → Painting one columns stride changes ends
+    out r out′ → r .number ≡ complete
+    → (store places : List ℕ) (s : Answer) (store′ places′ : List ℕ) → entries (rowsIn 0 changes ends) ≤ length store → length ends ≤
+    length places
     → Unpainting one columns stride (length ends) out′ store places s store′ places′
     → (s .number ≡ complete) × (rowsIn 0 store′ (take (length ends) places′) ≡ rowsIn 0 changes ends)
 
--- and a bitmap that is read is painted again, in either choice of black and with any stride: each bit inside the width stands for the same pixel
+-- and a bitmap that is read is painted again, in either choice of black and with any stride: each bit inside the width stands for the
+-- same pixel
 abbrev pub ReadPaintsBack : Type 0
 ReadPaintsBack =
     (one : Bool) (columns stride rows : ℕ) (bytes changes ends : List ℕ) (r : Answer) (changes′ ends′ : List ℕ)
     → Unpainting one columns stride rows bytes changes ends r changes′ ends′ → r .number ≡ complete
-    → (other : Bool) (step : ℕ) (out : List ℕ) (s : Answer) (out′ : List ℕ) → Painting other columns step changes′ (take rows ends′) out s out′ → s .number ≡ complete
+    → (other : Bool) (step : ℕ) (out : List ℕ) (s : Answer) (out′ : List ℕ) → Painting other columns step changes′ (take rows ends′) out s
+    out′ → s .number ≡ complete
     → (y x : ℕ) → y < rows → x < columns → pixelsAt other out′ (y * step) x ≡ pixelsAt one bytes (y * stride) x
 
 -- ---- Pinned down

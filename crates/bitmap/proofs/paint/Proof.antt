@@ -20,7 +20,8 @@ refusal-requires c κs = search needs
 returns : tie.Need-returns
 returns c =
     let a = c .before .before .before .before .before .before in
-    paint-refused (a .args .one) (a .args .columns) (a .args .stride) (now (a .args .changes)) (now (a .args .ends)) (now (a .args .out)) (c .before .before .refused .ensures) (c .before .if1 .taken) (c .refusal .ensures)
+    paint-refused (a .args .one) (a .args .columns) (a .args .stride) (now (a .args .changes)) (now (a .args .ends)) (now (a .args .out))
+    (c .before .before .refused .ensures) (c .before .if1 .taken) (c .refusal .ensures)
 
 ascend-requires : tie.Need-ascend-requires
 ascend-requires c κs = search needs
@@ -32,7 +33,8 @@ returns-2 : tie.Need-returns-2
 returns-2 c =
     let a = c .before .before .before .before .before .before .before .before in
     let zero = sym (c .before .before .before .if1 .left) ∙ c .before .before .before .before .refused .ensures in
-    paint-bad (a .args .one) (a .args .columns) (a .args .stride) (now (a .args .changes)) (now (a .args .ends)) (now (a .args .out)) zero (sym (c .before .before .ascend .ensures) ∙ not-true _ (c .before .if2 .taken)) (c .refusal2 .ensures)
+    paint-bad (a .args .one) (a .args .columns) (a .args .stride) (now (a .args .changes)) (now (a .args .ends)) (now (a .args .out)) zero
+    (sym (c .before .before .ascend .ensures) ∙ not-true _ (c .before .if2 .taken)) (c .refusal2 .ensures)
 
 end-of-requires : tie.Need-end-of-requires
 end-of-requires c κs =
@@ -44,7 +46,8 @@ rows-requires : tie.Need-rows-requires
 rows-requires c κs =
     let a = c .before .before .before .before .before .before .before .before .before in
     let zero = sym (c .before .before .before .before .if1 .left) ∙ c .before .before .before .before .before .refused .ensures in
-    sheets (a .args .one) (a .args .columns) (a .args .stride) (now (a .args .changes)) (now (a .args .ends)) (now (a .args .out)) zero (sym (c .before .before .before .ascend .ensures) ∙ not-false _ (c .before .before .if2 .left)) (omega (arith, a .fits .columns))
+    sheets (a .args .one) (a .args .columns) (a .args .stride) (now (a .args .changes)) (now (a .args .ends)) (now (a .args .out)) zero
+    (sym (c .before .before .before .ascend .ensures) ∙ not-false _ (c .before .before .if2 .left)) (omega (arith, a .fits .columns))
 
 done-requires : tie.Need-done-requires
 done-requires c κs = search needs
@@ -55,8 +58,13 @@ same-length c = search needs
 returns-3 : tie.Need-returns-3
 returns-3 c =
     let a = c .before .before .before .before .before .before .before .before .before .before .before .before .before in
-    let zero = sym (c .before .before .before .before .before .before .before .before .if1 .left) ∙ c .before .before .before .before .before .before .before .before .before .refused .ensures in
-    paint-done (a .args .one) (a .args .columns) (a .args .stride) (now (a .args .changes)) (now (a .args .ends)) (now (a .args .out)) zero (sym (c .before .before .before .before .before .before .before .ascend .ensures) ∙ not-false _ (c .before .before .before .before .before .before .if2 .left)) (c .done .ensures ∙ ap (answerFor 0) (c .before .before .before .before .before .end-of .ensures)) (c .before .before .before .rows .ensures)
+    let zero = sym (c .before .before .before .before .before .before .before .before .if1 .left) ∙ c .before .before .before .before
+    .before .before .before .before .before .refused .ensures in
+    paint-done (a .args .one) (a .args .columns) (a .args .stride) (now (a .args .changes)) (now (a .args .ends)) (now (a .args .out))
+    zero
+    (sym (c .before .before .before .before .before .before .before .ascend .ensures) ∙ not-false _ (c .before .before .before .before .before .before .if2 .left))
+    (c .done .ensures ∙ ap (answerFor 0) (c .before .before .before .before .before .end-of .ensures))
+    (c .before .before .before .rows .ensures)
 
 pub paint-spec : {M : Type 1} → statement M
 paint-spec =

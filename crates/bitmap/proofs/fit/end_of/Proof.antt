@@ -24,7 +24,8 @@ row-size-requires c κs = search needs
 add-result : tie.Need-add-result
 add-result c =
     let a = c .before .before .args in
-    record { fits = omega (arith, reach-some (a .width) (a .stride) (a .rows) (c .before .if1 .left), c .before .before .pre, c .before .before .fits .size, c .row-size .ensures) }
+    record
+    { fits = omega (arith, reach-some (a .width) (a .stride) (a .rows) (c .before .if1 .left), c .before .before .pre, c .before .before .fits .size, c .row-size .ensures) }
 
 returns-2 : tie.Need-returns-2
 returns-2 c =

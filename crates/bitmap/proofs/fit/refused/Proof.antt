@@ -41,7 +41,8 @@ returns-5 c =
     let few = c .before .before .before .before .if2 .left in
     let short = c .before .before .before .if3 .left in
     let size = c .before .before .row-size .ensures in
-    tests-passed (a .width) (a .stride) (a .rows) (a .size) some few short (omega (arith, size, c .before .if4 .left)) (rw (c .if5 .taken) (omega arith))
+    tests-passed (a .width) (a .stride) (a .rows) (a .size) some few short (omega (arith, size, c .before .if4 .left))
+    (rw (c .if5 .taken) (omega arith))
 
 returns-6 : tie.Need-returns-6
 returns-6 c =

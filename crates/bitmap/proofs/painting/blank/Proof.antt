@@ -42,7 +42,8 @@ loop-again c =
     let size = length-set (l .loop .out) (l .loop .i) (l .before .white-byte .result) in (
       omega (arith, size, c .loop-test .taken),
       size ∙ l .loop .inv .1,
-      blank-next (a .args .one) (a .args .width) (l .loop .i) (l .before .white-byte .result) (l .loop .out) (l .before .white-byte .ensures) (c .loop-test .taken)
+      blank-next (a .args .one) (a .args .width) (l .loop .i) (l .before .white-byte .result) (l .loop .out)
+          (l .before .white-byte .ensures) (c .loop-test .taken)
           (l .loop .inv .2),
     )
 
@@ -54,7 +55,8 @@ returns c =
     let l = c .before in
     let a = l .before .before .before in
     let size = l .loop .inv .1 ∙ a .pre in
-    bytes-all (a .args .one) (a .args .width) [] (l .loop .i) size (omega (arith, size, l .loop .inv .0, c .loop-test .left)) (l .loop .inv .2)
+    bytes-all (a .args .one) (a .args .width) [] (l .loop .i) size (omega (arith, size, l .loop .inv .0, c .loop-test .left))
+    (l .loop .inv .2)
 
 pub blank-spec : {M : Type 1} → statement M
 blank-spec =

@@ -29,7 +29,8 @@ turned-requires c κs =
 returns-3 : tie.Need-returns-3
 returns-3 c =
     let a = c .before .before .before .before .before .before in
-    c .turned .ensures ∙ last-black (c .before .before .before .before .word .ensures) (a .pre .1) (a .pre .2) (not-false _ (c .before .before .if1 .left)) (omega (arith, c .before .if2 .left))
+    c .turned .ensures ∙ last-black (c .before .before .before .before .word .ensures) (a .pre .1) (a .pre .2)
+    (not-false _ (c .before .before .if1 .left)) (omega (arith, c .before .if2 .left))
 
 pub last-spec : {M : Type 1} → statement M
 last-spec = tie.close (tie.spec word-requires sub-used returns returns-2 turned-requires returns-3)

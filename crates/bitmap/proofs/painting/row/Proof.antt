@@ -14,7 +14,9 @@ use Rattle.bitmap.proofs.painting.row.Statement.{statement}
 use Rattle.bitmap.proofs.painting.row.Tie as tie
 
 abbrev Inv-loop : tie.InvT-loop
-Inv-loop one width row out₀ next₀ black₀ i₀ out next black i = Standing width row next black (8 * i) × (8 * i < width) × (length out ≡ length out₀) × (take i out ≡ bytesFrom (shownIn one width row) i 0)
+Inv-loop one width row out₀ next₀ black₀ i₀ out next black i =
+    Standing width row next black (8 * i) × (8 * i < width) × (length out ≡ length out₀) ×
+    (take i out ≡ bytesFrom (shownIn one width row) i 0)
 
 abbrev μ-loop : tie.MeasureT-loop
 μ-loop one width row out₀ next₀ black₀ i₀ out next black i = length out₀ - i
@@ -63,11 +65,13 @@ loop-again c =
     let w = c .before .before .before .before .before .word .ensures in
     let e : 8 * l .loop .i + 64 ≡ 8 * (l .loop .i + 8) = omega arith in
     let i = l .loop .i in
-    let bits = shown-word (a .args .one) (a .args .width) (now (a .args .row)) (8 * i) (word-inside w (omega (arith, l .loop .inv .2, a .pre .size, t))) (c .before .before .before .shown .ensures) in (
+    let bits = shown-word (a .args .one) (a .args .width) (now (a .args .row)) (8 * i)
+    (word-inside w (omega (arith, l .loop .inv .2, a .pre .size, t))) (c .before .before .before .shown .ensures) in (
       rw (← e) (w .standing),
       omega (arith, l .loop .inv .2, a .pre .size, t),
       c .before .before .eight .ensures .size ∙ l .loop .inv .2,
-      bytes-next (a .args .one) (a .args .width) (now (a .args .row)) 8 i _ (omega arith) bits (c .before .before .eight .ensures) (l .loop .inv .3),
+      bytes-next (a .args .one) (a .args .width) (now (a .args .row)) 8 i _ (omega arith) bits (c .before .before .eight .ensures)
+          (l .loop .inv .3),
     )
 
 mul-last : tie.Need-mul-last Inv-loop μ-loop
@@ -100,9 +104,11 @@ returns c =
     let l = c .before .before .before .before .before .before .before .before in
     let a = c .before .before .before .before .before .before .before .before .before .before .before in
     let i = l .loop .i in
-    let bits = shown-word (a .args .one) (a .args .width) (now (a .args .row)) (8 * i) (c .before .before .before .before .before .before .last .ensures) (c .before .before .before .before .before .shown2 .ensures) in
+    let bits = shown-word (a .args .one) (a .args .width) (now (a .args .row)) (8 * i)
+    (c .before .before .before .before .before .before .last .ensures) (c .before .before .before .before .before .shown2 .ensures) in
     let size = l .loop .inv .2 ∙ a .pre .size in
-    bytes-all (a .args .one) (a .args .width) (now (a .args .row)) (i + 8) (c .before .before .eight2 .ensures .size ∙ size) (omega (arith, size, c .before .before .before .before .if1 .taken))
+    bytes-all (a .args .one) (a .args .width) (now (a .args .row)) (i + 8) (c .before .before .eight2 .ensures .size ∙ size)
+    (omega (arith, size, c .before .before .before .before .if1 .taken))
     (bytes-next (a .args .one) (a .args .width) (now (a .args .row)) 8 i _ (omega arith) bits (c .before .before .eight2 .ensures) (l .loop .inv .3))
 
 rest-requires : tie.Need-rest-requires Inv-loop μ-loop
@@ -119,10 +125,12 @@ returns-2 c =
     let l = c .before .before .before .before .before .before .before .before in
     let a = c .before .before .before .before .before .before .before .before .before .before .before in
     let i = l .loop .i in
-    let bits = shown-word (a .args .one) (a .args .width) (now (a .args .row)) (8 * i) (c .before .before .before .before .before .before .last .ensures) (c .before .before .before .before .before .shown2 .ensures) in
+    let bits = shown-word (a .args .one) (a .args .width) (now (a .args .row)) (8 * i)
+    (c .before .before .before .before .before .before .last .ensures) (c .before .before .before .before .before .shown2 .ensures) in
     let size = l .loop .inv .2 ∙ a .pre .size in
     let n = length (l .loop .out) - i in
-    bytes-all (a .args .one) (a .args .width) (now (a .args .row)) (i + n) (c .before .before .rest .ensures .size ∙ size) (omega (arith, size, l .loop .inv .1))
+    bytes-all (a .args .one) (a .args .width) (now (a .args .row)) (i + n) (c .before .before .rest .ensures .size ∙ size)
+    (omega (arith, size, l .loop .inv .1))
     (bytes-next (a .args .one) (a .args .width) (now (a .args .row)) n i _ (omega (arith, c .before .before .before .before .before .before .before .loop-test .left)) bits (c .before .before .rest .ensures) (l .loop .inv .3))
 
 pub row-spec : {M : Type 1} → statement M

@@ -14,7 +14,8 @@ same-length c = search needs
 returns : tie.Need-returns
 returns c =
     let a = c .before .before .before .before .before .before .before in
-    no-changes (a .args .one) (a .args .width) (now (a .args .changes)) (c .before .before .before .before .if1 .taken) (c .before .before .blank .ensures)
+    no-changes (a .args .one) (a .args .width) (now (a .args .changes)) (c .before .before .before .before .if1 .taken)
+    (c .before .before .blank .ensures)
 
 row-requires : tie.Need-row-requires
 row-requires c κs = search needs

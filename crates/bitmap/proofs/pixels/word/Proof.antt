@@ -59,7 +59,8 @@ loop-less c = omega arith
 loop-again : tie.Need-loop-again Inv-loop μ-loop
 loop-again c =
     let l = c .before .before .before .before in
-    rw (add-one (l .loop .next)) (taken-next (l .loop .inv) (c .before .before .before .loop-test .taken) (c .before .if1 .left) (c .turned .ensures))
+    rw (add-one (l .loop .next))
+    (taken-next (l .loop .inv) (c .before .before .before .loop-test .taken) (c .before .if1 .left) (c .turned .ensures))
 
 returns-2 : tie.Need-returns-2 Inv-loop μ-loop
 returns-2 c = has-all (c .before .loop .inv) (c .loop-test .left)

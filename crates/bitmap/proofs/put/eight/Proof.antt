@@ -59,7 +59,8 @@ slice-write-out-4 c =
     let o1 : List ℕ = set o0 i (c .before .before .before .byte .result) in
     let o2 : List ℕ = set o1 (i + 1) (c .before .before .byte2 .result) in
     let h : i + 3 < length o0 = omega (arith, a .pre) in
-    lt-length-set o2 (i + 2) (c .before .byte3 .result) (lt-length-set o1 (i + 1) (c .before .before .byte2 .result) (lt-length-set o0 i (c .before .before .before .byte .result) h))
+    lt-length-set o2 (i + 2) (c .before .byte3 .result)
+    (lt-length-set o1 (i + 1) (c .before .before .byte2 .result) (lt-length-set o0 i (c .before .before .before .byte .result) h))
 
 byte-requires-5 : tie.Need-byte-requires-5
 byte-requires-5 c κs = search needs
@@ -76,7 +77,8 @@ slice-write-out-5 c =
     let o2 : List ℕ = set o1 (i + 1) (c .before .before .before .byte2 .result) in
     let o3 : List ℕ = set o2 (i + 2) (c .before .before .byte3 .result) in
     let h : i + 4 < length o0 = omega (arith, a .pre) in
-    lt-length-set o3 (i + 3) (c .before .byte4 .result) (lt-length-set o2 (i + 2) (c .before .before .byte3 .result) (lt-length-set o1 (i + 1) (c .before .before .before .byte2 .result) (lt-length-set o0 i (c .before .before .before .before .byte .result) h)))
+    lt-length-set o3 (i + 3) (c .before .byte4 .result)
+    (lt-length-set o2 (i + 2) (c .before .before .byte3 .result) (lt-length-set o1 (i + 1) (c .before .before .before .byte2 .result) (lt-length-set o0 i (c .before .before .before .before .byte .result) h)))
 
 byte-requires-6 : tie.Need-byte-requires-6
 byte-requires-6 c κs = search needs
@@ -94,7 +96,8 @@ slice-write-out-6 c =
     let o3 : List ℕ = set o2 (i + 2) (c .before .before .before .byte3 .result) in
     let o4 : List ℕ = set o3 (i + 3) (c .before .before .byte4 .result) in
     let h : i + 5 < length o0 = omega (arith, a .pre) in
-    lt-length-set o4 (i + 4) (c .before .byte5 .result) (lt-length-set o3 (i + 3) (c .before .before .byte4 .result) (lt-length-set o2 (i + 2) (c .before .before .before .byte3 .result) (lt-length-set o1 (i + 1) (c .before .before .before .before .byte2 .result) (lt-length-set o0 i (c .before .before .before .before .before .byte .result) h))))
+    lt-length-set o4 (i + 4) (c .before .byte5 .result)
+    (lt-length-set o3 (i + 3) (c .before .before .byte4 .result) (lt-length-set o2 (i + 2) (c .before .before .before .byte3 .result) (lt-length-set o1 (i + 1) (c .before .before .before .before .byte2 .result) (lt-length-set o0 i (c .before .before .before .before .before .byte .result) h))))
 
 byte-requires-7 : tie.Need-byte-requires-7
 byte-requires-7 c κs = search needs
@@ -113,7 +116,8 @@ slice-write-out-7 c =
     let o4 : List ℕ = set o3 (i + 3) (c .before .before .before .byte4 .result) in
     let o5 : List ℕ = set o4 (i + 4) (c .before .before .byte5 .result) in
     let h : i + 6 < length o0 = omega (arith, a .pre) in
-    lt-length-set o5 (i + 5) (c .before .byte6 .result) (lt-length-set o4 (i + 4) (c .before .before .byte5 .result) (lt-length-set o3 (i + 3) (c .before .before .before .byte4 .result) (lt-length-set o2 (i + 2) (c .before .before .before .before .byte3 .result) (lt-length-set o1 (i + 1) (c .before .before .before .before .before .byte2 .result) (lt-length-set o0 i (c .before .before .before .before .before .before .byte .result) h)))))
+    lt-length-set o5 (i + 5) (c .before .byte6 .result)
+    (lt-length-set o4 (i + 4) (c .before .before .byte5 .result) (lt-length-set o3 (i + 3) (c .before .before .before .byte4 .result) (lt-length-set o2 (i + 2) (c .before .before .before .before .byte3 .result) (lt-length-set o1 (i + 1) (c .before .before .before .before .before .byte2 .result) (lt-length-set o0 i (c .before .before .before .before .before .before .byte .result) h)))))
 
 byte-requires-8 : tie.Need-byte-requires-8
 byte-requires-8 c κs = search needs
@@ -133,7 +137,8 @@ slice-write-out-8 c =
     let o5 : List ℕ = set o4 (i + 4) (c .before .before .before .byte5 .result) in
     let o6 : List ℕ = set o5 (i + 5) (c .before .before .byte6 .result) in
     let h : i + 7 < length o0 = omega (arith, a .pre) in
-    lt-length-set o6 (i + 6) (c .before .byte7 .result) (lt-length-set o5 (i + 5) (c .before .before .byte6 .result) (lt-length-set o4 (i + 4) (c .before .before .before .byte5 .result) (lt-length-set o3 (i + 3) (c .before .before .before .before .byte4 .result) (lt-length-set o2 (i + 2) (c .before .before .before .before .before .byte3 .result) (lt-length-set o1 (i + 1) (c .before .before .before .before .before .before .byte2 .result) (lt-length-set o0 i (c .before .before .before .before .before .before .before .byte .result) h))))))
+    lt-length-set o6 (i + 6) (c .before .byte7 .result)
+    (lt-length-set o5 (i + 5) (c .before .before .byte6 .result) (lt-length-set o4 (i + 4) (c .before .before .before .byte5 .result) (lt-length-set o3 (i + 3) (c .before .before .before .before .byte4 .result) (lt-length-set o2 (i + 2) (c .before .before .before .before .before .byte3 .result) (lt-length-set o1 (i + 1) (c .before .before .before .before .before .before .byte2 .result) (lt-length-set o0 i (c .before .before .before .before .before .before .before .byte .result) h))))))
 
 same-length : tie.Need-same-length
 same-length c = search needs

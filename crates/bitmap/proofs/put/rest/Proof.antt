@@ -54,7 +54,8 @@ returns : tie.Need-returns Inv-loop μ-loop
 returns c =
     let l = c .before in
     let a = l .before .before in
-    let e : length (now (a .args .out)) - a .args .i ≡ l .loop .j = omega (arith, l .loop .inv .0, l .loop .inv .1 .size, c .loop-test .left) in
+    let e : length (now (a .args .out)) - a .args .i ≡ l .loop .j = omega
+    (arith, l .loop .inv .0, l .loop .inv .1 .size, c .loop-test .left) in
     rw e (l .loop .inv .1)
 
 pub rest-spec : {M : Type 1} → statement M

@@ -46,7 +46,8 @@ returns-2 : tie.Need-returns-2
 returns-2 c =
     let k = c .before .before .before in
     let a = k .before .args in
-    halves (now (a .src)) (λ i. omega (arith, k .shared-slice-known .given i)) (a .at) (c .before .before .peek .ensures) (c .peek2 .ensures)
+    halves (now (a .src)) (λ i. omega (arith, k .shared-slice-known .given i)) (a .at) (c .before .before .peek .ensures)
+    (c .peek2 .ensures)
 
 pub near-end-spec : {M : Type 1} → statement M
 near-end-spec =

@@ -22,7 +22,8 @@ mul-row : tie.Need-mul-row Inv-loop μ-loop
 mul-row c =
     let l = c .before in
     let a = c .before .before .before .before .before in
-    let r = row-asks (a .args .one) (a .args .width) (a .args .stride) (now (a .args .src)) (a .args .count) (a .args .write) (now (a .args .changes)) (now (a .args .ends)) (a .pre) (l .loop .inv) (c .loop-test .taken) in
+    let r = row-asks (a .args .one) (a .args .width) (a .args .stride) (now (a .args .src)) (a .args .count) (a .args .write)
+    (now (a .args .changes)) (now (a .args .ends)) (a .pre) (l .loop .inv) (c .loop-test .taken) in
     record { fits = omega (arith, r .inside, r .small) }
 
 row-requires : tie.Need-row-requires Inv-loop μ-loop
@@ -36,7 +37,8 @@ note-end-requires : tie.Need-note-end-requires Inv-loop μ-loop
 note-end-requires c κs =
     let l = c .before .before .before .before .before .before in
     let a = c .before .before .before .before .before .before .before .before .before .before in
-    end-roomy (a .args .one) (a .args .width) (a .args .stride) (now (a .args .src)) (a .args .count) (a .args .write) (now (a .args .changes)) (now (a .args .ends)) (a .pre) (l .loop .inv) (c .before .before .before .before .before .loop-test .taken)
+    end-roomy (a .args .one) (a .args .width) (a .args .stride) (now (a .args .src)) (a .args .count) (a .args .write)
+    (now (a .args .changes)) (now (a .args .ends)) (a .pre) (l .loop .inv) (c .before .before .before .before .before .loop-test .taken)
 
 add-k : tie.Need-add-k Inv-loop μ-loop
 add-k c =
@@ -51,25 +53,31 @@ loop-again : tie.Need-loop-again Inv-loop μ-loop
 loop-again c =
     let l = c .before .before .before .before .before .before .before .before .before in
     let a = c .before .before .before .before .before .before .before .before .before .before .before .before .before in
-    store-next (a .args .one) (a .args .width) (a .args .stride) (now (a .args .src)) (a .args .count) (a .args .write) (now (a .args .changes)) (now (a .args .ends)) (a .pre) (l .loop .inv) (c .before .before .before .before .before .before .before .before .loop-test .taken) (c .before .before .before .before .before .before .row .ensures) (c .before .before .note-end .ensures)
+    store-next (a .args .one) (a .args .width) (a .args .stride) (now (a .args .src)) (a .args .count) (a .args .write)
+    (now (a .args .changes)) (now (a .args .ends)) (a .pre) (l .loop .inv)
+    (c .before .before .before .before .before .before .before .before .loop-test .taken)
+    (c .before .before .before .before .before .before .row .ensures) (c .before .before .note-end .ensures)
 
 same-length : tie.Need-same-length Inv-loop μ-loop
 same-length c =
     let l = c .before in
     let a = c .before .before .before .before .before in
-    changes-length (a .args .one) (a .args .width) (a .args .stride) (now (a .args .src)) (a .args .count) (a .args .write) (now (a .args .changes)) (now (a .args .ends)) (a .pre) (l .loop .inv)
+    changes-length (a .args .one) (a .args .width) (a .args .stride) (now (a .args .src)) (a .args .count) (a .args .write)
+    (now (a .args .changes)) (now (a .args .ends)) (a .pre) (l .loop .inv)
 
 same-length-2 : tie.Need-same-length-2 Inv-loop μ-loop
 same-length-2 c =
     let l = c .before in
     let a = c .before .before .before .before .before in
-    ends-length (a .args .one) (a .args .width) (a .args .stride) (now (a .args .src)) (a .args .count) (a .args .write) (now (a .args .changes)) (now (a .args .ends)) (a .pre) (l .loop .inv)
+    ends-length (a .args .one) (a .args .width) (a .args .stride) (now (a .args .src)) (a .args .count) (a .args .write)
+    (now (a .args .changes)) (now (a .args .ends)) (a .pre) (l .loop .inv)
 
 returns : tie.Need-returns Inv-loop μ-loop
 returns c =
     let l = c .before in
     let a = c .before .before .before .before .before in
-    store-all (a .args .one) (a .args .width) (a .args .stride) (now (a .args .src)) (a .args .count) (a .args .write) (now (a .args .changes)) (now (a .args .ends)) (a .pre) (l .loop .inv) (c .loop-test .left)
+    store-all (a .args .one) (a .args .width) (a .args .stride) (now (a .args .src)) (a .args .count) (a .args .write)
+    (now (a .args .changes)) (now (a .args .ends)) (a .pre) (l .loop .inv) (c .loop-test .left)
 
 pub rows-spec : {M : Type 1} → statement M
 rows-spec =

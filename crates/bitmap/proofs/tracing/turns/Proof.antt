@@ -45,7 +45,8 @@ loop-holds : tie.Need-loop-holds Inv-loop μ-loop
 loop-holds c =
     let a = c .before .before .before .before .before in
     let t = a .pre .0 in
-    scan-start (a .args .one) (a .args .ink) (now (a .args .src)) (a .args .at) (a .args .width) (a .args .from) (a .args .first) (a .args .write)
+    scan-start (a .args .one) (a .args .ink) (now (a .args .src)) (a .args .at) (a .args .width) (a .args .from) (a .args .first)
+    (a .args .write)
     (now (a .args .changes)) (t .left) (t .shade) (c .before .before .load .ensures) (c .before .shown .ensures) (c .shown2 .ensures)
 
 cast-z : tie.Need-cast-z Inv-loop μ-loop
@@ -58,7 +59,8 @@ add-x : tie.Need-add-x Inv-loop μ-loop
 add-x c =
     let l = c .before in
     let a = c .before .before .before .before .before .before .before in
-    record { fits = omega (arith, zeros-few (l .loop .inv) (Count.leadingZeros 64 (l .loop .rest)) refl (c .loop-test .taken), a .pre .0 .left, a .pre .0 .few) }
+    record
+    { fits = omega (arith, zeros-few (l .loop .inv) (Count.leadingZeros 64 (l .loop .rest)) refl (c .loop-test .taken), a .pre .0 .left, a .pre .0 .few) }
 
 same-length : tie.Need-same-length Inv-loop μ-loop
 same-length c =
@@ -82,7 +84,8 @@ note-requires : tie.Need-note-requires Inv-loop μ-loop
 note-requires c κs =
     let l = c .before .before .before in
     let a = c .before .before .before .before .before .before .before .before .before in
-    scan-room (l .loop .inv) (Count.leadingZeros 64 (l .loop .rest)) refl (c .before .before .loop-test .taken) (c .before .if1 .left) (a .pre .1)
+    scan-room (l .loop .inv) (Count.leadingZeros 64 (l .loop .rest)) refl (c .before .before .loop-test .taken) (c .before .if1 .left)
+    (a .pre .1)
 
 add-next : tie.Need-add-next Inv-loop μ-loop
 add-next c =
@@ -100,22 +103,29 @@ sub-rest : tie.Need-sub-rest Inv-loop μ-loop
 sub-rest c =
     let l = c .before .before .before .before .before .before in
     let a = c .before .before .before .before .before .before .before .before .before .before .before .before in
-    let z = zeros-few (l .loop .inv) (Count.leadingZeros 64 (l .loop .rest)) refl (c .before .before .before .before .before .loop-test .taken) in
-    rw (ones-shifted (Count.leadingZeros 64 (l .loop .rest)) z) (word-falls (l .loop .inv) (Count.leadingZeros 64 (l .loop .rest)) refl (c .before .before .before .before .before .loop-test .taken) (c .before .before .before .before .if1 .left))
+    let z = zeros-few (l .loop .inv) (Count.leadingZeros 64 (l .loop .rest)) refl
+    (c .before .before .before .before .before .loop-test .taken) in
+    rw (ones-shifted (Count.leadingZeros 64 (l .loop .rest)) z)
+    (word-falls (l .loop .inv) (Count.leadingZeros 64 (l .loop .rest)) refl (c .before .before .before .before .before .loop-test .taken) (c .before .before .before .before .if1 .left))
 
 loop-less : tie.Need-loop-less Inv-loop μ-loop
 loop-less c =
     let l = c .before .before .before .before .before .before in
     let a = c .before .before .before .before .before .before .before .before .before .before .before .before in
-    let z = zeros-few (l .loop .inv) (Count.leadingZeros 64 (l .loop .rest)) refl (c .before .before .before .before .before .loop-test .taken) in
-    rw (ones-shifted (Count.leadingZeros 64 (l .loop .rest)) z) (word-less (l .loop .inv) (Count.leadingZeros 64 (l .loop .rest)) refl (c .before .before .before .before .before .loop-test .taken))
+    let z = zeros-few (l .loop .inv) (Count.leadingZeros 64 (l .loop .rest)) refl
+    (c .before .before .before .before .before .loop-test .taken) in
+    rw (ones-shifted (Count.leadingZeros 64 (l .loop .rest)) z)
+    (word-less (l .loop .inv) (Count.leadingZeros 64 (l .loop .rest)) refl (c .before .before .before .before .before .loop-test .taken))
 
 loop-again : tie.Need-loop-again Inv-loop μ-loop
 loop-again c =
     let l = c .before .before .before .before .before .before in
     let a = c .before .before .before .before .before .before .before .before .before .before .before .before in
-    let z = zeros-few (l .loop .inv) (Count.leadingZeros 64 (l .loop .rest)) refl (c .before .before .before .before .before .loop-test .taken) in
-    scan-next (l .loop .inv) (Count.leadingZeros 64 (l .loop .rest)) refl (c .before .before .before .before .before .loop-test .taken) (c .before .before .before .before .if1 .left) (a .pre .1) (c .before .before .note .ensures) (ap (λ n. n - l .loop .rest) (ones-shifted (Count.leadingZeros 64 (l .loop .rest)) z))
+    let z = zeros-few (l .loop .inv) (Count.leadingZeros 64 (l .loop .rest)) refl
+    (c .before .before .before .before .before .loop-test .taken) in
+    scan-next (l .loop .inv) (Count.leadingZeros 64 (l .loop .rest)) refl (c .before .before .before .before .before .loop-test .taken)
+    (c .before .before .before .before .if1 .left) (a .pre .1) (c .before .before .note .ensures)
+    (ap (λ n. n - l .loop .rest) (ones-shifted (Count.leadingZeros 64 (l .loop .rest)) z))
 
 same-length-2 : tie.Need-same-length-2 Inv-loop μ-loop
 same-length-2 c =
