@@ -1,6 +1,7 @@
 /* Reads a Group 4 page from C, with every function of ccitt.h: a row at a time, showing one of its rows; whole; and a
-   little at a time. Writes the line of that row and the page in each of the encodings, reads them again, counts the
-   heads on it, and asks for the verdict on it, where it is one of the booking forms of this folder.
+   little at a time. Writes the line of that row and the page in each of the encodings, reads them again, paints it and
+   reads its pixels, counts the heads on it, and asks for the verdict on it, where it is one of the booking forms of this
+   folder.
 
        cc -I include examples/page.c target/staticlib/libexports.a -o target/page
        target/page examples/forty.g4 1728 213 */
@@ -117,6 +118,18 @@ static void write_again(const char *name, ccitt_layout layout, ccitt_settings ho
            (unsigned long long)a.bytes, whole ? which_rows() : "another page");
 }
 
+/* As packed pixels, where black is 1, and read again from them. */
+static void paint(uint32_t columns) {
+    static uint8_t pixels[1 << 20];
+    ccitt_bitmap bitmap = {pixels, sizeof pixels, CCITT_STRIDE(columns), true};
+    ccitt_answer a = ccitt_to_bitmap(ccitt_kept(columns, room_of(&page), page.answer), bitmap);
+    unsigned long black = 0;
+    for (uint64_t i = 0; i < 8 * a.bytes; i++) black += pixels[i / 8] >> (7 - i % 8) & 1;
+    again.answer = ccitt_from_bitmap(bitmap, columns, page.answer.rows, room_of(&again));
+    printf("painted: answer %u, %llu bytes, %lu pixels black, read again as %s\n", (unsigned)a.number,
+           (unsigned long long)a.bytes, black, which_rows());
+}
+
 /* The edges of the boxes of a booking form (README.md): left and top; each is 22 pixels wide and 20 high. */
 static uint32_t left_of(uint32_t column) { return column ? 702 : 202; }
 static uint32_t top_of(uint32_t digit) { return 78 + 31 * digit; }
@@ -188,6 +201,7 @@ int main(int count, char **words) {
     write_again("Group 4", group4, how);
     write_again("Group 3 1D", filled, how);
     write_again("Group 3 2D", mixed, how);
+    paint(columns);
     count_heads(columns);
     judge(length, how);
 

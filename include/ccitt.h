@@ -220,6 +220,17 @@ typedef struct {
     uint32_t k;
 } ccitt_layout;
 
+/* Packed rows: pixel i of row r is bit 7 - i % 8 of byte r x stride + i / 8, so that the most significant bit stands for
+   the leftmost pixel. stride: the bytes from one row to the next, CCITT_STRIDE(columns) or more. */
+#define CCITT_STRIDE(columns) (((size_t)(columns) + 7) / 8)
+
+typedef struct {
+    uint8_t *bytes;
+    size_t bytes_len;
+    uint64_t stride;
+    bool black_is_one; /* else white is */
+} ccitt_bitmap;
+
 /* The boxes of a form: for each digit from 0 to 9 its tens box and its units box, each as left, right, top and bottom
    in pixels, right and bottom not included. */
 typedef struct {
@@ -278,6 +289,10 @@ void ccitt_write_group3_1d(ccitt_answer *answer, uint32_t columns, const uint32_
     const uint64_t *ends, size_t ends_len, bool eols, uint32_t fill, uint8_t *out, size_t out_len);
 void ccitt_write_group3_2d(ccitt_answer *answer, uint32_t columns, const uint32_t *changes, size_t changes_len,
     const uint64_t *ends, size_t ends_len, uint32_t k, uint8_t *out, size_t out_len);
+void ccitt_paint(ccitt_answer *answer, uint32_t columns, const uint32_t *changes, size_t changes_len,
+    const uint64_t *ends, size_t ends_len, bool black_is_one, uint64_t stride, uint8_t *out, size_t out_len);
+void ccitt_unpaint(ccitt_answer *answer, uint32_t columns, uint64_t rows, bool black_is_one, uint64_t stride,
+    const uint8_t *src, size_t src_len, uint32_t *changes, size_t changes_len, uint64_t *ends, size_t ends_len);
 void ccitt_verdict(ccitt_verdict_answer *answer, const uint8_t *form, size_t form_len, const uint8_t *src,
     size_t src_len, uint32_t how, uint32_t encoding, uint32_t columns, uint32_t rows, bool end_of_block,
     bool end_of_line, bool rows_are_byte_aligned, bool plain, uint32_t *boxes, size_t boxes_len, uint32_t *places,
@@ -502,6 +517,26 @@ static inline ccitt_answer ccitt_encode(ccitt_rows rows, ccitt_layout layout, ui
     default:
         return ccitt_refused(CCITT_BAD_NUMBER);
     }
+}
+
+/* Paints rows into packed rows, from byte 0 on. What is behind the columns in a row's last byte becomes white, and the
+   bytes between it and the next row stay. After 0 `bytes` is the byte behind the last row; a refusal paints nothing.
+   6, 7 as of a page; 10 a stride that is shorter than a row; 9 rows that pass the bitmap; 8 rows that are none. */
+static inline ccitt_answer ccitt_to_bitmap(ccitt_rows rows, ccitt_bitmap to) {
+    ccitt_answer answer;
+    ccitt_paint(&answer, rows.columns, rows.changes, rows.changes_len, rows.ends, rows.ends_len, to.black_is_one,
+        to.stride, to.bytes, to.bytes_len);
+    return answer;
+}
+
+/* Reads so many packed rows into a room, whose marks stay as they are. What the bits behind the columns are does not
+   matter. After 0 rows and entries are told, and `bytes` is the byte behind the last row. A refusal stores nothing: 6,
+   7, 10 and 9 as above, 5 fewer row ends than rows, 4 fewer entries than changes. */
+static inline ccitt_answer ccitt_from_bitmap(ccitt_bitmap from, uint32_t columns, uint64_t rows, ccitt_room to) {
+    ccitt_answer answer;
+    ccitt_unpaint(&answer, columns, rows, from.black_is_one, from.stride, from.bytes, from.bytes_len, to.changes,
+        to.changes_len, to.ends, to.ends_len);
+    return answer;
 }
 
 /* The heads on a form: rows with their marks, as a decoder left them. A part of a box outside the page is white. A box

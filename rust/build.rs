@@ -11,7 +11,7 @@ const FILE: &str = "libexports.a";
 const NO_LIBRARY: &str = "none";
 
 /// What is called of it. A library without one of these is older than this package.
-const FUNCTIONS: [&str; 15] = [
+const FUNCTIONS: [&str; 17] = [
     "ccitt_decode_group4",
     "ccitt_decode_group3_1d",
     "ccitt_decode_group3_2d",
@@ -25,6 +25,8 @@ const FUNCTIONS: [&str; 15] = [
     "ccitt_write_page",
     "ccitt_write_group3_1d",
     "ccitt_write_group3_2d",
+    "ccitt_paint",
+    "ccitt_unpaint",
     "ccitt_heads",
     "ccitt_verdict",
 ];

@@ -1,8 +1,9 @@
-//! What the crate has not: marks, the place of a fault, exact reading, proper pages, rows one at a time, a page a little at a time, one line alone, writers, the
-//! heads on a form, and the verdict on a faxed one.
+//! What the crate has not: marks, the place of a fault, exact reading, proper pages, rows one at a time, a page a little at a time, one line alone, writers,
+//! packed pixels, the heads on a form, and the verdict on a faxed one.
 //!
 //! A program that is written for the crate needs nothing of this.
 
+mod bitmap;
 mod check;
 mod fault;
 mod form_fault;
@@ -16,6 +17,7 @@ mod writers;
 
 pub use crate::row::{Mark, Row};
 pub use crate::settings::Settings;
+pub use bitmap::{Ones, from_bitmap, to_bitmap};
 pub use check::{Checked, check};
 pub use fault::Fault;
 pub use form_fault::{BoxColumn, BoxName, FormFault, Missing};

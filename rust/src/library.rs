@@ -155,6 +155,10 @@ unsafe extern "C" {
         eols: bool, fill: u32, out: *mut u8, out_len: usize);
     fn ccitt_write_group3_2d(answer: *mut Answer, columns: u32, changes: *const u32, changes_len: usize, ends: *const u64, ends_len: usize,
         k: u32, out: *mut u8, out_len: usize);
+    fn ccitt_paint(answer: *mut Answer, columns: u32, changes: *const u32, changes_len: usize, ends: *const u64, ends_len: usize,
+        black_is_one: bool, stride: u64, out: *mut u8, out_len: usize);
+    fn ccitt_unpaint(answer: *mut Answer, columns: u32, rows: u64, black_is_one: bool, stride: u64, src: *const u8, src_len: usize,
+        changes: *mut u32, changes_len: usize, ends: *mut u64, ends_len: usize);
     fn ccitt_heads(columns: u32, changes: *const u32, changes_len: usize, ends: *const u64, ends_len: usize, marks: *const u8, marks_len: usize,
         boxes: *const u32, boxes_len: usize, least: u64, quota: i32) -> HeadsAnswer;
     fn ccitt_verdict(answer: *mut VerdictAnswer, form: *const u8, form_len: usize, src: *const u8, src_len: usize, how: u32, encoding: u32,
@@ -317,6 +321,31 @@ pub(crate) fn write_page(layout: Layout, page: Page<'_>, out: &mut [u8]) -> Answ
             Layout::OneD { eols, fill } => ccitt_write_group3_1d(answer, columns, from, count, of, rows, eols, fill, to, room),
             Layout::TwoD { k } => ccitt_write_group3_2d(answer, columns, from, count, of, rows, k, to, room),
         }
+    })
+}
+
+/// Paints a page's rows into packed rows, a stride from one to the next.
+pub(crate) fn paint(page: Page<'_>, black_is_one: bool, stride: u64, out: &mut [u8]) -> Answer {
+    let Page { columns, changes, ends } = page;
+    let (from, of, to) = (changes.as_ptr(), ends.as_ptr(), out.as_mut_ptr());
+    // SAFETY: each pointer stands with the length of its slice, and the answer is apart.
+    told(|answer| unsafe { ccitt_paint(answer, columns, from, changes.len(), of, ends.len(), black_is_one, stride, to, out.len()) })
+}
+
+/// Reads so many packed rows into lists, which have room for as much as they have entries.
+pub(crate) fn unpaint(
+    columns: u32,
+    rows: u64,
+    black_is_one: bool,
+    stride: u64,
+    bytes: &[u8],
+    changes: &mut [u32],
+    ends: &mut [u64],
+) -> Answer {
+    let (src, to, of) = (bytes.as_ptr(), changes.as_mut_ptr(), ends.as_mut_ptr());
+    // SAFETY: each pointer stands with the length of its slice, and the two lists and the answer are apart.
+    told(|answer| unsafe {
+        ccitt_unpaint(answer, columns, rows, black_is_one, stride, src, bytes.len(), to, changes.len(), of, ends.len());
     })
 }
 

@@ -27,6 +27,8 @@ pub enum Fault {
     Layout,
     /// A line that is to begin behind the end of the output.
     Start,
+    /// Packed rows whose stride is shorter than a row, or that pass their bytes.
+    Bitmap,
     /// A form with edges out of order, a tick of no pixels, or a quota outside −1,000,000 to 1,000,000.
     Form,
     /// Not exactly one tick in a column of a form.
@@ -85,6 +87,7 @@ impl Display for Fault {
             Self::NoRows => write!(f, "a Group 3 page of no rows"),
             Self::Layout => write!(f, "more than 64 zeros of fill, or a K that is not from 1 to 65535"),
             Self::Start => write!(f, "a line that begins behind the end of the output"),
+            Self::Bitmap => write!(f, "packed rows with a stride that is too short, or that pass their bytes"),
             Self::Form => write!(f, "a form whose edges, least count or quota are out of order"),
             Self::Ticks => write!(f, "not exactly one tick in a column of the form"),
             Self::Mended => write!(f, "a box of the form over a row that was not read clean"),
