@@ -13,6 +13,9 @@ ghost use Rattle.rules.specs.WriteGroup3.{write1D, write2D};
 ghost use Rattle.writer.specs.Outcome.{Answers};
 ghost use Rattle.heads.specs.Numbers.{headsFrom};
 ghost use mathlib.Core.Bool.{false};
+ghost use lib.ListN.{length};
+ghost use Rattle.bitmap.specs.Packed.{paint, unpaint};
+ghost use Rattle.bitmap.specs.Outcome.{Paints, Unpaints};
 ghost use Rattle.exports.specs.Exports.{settingsFor};
 ghost use Rattle.exports.specs.RowState.{modeOf, ReadsRowForC};
 ghost use mathlib.Core.Path.{_≡_};
@@ -330,6 +333,33 @@ pub fn ccitt_write_group3_2d(
     ensures { λ r. ⌜ Answers (write2D k columns (now (changes .entry)) (now (ends .entry)) (now (out .entry))) (now (out .entry)) r (now (out .exit)) ⌝ }
 {
     exports::ccitt_write_group3_2d(columns, changes, ends, k, out)
+}
+
+pub fn ccitt_paint(
+    columns: u32,
+    changes: &[u32],
+    ends: &[u64],
+    one: bool,
+    stride: u64,
+    out: &mut [u8],
+) -> Answer
+    ensures { λ r. ⌜ Paints (paint one columns stride (now (changes .entry)) (now (ends .entry)) (now (out .entry))) r (now (out .exit)) ⌝ }
+{
+    exports::ccitt_paint(columns, changes, ends, one, stride, out)
+}
+
+pub fn ccitt_unpaint(
+    columns: u32,
+    rows: u64,
+    one: bool,
+    stride: u64,
+    src: &[u8],
+    changes: &mut [u32],
+    ends: &mut [u64],
+) -> Answer
+    ensures { λ r. ⌜ Unpaints (unpaint one columns stride rows (now (src .entry)) (length (now (changes .entry))) (length (now (ends .entry)))) (now (changes .entry)) (now (ends .entry)) r (now (changes .exit)) (now (ends .exit)) ⌝ }
+{
+    exports::ccitt_unpaint(columns, rows, one, stride, src, changes, ends)
 }
 
 pub fn ccitt_heads(
