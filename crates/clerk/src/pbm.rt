@@ -67,23 +67,10 @@ pub(crate) fn head(data: &[u8]) -> Bitmap {
     }
 }
 
-// A pixel, 0 or 1, or 2 where there is none; and where the next one is looked for.
+// A pixel of P1, 0 or 1, or 2 where there is none; and where the next one is looked for.
 struct Shade {
     shade: u8,
     next: usize,
-}
-
-fn bit(byte: u8, x: u32) -> u8 {
-    match x % 8 {
-        0 => byte / 128,
-        1 => byte / 64 % 2,
-        2 => byte / 32 % 2,
-        3 => byte / 16 % 2,
-        4 => byte / 8 % 2,
-        5 => byte / 4 % 2,
-        6 => byte / 2 % 2,
-        _ => byte % 2,
-    }
 }
 
 fn shade_of(byte: u8) -> u8 {
@@ -96,28 +83,11 @@ fn shade_of(byte: u8) -> u8 {
     2
 }
 
-fn packed(data: &[u8], start: usize, x: u32) -> u8 {
-    let k = (x / 8) as usize;
-    if data.len() <= start {
-        return 2;
-    }
-    if data.len() - start <= k {
-        return 2;
-    }
-    bit(text::nth(data, start, k), x)
-}
-
-fn pixel(data: &[u8], plain: bool, at: usize, x: u32) -> Shade {
-    if plain {
-        let i = text::skip(data, at, true);
-        return Shade {
-            shade: shade_of(text::nth(data, i, 0)),
-            next: text::after(data, i, 1),
-        };
-    }
+fn pixel(data: &[u8], at: usize) -> Shade {
+    let i = text::skip(data, at, true);
     Shade {
-        shade: packed(data, at, x),
-        next: at,
+        shade: shade_of(text::nth(data, i, 0)),
+        next: text::after(data, i, 1),
     }
 }
 
@@ -144,20 +114,13 @@ fn note(changes: &mut [u32], end: usize, x: u32, turn: bool) -> usize {
     end + 1
 }
 
-fn row(
-    data: &[u8],
-    plain: bool,
-    start: usize,
-    columns: u32,
-    changes: &mut [u32],
-    base: usize,
-) -> Taken {
+fn row(data: &[u8], start: usize, columns: u32, changes: &mut [u32], base: usize) -> Taken {
     let mut at = start;
     let mut end = base;
     let mut black = 0;
     let mut x: u32 = 0;
     while x < columns {
-        let pixel = pixel(data, plain, at, x);
+        let pixel = pixel(data, at);
         at = pixel.next;
         let shade = pixel.shade;
         if 1 < shade {
@@ -182,10 +145,6 @@ pub(crate) fn row_bytes(columns: u32) -> usize {
     (columns / 8) as usize + 1
 }
 
-fn behind(data: &[u8], at: usize, columns: u32) -> usize {
-    text::after(data, at, row_bytes(columns))
-}
-
 fn put_end(ends: &mut [u64], y: u32, end: usize) -> bool {
     let k = y as usize;
     if ends.len() <= k {
@@ -193,6 +152,70 @@ fn put_end(ends: &mut [u64], y: u32, end: usize) -> bool {
     }
     ends[k] = end as u64;
     true
+}
+
+// The rows of P1 into a store, a pixel at a time.
+fn plain_rows(
+    data: &[u8],
+    columns: u32,
+    rows: u32,
+    from: usize,
+    changes: &mut [u32],
+    ends: &mut [u64],
+) -> Taken {
+    let mut at = from;
+    let mut end = 0;
+    let mut y: u32 = 0;
+    while y < rows {
+        let taken = row(data, at, columns, changes, end);
+        let Taken::Row(here, next) = taken else {
+            return taken;
+        };
+        if !put_end(ends, y, here) {
+            return Taken::NoRoom;
+        }
+        end = here;
+        at = next;
+        y += 1;
+    }
+    Taken::Row(end, at)
+}
+
+// Those of P4, by the proved reader of packed pixels.
+fn packed_rows(
+    data: &[u8],
+    columns: u32,
+    rows: u32,
+    from: usize,
+    changes: &mut [u32],
+    ends: &mut [u64],
+) -> Taken {
+    if data.len() < from {
+        return Taken::NoPixel;
+    }
+    let stride = row_bytes(columns) as u64;
+    let read = bitmap::unpaint(
+        columns,
+        rows as u64,
+        true,
+        stride,
+        &data[from..],
+        changes,
+        ends,
+    );
+    if read.number == answer::NO_ENTRY {
+        return Taken::NoRoom;
+    }
+    if read.number == answer::NO_ROW_END {
+        return Taken::NoRoom;
+    }
+    if read.number != answer::COMPLETE {
+        return Taken::NoPixel;
+    }
+    Taken::Row(
+        read.entries as usize,
+        text::after(data, from, read.bytes as usize),
+    )
 }
 
 // The rows of a bitmap into a store.
@@ -205,24 +228,8 @@ pub(crate) fn rows(
     changes: &mut [u32],
     ends: &mut [u64],
 ) -> Taken {
-    let mut at = from;
-    let mut end = 0;
-    let mut y: u32 = 0;
-    while y < rows {
-        let taken = row(data, plain, at, columns, changes, end);
-        let Taken::Row(here, next) = taken else {
-            return taken;
-        };
-        if !put_end(ends, y, here) {
-            return Taken::NoRoom;
-        }
-        end = here;
-        at = if plain {
-            next
-        } else {
-            behind(data, next, columns)
-        };
-        y += 1;
+    if plain {
+        return plain_rows(data, columns, rows, from, changes, ends);
     }
-    Taken::Row(end, at)
+    packed_rows(data, columns, rows, from, changes, ends)
 }

@@ -6,87 +6,27 @@ use crate::walk;
 use answer::Answer;
 use settings::DecodeSettings;
 
-// Whether the colour turns at a pixel.
-fn turns(row: &[u32], count: usize, k: usize, x: u32) -> bool {
-    if count <= k {
+// The pixels of a row from a byte on, black as 1; what is behind its width in its last byte is white. False where they do not fit.
+fn paint(row: &[u32], count: usize, columns: u32, out: &mut [u8], from: usize) -> bool {
+    if out.len() < from {
         return false;
     }
-    if row.len() <= k {
-        return false;
-    }
-    row[k] == x
-}
-
-fn mask(x: u32) -> u8 {
-    match x % 8 {
-        0 => 128,
-        1 => 64,
-        2 => 32,
-        3 => 16,
-        4 => 8,
-        5 => 4,
-        6 => 2,
-        _ => 1,
-    }
-}
-
-fn with_pixel(byte: u8, x: u32, black: bool) -> u8 {
-    if black {
-        return byte | mask(x);
-    }
-    byte & (255 - mask(x))
-}
-
-// One pixel of the row that begins at a byte of `out`.
-fn put(out: &mut [u8], from: usize, x: u32, black: bool) {
-    let i = (x / 8) as usize;
-    if out.len() <= i {
-        return;
-    }
-    if out.len() - i <= from {
-        return;
-    }
-    let at = from + i;
-    let byte = out[at];
-    out[at] = with_pixel(byte, x, black);
-}
-
-fn turned(black: bool, turn: bool) -> bool {
-    if turn { !black } else { black }
-}
-
-fn passed(k: usize, turn: bool) -> usize {
-    if !turn {
-        return k;
-    }
-    if k < 4294967296 { k + 1 } else { k }
-}
-
-// The pixels of a row. Those behind its width stay as they are, which is white: each row of a picture is as wide.
-fn paint(row: &[u32], count: usize, columns: u32, out: &mut [u8], from: usize) {
-    let mut k = 0;
-    let mut black = false;
-    let mut x: u32 = 0;
-    while x < columns {
-        let turn = turns(row, count, k, x);
-        black = turned(black, turn);
-        k = passed(k, turn);
-        put(out, from, x, black);
-        x += 1;
-    }
+    let ends: [u64; 1] = [count as u64];
+    let stride = pbm::row_bytes(columns) as u64;
+    let painted = bitmap::paint(columns, row, &ends, true, stride, &mut out[from..]);
+    painted.number == answer::COMPLETE
 }
 
 // Twelve of the sixteen pixels of a margin are black beside a row that is not clean.
-fn bar(from: usize) -> u32 {
-    if from == 0 { 0 } else { 12 }
-}
-
-fn margin(out: &mut [u8], bar: u32, clean: bool) {
-    let mut x: u32 = 0;
-    while x < bar {
-        put(out, 0, x, !clean);
-        x += 1;
+fn margin(out: &mut [u8], from: usize, clean: bool) {
+    if from != 2 {
+        return;
     }
+    if out.len() < 2 {
+        return;
+    }
+    out[0] = if clean { 0 } else { 0b1111_1111 };
+    out[1] = if clean { 0 } else { 0b1111_0000 };
 }
 
 // The width of a picture: a margin of sixteen pixels has two bytes.
@@ -109,9 +49,9 @@ pub(crate) fn row(
     out: &mut [u8],
     from: usize,
 ) -> bool {
-    margin(out, bar(from), answer.mark == 0);
-    paint(row, count, columns, out, from);
-    say::bytes(true, out, pbm::row_bytes(width(columns, from)))
+    margin(out, from, answer.mark == 0);
+    let good = paint(row, count, columns, out, from);
+    say::bytes(good, out, pbm::row_bytes(width(columns, from)))
 }
 
 fn head(width: u32, rows: u64) -> bool {

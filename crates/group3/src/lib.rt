@@ -105,7 +105,7 @@ fn any_row<'a>(
 }
 
 // Whether the row before it is white, and lines have no tag bits: then a white row is looked for first.
-fn follows_white(settings: DecodeSettings, lent: &[u32], state: State) -> bool
+fn follows_white(settings: DecodeSettings, state: State) -> bool
     ensures { λ r. ⌜ (r ≡ true → isTagged (taggingOf (settings .encoding)) ≡ false) ⌝ }
 {
     if eols::is_tagged(settings) {
@@ -113,7 +113,7 @@ fn follows_white(settings: DecodeSettings, lent: &[u32], state: State) -> bool
     }
     let place = state.reference;
     match place {
-        Reference::Lent => lent.len() == 0,
+        Reference::Lent => false,
         Reference::Kept(start) => start == state.base,
     }
 }
@@ -123,7 +123,6 @@ fn white_line(
     white: &[u16],
     src: &[u8],
     settings: DecodeSettings,
-    lent: &[u32],
     state: State,
     at: usize,
     room: usize,
@@ -131,7 +130,7 @@ fn white_line(
     requires { ⌜ Loading (now src) at × (isKept (state .reference) ≡ true → now white ≡ lookupTable Colour.white) ⌝ }
     ensures { λ r. ⌜ WhiteAt (now (src .entry)) settings room at r ⌝ }
 {
-    if !follows_white(settings, lent, state) {
+    if !follows_white(settings, state) {
         return AfterPair::Other;
     }
     let place = state.reference;
@@ -165,7 +164,7 @@ pub fn swift_row<'a>(
     }
     let start = state.at + 12;
     let room = changes.len() - state.base;
-    match white_line(white, src, settings, lent, state, start, room) {
+    match white_line(white, src, settings, state, start, room) {
         AfterPair::On(line) => Row::Kept(line.count, 0, line.at, state.eols),
         AfterPair::Other => {
             row_at(
@@ -201,23 +200,16 @@ pub fn lone_row<'a>(
     if !eob::is_usual(src, settings, state) {
         return row(white, black, both, src, settings, lent, changes, state);
     }
-    let start = state.at + 12;
-    let room = changes.len() - state.base;
-    match white_line(white, src, settings, lent, state, start, room) {
-        AfterPair::On(line) => Row::Kept(line.count, 0, line.at, state.eols),
-        AfterPair::Other => {
-            row_at(
-                white,
-                black,
-                both,
-                src,
-                settings,
-                lent,
-                changes,
-                state,
-                start,
-                state.eols,
-            )
-        }
-    }
+    row_at(
+        white,
+        black,
+        both,
+        src,
+        settings,
+        lent,
+        changes,
+        state,
+        state.at + 12,
+        state.eols,
+    )
 }
