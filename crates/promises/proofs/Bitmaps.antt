@@ -27,7 +27,7 @@ use Rattle.bitmap.proofs.Fitting.{Fits, is-painted, IsPainted, eight-is-bad}
 use Rattle.bitmap.proofs.Unpainting.{is-read, IsRead, reads}
 use Rattle.bitmap.proofs.Tracings.{length-rows}
 use Rattle.bitmap.proofs.Inverse.{painted-pixel, painted-length, padded-inside, padded-behind, turns-pixels, turns-row, rows-at, rows-rise, row-rises}
-use Rattle.promises.specs.Bitmaps.{Shows, Painting, PaintShows, DecodedShows, Unpainting, UnpaintShows, WrittenShows, PaintedReadsBack, ReadPaintsBack, PaintPinned, UnpaintPinned}
+use Rattle.promises.specs.Bitmaps.{Shows, Painting, PaintShows, DecodedShows, Unpainting, UnpaintShows, WrittenShows, GivenBackShows, PaintedReadsBack, ReadPaintsBack, PaintPinned, UnpaintPinned}
 use Rattle.promises.specs.Rooms.{Call, rowsOf, places}
 use Rattle.promises.proofs.Demand3.{written-page-reads-back}
 
@@ -153,20 +153,41 @@ unpaint-shows one columns stride rows bytes changes ends r changes′ ends′ u 
   shown one columns stride rows bytes changes ends r changes′ ends′ u z,
 )
 
+-- rows that a reading gives back are those that the bitmap shows
+module _ (one : Bool) (columns stride rows : ℕ) (bitmap changes ends : List ℕ) (r : Answer) (changes′ ends′ : List ℕ)
+    (u : Unpainting one columns stride rows bitmap changes ends r changes′ ends′) (z : r .number ≡ 0) where
+  many : r .entries ≡ entries (rowsIn 0 changes′ (take rows ends′))
+  many =
+      ap (λ (a : Answer). a .entries) (answer-is one columns stride rows bitmap changes ends r changes′ ends′ u z)
+      ∙ sym (ap entries (in-store one columns stride rows bitmap changes ends r changes′ ends′ u z))
+
+  long-ends : length (take rows ends′) ≡ rows
+  long-ends = ends-long one columns stride rows bitmap changes ends r changes′ ends′ u z
+
+  back-shows : (c : Call) → rowsOf c ≡ rowsIn 0 changes′ (take rows ends′) → (length (rowsOf c) ≡ rows) × Shows one columns stride (rowsOf c) bitmap
+  back-shows c e = (
+    ap length e ∙ counted one columns stride rows bitmap changes ends r changes′ ends′ u z,
+    rw e (shown one columns stride rows bitmap changes ends r changes′ ends′ u z),
+  )
+
 pub written-shows : WrittenShows
-written-shows one columns stride rows bitmap changes ends r changes′ ends′ u z out w out′ narrow written e bytes small same settings s counted′ c roomy placed marked called =
-    let store = in-store one columns stride rows bitmap changes ends r changes′ ends′ u z in
-    let long = ends-long one columns stride rows bitmap changes ends r changes′ ends′ u z in
-    let count : r .entries ≡ entries (rowsIn 0 changes′ (take rows ends′)) =
-    ap (λ (a : Answer). a .entries) (answer-is one columns stride rows bitmap changes ends r changes′ ends′ u z) ∙ sym (ap entries store) in
-    let back = written-page-reads-back columns changes′ (take rows ends′) out w out′ narrow written e bytes small same settings s
-    (rw long counted′)
+written-shows one columns stride rows bitmap changes ends r changes′ ends′ u z out w out′ narrow written e bytes small same settings s asked c roomy placed marked called =
+    let count = many one columns stride rows bitmap changes ends r changes′ ends′ u z in
+    let long = long-ends one columns stride rows bitmap changes ends r changes′ ends′ u z in
+    let back = written-page-reads-back columns changes′ (take rows ends′) out w out′ narrow written e bytes small same settings s (rw long asked)
     (c .changes) (c .ends) (c .marks) (c .answer) (c .changes′) (c .ends′) (c .marks′) (omega (arith, roomy, count))
-    (omega (arith, placed, long)) (omega (arith, marked, long)) called in (
-      back .0,
-      ap length (back .2) ∙ counted one columns stride rows bitmap changes ends r changes′ ends′ u z,
-      rw (back .2) (shown one columns stride rows bitmap changes ends r changes′ ends′ u z),
-    )
+    (omega (arith, placed, long)) (omega (arith, marked, long)) called in
+    let sees = back-shows one columns stride rows bitmap changes ends r changes′ ends′ u z c (back .2) in
+    (back .0, sees .0, sees .1)
+
+pub given-back-shows : GivenBackShows
+given-back-shows one columns stride rows bitmap changes ends r changes′ ends′ u z w bytes settings gives c roomy placed marked called =
+    let count = many one columns stride rows bitmap changes ends r changes′ ends′ u z in
+    let long = long-ends one columns stride rows bitmap changes ends r changes′ ends′ u z in
+    let back = gives (c .changes) (c .ends) (c .marks) (c .answer) (c .changes′) (c .ends′) (c .marks′) (omega (arith, roomy, count))
+    (omega (arith, placed, long)) (omega (arith, marked, long)) called in
+    let sees = back-shows one columns stride rows bitmap changes ends r changes′ ends′ u z c (back .2) in
+    (back .0, sees .0, sees .1)
 
 -- ---- Each undoes the other
 

@@ -25,6 +25,7 @@ use Rattle.bitmap.specs.Outcome.{Paints, Unpaints}
 use Rattle.promises.specs.Demand3.{Plainly}
 use Rattle.promises.specs.OneAnswer.{OneWith}
 use Rattle.promises.specs.Rooms.{Call, places, rowsOf, Reading}
+use Rattle.promises.specs.WriteGroup3.{GivesBack}
 
 -- the bytes show these rows: each pixel inside the width is the row's, row y beginning y strides behind the first
 abbrev pub Shows : Bool → ℕ → ℕ → List (List ℕ) → List ℕ → Type 0
@@ -82,6 +83,15 @@ WrittenShows =
     → Writer.Answers (writePage columns changes′ (take rows ends′) out) out w out′ → w .number ≡ complete
     → (bytes : List ℕ) → length bytes ≤ mostBytes → take (w .bytes) bytes ≡ take (w .bytes) out′
     → (settings : DecodeSettings) → Plainly columns settings → (settings .rows ≡ 0) ⊎ (settings .rows ≡ rows)
+    → (c : Call) → r .entries ≤ length (c .changes) → rows ≤ length (c .ends) → rows ≤ length (c .marks) → Reading bytes settings c
+    → (c .answer .number ≡ complete) × (length (rowsOf c) ≡ rows) × Shows one columns stride (rowsOf c) bitmap
+
+-- The same of both Group 3 writers, of which `Written1DReadsBack`, `Written2DReadsBack` and what they say of zero bytes behind a page give back the rows.
+abbrev pub GivenBackShows : Type 0
+GivenBackShows =
+    (one : Bool) (columns stride rows : ℕ) (bitmap changes ends : List ℕ) (r : Answer) (changes′ ends′ : List ℕ)
+    → Unpainting one columns stride rows bitmap changes ends r changes′ ends′ → r .number ≡ complete
+    → (w : Answer) (bytes : List ℕ) (settings : DecodeSettings) → GivesBack changes′ (take rows ends′) w settings bytes
     → (c : Call) → r .entries ≤ length (c .changes) → rows ≤ length (c .ends) → rows ≤ length (c .marks) → Reading bytes settings c
     → (c .answer .number ≡ complete) × (length (rowsOf c) ≡ rows) × Shows one columns stride (rowsOf c) bitmap
 
