@@ -1,12 +1,12 @@
-/* The fax decoder, the T.6 and T.4 writers, the heads on a form and the verdict on a faxed form, for C and C++. Link
-   libexports.a: `rt staticlib exports` proves and builds target/staticlib/libexports.a for x86-64, `./native` compiles
+/* The fax decoder, the T.6 and T.4 writers, bitmaps, the heads on a form and the verdict on a faxed form, for C and C++.
+   Link libexports.a: `rt staticlib exports` proves and builds target/staticlib/libexports.a for x86-64, `./native` compiles
    it for the processor at hand.
 
    A caller uses the functions of the last part, from ccitt_decode on: each takes what it reads and writes with names,
    and returns its answer. Every function tests for itself, takes any bytes, settings and arrays, and answers a number
    of the list below. A pointer points at as many entries as the length beside it says, and what is lent to be written
-   overlaps nothing else that is lent. Nothing is kept from call to call, nothing is on the heap, and a call takes some
-   40 KiB of stack. */
+   overlaps nothing else that is lent. Nothing is kept from call to call, nothing is on the heap. A whole page
+   takes some 40 KiB of stack, a row, a line or some units less than 4. */
 #ifndef CCITT_H
 #define CCITT_H
 

@@ -42,6 +42,15 @@ unsafe extern "C" {
         k: u32, out: *mut u8, out_len: usize) -> *mut Answer;
 }
 
+/// One 2D line at a bit, under a reference.
+pub fn read_line(src: &[u8], at: u64, columns: u32, strict: bool, reference: &[u32], changes: &mut [u32]) -> Answer {
+    let mut answer = Answer::default();
+    let (under, to) = (reference.as_ptr(), changes.as_mut_ptr());
+    // SAFETY: each pointer stands with the length of its slice, and the answer is apart.
+    unsafe { ccitt_read_line(&mut answer, src.as_ptr(), src.len(), at, columns, strict, under, reference.len(), to, changes.len()) };
+    answer
+}
+
 pub struct Linked;
 
 /// What the library may use of the stack, in bytes.

@@ -1,5 +1,5 @@
-//! The page form against the crate's, the Rust package's callbacks against the crate's, the plain engine against the lookup, and the row form and the unit form
-//! against the page form.
+//! The page form against the crate's, the Rust package's callbacks against the crate's, the plain engine against the lookup, and the row form, one line at a time
+//! and the unit form against the crate.
 
 use super::fill;
 use super::page::{Named, Page};
@@ -83,13 +83,16 @@ pub fn run(texts: &[Text]) {
     for (name, some) in &sets {
         compare_engines(&format!("{name}, by the plain engine"), some, &mut store);
     }
-    println!("a row at a time against the page form, likewise");
+    println!("a row at a time against the crate, likewise");
     for (name, some) in &sets {
-        compare_forms(&format!("{name}, a row at a time"), some, &mut store);
+        compare_rows(&format!("{name}, a row at a time"), some, &mut store);
     }
-    println!("256 units at a time against the page form, likewise");
+    println!("one line at a time, and some units at a time, against the crate, likewise");
     let (name, group4) = &sets[0];
-    compare_units(&format!("{name}, 256 units at a time"), group4, &mut store);
+    compare_lines(&format!("{name}, a line at a time"), group4, &mut store);
+    for n in [1, 16, 256] {
+        compare_units(&format!("{name}, N = {n}"), n, group4, &mut store);
+    }
     println!("the longest call of the unit form: of each call the shortest of {RUNS} runs, and of these the longest");
     for n in [1, 16, 256] {
         longest_calls(n, group4, &mut store);
@@ -117,8 +120,13 @@ fn run_set(store: &mut Store) {
     let two_d = set::written(&drawn, Encoding::Group3TwoD, true);
     compare(&format!("{} pages, Group3TwoD", two_d.len()), &two_d.iter().map(|(_, page)| page).collect::<Vec<_>>(), store);
     for (name, some) in by_encoding(&pages) {
-        compare_forms(&format!("{name}, a row at a time"), &some, store);
+        compare_rows(&format!("{name}, a row at a time"), &some, store);
     }
+    compare_rows(
+        &format!("{} pages, Group3TwoD, a row at a time", two_d.len()),
+        &two_d.iter().map(|(_, page)| page).collect::<Vec<_>>(),
+        store,
+    );
     println!("pages of the kinds of ITU's charts, in each encoding");
     let charts = in_each(&charts::pages());
     compare_each(&charts, store);
@@ -127,7 +135,12 @@ fn run_set(store: &mut Store) {
         compare(&format!("{} charts, {encoding:?}", some.len()), &some, store);
     }
     println!("pages that no office faxes, in each encoding");
-    compare_each(&in_each(&drawn::odd_pages()), store);
+    let odd = in_each(&drawn::odd_pages());
+    compare_each(&odd, store);
+    println!("these and the charts, a row at a time");
+    for (name, page) in charts.iter().chain(&odd) {
+        compare_rows(&format!("{name}, a row at a time"), &[page], store);
+    }
 }
 
 /// Pages in each encoding, read strictly.
@@ -180,11 +193,34 @@ fn compare_engines(name: &str, pages: &[&Page], store: &mut Store) {
     report(name, store, plain, "the lookup", lookup);
 }
 
-/// The row form, into two arrays of as many entries as the page is wide, against the page form.
-fn compare_forms(name: &str, pages: &[&Page], store: &mut Store) {
+/// The row form, into two arrays of as many entries as the page is wide.
+fn compare_rows(name: &str, pages: &[&Page], store: &mut Store) {
     let by_row = |store: &mut Store| pages.iter().map(|page| time_by_row(page, store)).sum();
-    let whole = |store: &mut Store| pages.iter().map(|page| time_ours(page, false, store)).sum();
-    report(name, store, by_row, "the page form", whole);
+    let theirs = |store: &mut Store| pages.iter().map(|page| time_crate(page, store)).sum();
+    report(name, store, by_row, "the crate", theirs);
+}
+
+/// The lines of Group 4 pages, each by a call of its own under the line before it.
+fn compare_lines(name: &str, pages: &[&Page], store: &mut Store) {
+    let by_line = |store: &mut Store| pages.iter().map(|page| time_by_line(page, store)).sum();
+    let theirs = |store: &mut Store| pages.iter().map(|page| time_crate(page, store)).sum();
+    report(name, store, by_line, "the crate", theirs);
+}
+
+fn time_by_line(page: &Page, store: &mut Store) -> Duration {
+    let (mut above, mut row) = store.cleared(page).changes.split_at_mut(CHANGES / 2);
+    let columns = page.settings.columns;
+    let (mut at, mut held, mut entries) = (0, 0, 0);
+    let began = Instant::now();
+    for _ in 0..page.rows {
+        let line = linked::read_line(&page.src, at, columns, page.settings.strict, &above[..held], &mut row[..columns as usize]);
+        assert!(line.number == 0, "each line is read");
+        (at, held, entries) = (line.bytes, line.entries as usize, entries + line.entries as usize);
+        std::mem::swap(&mut above, &mut row);
+    }
+    let took = began.elapsed();
+    assert!(entries == page.entries, "the lines are the page's");
+    took
 }
 
 fn time_by_row(page: &Page, store: &mut Store) -> Duration {
@@ -205,11 +241,11 @@ fn time_by_row(page: &Page, store: &mut Store) -> Duration {
     took
 }
 
-/// The unit form against the page form.
-fn compare_units(name: &str, pages: &[&Page], store: &mut Store) {
-    let by_unit = |store: &mut Store| pages.iter().map(|page| time_calls(page, 256, store).into_iter().sum::<Duration>()).sum();
-    let whole = |store: &mut Store| pages.iter().map(|page| time_ours(page, false, store)).sum();
-    report(name, store, by_unit, "the page form", whole);
+/// The unit form, so many units a call.
+fn compare_units(name: &str, n: u64, pages: &[&Page], store: &mut Store) {
+    let by_unit = |store: &mut Store| pages.iter().map(|page| time_calls(page, n, store).into_iter().sum::<Duration>()).sum();
+    let theirs = |store: &mut Store| pages.iter().map(|page| time_crate(page, store)).sum();
+    report(name, store, by_unit, "the crate", theirs);
 }
 
 /// What a caller waits for at most.

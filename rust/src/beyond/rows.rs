@@ -9,7 +9,7 @@ use core::iter::FusedIterator;
 /// A page that is read a row at a time, as its rows are asked for, with two rows in memory.
 ///
 /// It is an iterator over the rows. [`next_row`](Self::next_row) lends them instead, and so copies none. Reading a whole page by
-/// [`decode`](crate::decode) or [`read_page`](super::read_page) is quicker: here the library makes its tables anew for each row.
+/// [`decode`](crate::decode) or [`read_page`](super::read_page) is a little quicker.
 ///
 /// ```
 /// use hayro_ccitt::beyond::{Fault, Rows};

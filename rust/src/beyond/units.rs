@@ -13,7 +13,7 @@ use core::num::NonZeroU64;
 /// [`read_page`](super::read_page). The page is a Group 4 page, whatever the encoding of the settings says.
 ///
 /// Two things are not bounded by a call's number: the zeros of fill before an EOL, and the copying of rows where they need more memory than there was room
-/// for. Each call makes the library's tables anew, so that a whole page takes less time by [`read_page`](super::read_page).
+/// for. A whole page takes less time by [`read_page`](super::read_page).
 ///
 /// ```
 /// use core::num::NonZeroU64;
