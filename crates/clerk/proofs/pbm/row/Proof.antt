@@ -8,10 +8,10 @@ use Rattle.clerk.proofs.pbm.row.Statement.{statement}
 use Rattle.clerk.proofs.pbm.row.Tie as tie
 
 abbrev Inv-loop : tie.InvT-loop
-Inv-loop «data» plain start columns changes₀ base at₀ end₀ black₀ x₀ changes at end black x = (length changes ≡ length changes₀) × (x₀ ≤ x)
+Inv-loop «data» start columns changes₀ base at₀ end₀ black₀ x₀ changes at end black x = (length changes ≡ length changes₀) × (x₀ ≤ x)
 
 abbrev μ-loop : tie.MeasureT-loop
-μ-loop «data» plain start columns changes₀ base at₀ end₀ black₀ x₀ changes at end black x = columns - x
+μ-loop «data» start columns changes₀ base at₀ end₀ black₀ x₀ changes at end black x = columns - x
 
 loop-holds : tie.Need-loop-holds Inv-loop μ-loop
 loop-holds c = omega arith

@@ -4,14 +4,14 @@ use Prim.Native.Nat.{_-_, _≤_}
 use native.Mathlib.Omega.{arith}
 use lib.ListN.{length}
 use borrow.Author.Needs.{needs}
-use Rattle.clerk.proofs.pbm.rows.Statement.{statement}
-use Rattle.clerk.proofs.pbm.rows.Tie as tie
+use Rattle.clerk.proofs.pbm.plain_rows.Statement.{statement}
+use Rattle.clerk.proofs.pbm.plain_rows.Tie as tie
 
 abbrev Inv-loop : tie.InvT-loop
-Inv-loop «data» plain columns rows from changes₀ ends₀ at₀ end₀ y₀ changes ends at end y = (length changes ≡ length changes₀) × (length ends ≡ length ends₀) × (y₀ ≤ y)
+Inv-loop «data» columns rows from changes₀ ends₀ at₀ end₀ y₀ changes ends at end y = (length changes ≡ length changes₀) × (length ends ≡ length ends₀) × (y₀ ≤ y)
 
 abbrev μ-loop : tie.MeasureT-loop
-μ-loop «data» plain columns rows from changes₀ ends₀ at₀ end₀ y₀ changes ends at end y = rows - y
+μ-loop «data» columns rows from changes₀ ends₀ at₀ end₀ y₀ changes ends at end y = rows - y
 
 loop-holds : tie.Need-loop-holds Inv-loop μ-loop
 loop-holds c = omega arith
@@ -43,9 +43,6 @@ same-length-4 c = omega arith
 returns-2 : tie.Need-returns-2 Inv-loop μ-loop
 returns-2 c = search needs
 
-behind-requires : tie.Need-behind-requires Inv-loop μ-loop
-behind-requires c κs = search needs
-
 add-y : tie.Need-add-y Inv-loop μ-loop
 add-y c = omega arith
 
@@ -64,8 +61,8 @@ same-length-6 c = omega arith
 returns-3 : tie.Need-returns-3 Inv-loop μ-loop
 returns-3 c = search needs
 
-pub rows-spec : {M : Type 1} → statement M
-rows-spec =
+pub plain-rows-spec : {M : Type 1} → statement M
+plain-rows-spec =
     tie.close
     (tie.spec
     Inv-loop
@@ -80,7 +77,6 @@ rows-spec =
     same-length-3
     same-length-4
     returns-2
-    behind-requires
     add-y
     loop-less
     loop-again
