@@ -43,7 +43,7 @@ unsafe extern "C" {
 }
 
 /// One 2D line at a bit, under a reference.
-pub fn read_line(src: &[u8], at: u64, columns: u32, strict: bool, reference: &[u32], changes: &mut [u32]) -> Answer {
+pub fn line_at(src: &[u8], at: u64, columns: u32, strict: bool, reference: &[u32], changes: &mut [u32]) -> Answer {
     let mut answer = Answer::default();
     let (under, to) = (reference.as_ptr(), changes.as_mut_ptr());
     // SAFETY: each pointer stands with the length of its slice, and the answer is apart.

@@ -213,7 +213,7 @@ fn time_by_line(page: &Page, store: &mut Store) -> Duration {
     let (mut at, mut held, mut entries) = (0, 0, 0);
     let began = Instant::now();
     for _ in 0..page.rows {
-        let line = linked::read_line(&page.src, at, columns, page.settings.strict, &above[..held], &mut row[..columns as usize]);
+        let line = linked::line_at(&page.src, at, columns, page.settings.strict, &above[..held], &mut row[..columns as usize]);
         assert!(line.number == 0, "each line is read");
         (at, held, entries) = (line.bytes, line.entries as usize, entries + line.entries as usize);
         std::mem::swap(&mut above, &mut row);
