@@ -1,7 +1,7 @@
 //! A page a row at a time, into two line arrays that grow.
 
 use crate::library::{self, Answer};
-use crate::room::longer;
+use crate::room::{WIDE, at_least, longer};
 use crate::settings::Settings;
 use alloc::vec::Vec;
 
@@ -19,8 +19,11 @@ impl ByRow {
     }
 
     /// Reads the next row; 4 is never answered. A row that its array does not hold is read again, from the state before it, into a longer one: as many
-    /// entries as the page is wide, or as the data has bits, hold any row.
+    /// entries as the page is wide, or as the data has bits, hold any row. Arrays that are as long as the page is wide let the library read swiftly.
     pub(crate) fn read(&mut self, data: &[u8], settings: &Settings) -> Answer {
+        for line in &mut self.lines {
+            at_least(line, (settings.settings.columns as usize).min(WIDE));
+        }
         loop {
             let before = self.state;
             let [first, second] = &mut self.lines;

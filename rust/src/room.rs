@@ -61,6 +61,16 @@ fn bits_and_one(data: &[u8]) -> usize {
     data.len().saturating_mul(8).saturating_add(1)
 }
 
+/// The most entries that a line is lent before it needs them: 256 KiB.
+pub(crate) const WIDE: usize = 1 << 16;
+
+/// So many entries at least. What it held stays where it was.
+pub(crate) fn at_least<T: Clone + Default>(list: &mut Vec<T>, count: usize) {
+    if list.len() < count {
+        list.resize(count, T::default());
+    }
+}
+
 /// The entries that a list has at least once it has grown.
 const SOME: usize = 16;
 
