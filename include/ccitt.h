@@ -432,7 +432,8 @@ static inline ccitt_answer ccitt_decode_line(const uint8_t *src, size_t src_len,
 
 /* A page a row at a time: one row a call, into one of two line arrays, without a store for the page. Lend the same two
    arrays and the same state at each call, and leave them as they were left; before the page's first call the state's
-   numbers are all 0.
+   numbers are all 0. Arrays of as many entries as the page is wide hold any row, and only with them rows are read
+   swiftly.
    number: 15 a row was read, and there may be more: CCITT_ROW(state.numbers, first, second) points at its changes,
            CCITT_ROW_LENGTH(state.numbers) says how many they are, mark is its mark, and rows and entries count what was
            given so far. 0 to 4 and 14 are the page's end: 0 to 3 and 14 as of a page, 4 where the row has more changes
