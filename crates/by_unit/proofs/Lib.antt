@@ -6,5 +6,6 @@ pub mod Parts
 pub mod Slices
 pub mod Taking
 pub mod States
+pub mod SwiftUnits
 pub mod Tests
 pub mod Turning

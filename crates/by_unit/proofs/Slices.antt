@@ -46,8 +46,9 @@ use Rattle.by_unit.specs.declared.stand.Stand.the-variants.{Between, InL
 use Rattle.by_unit.specs.declared.stand.Kept.{Kept}
 use Rattle.by_unit.specs.declared.stand.Out.{Out}
 use Rattle.by_unit.specs.declared.stand.Out.the-variants.{More}
+use Rattle.by_unit.specs.declared.take.TakenUnits.{TakenUnits}
 use Rattle.by_unit.specs.Standing.{KeptIn, LineIn, Asked, doneFor, nextOf, Settles}
-use Rattle.by_unit.specs.OneUnit.{rulesIn, eolUnitFor, CodeEnds, AfterCodes, firstFor, AfterRuns, UnitFrom, UnitGives}
+use Rattle.by_unit.specs.OneUnit.{rulesIn, eolUnitFor, CodeEnds, AfterCodes, firstFor, AfterRuns, UnitFrom, UnitGives, SomeGive}
 use Rattle.by_unit.proofs.Parts.{next-inside}
 use Rattle.by_unit.proofs.Units.{Fair, R, rules-same, roomy, eol-comes, mode-comes, runs-come, run-fails, run-goes, ran, fair, run-ends}
 
@@ -86,6 +87,9 @@ module _ (bytes : List ℕ) (settings : DecodeSettings) (xs es ms : List ℕ) (k
 
   pub gives-at : (t : Stand) → s ≡ t → (r : Out) (ys fs ns : List ℕ) → UnitGives bytes settings xs es ms k t r ys fs ns → UnitGives bytes settings xs es ms k s r ys fs ns
   gives-at t q r ys fs ns g = subst (λ (x : Stand). UnitGives bytes settings xs es ms k x r ys fs ns) (sym q) g
+
+  pub some-at : (t : Stand) → s ≡ t → (left : ℕ) (r : TakenUnits) (ys fs ns : List ℕ) → SomeGive bytes settings xs es ms k t left r ys fs ns → SomeGive bytes settings xs es ms k s left r ys fs ns
+  some-at t q left r ys fs ns g = subst (λ (x : Stand). SomeGive bytes settings xs es ms k x left r ys fs ns) (sym q) g
 
   pub eol-gives : (e : Eols) → s ≡ Between e → UnitFrom bytes settings xs es ms k s seen → (r : Out) → r ≡ eolUnitFor bytes settings k e (nextOf bytes settings e) → UnitGives bytes settings xs es ms k s r xs es ms
   eol-gives e q u r a =

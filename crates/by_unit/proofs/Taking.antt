@@ -17,7 +17,7 @@ use Rattle.rules.proofs.PageBack.{entries-snoc}
 use Rattle.rules.proofs.Store.{entries-append}
 use Rattle.rules.proofs.Paced.{Steps, here, there, steps-add, steps-run, steps-over}
 use Rattle.rules.proofs.Frame.{unit-frame}
-use Rattle.rules.proofs.Turns.{InvOut, inv-settle, inv-unit, size-unit}
+use Rattle.rules.proofs.Turns.{InvOut, inv-settle, inv-unit, sizeOf, size-unit}
 use Rattle.answer.specs.declared.Answer.{Answer}
 use Rattle.settings.specs.declared.DecodeSettings.{DecodeSettings}
 use Rattle.settings.specs.Settings.{settingsOf}
@@ -27,7 +27,10 @@ use Rattle.by_unit.specs.declared.stand.Kept.{Kept}
 use Rattle.by_unit.specs.declared.stand.Out.{Out}
 use Rattle.by_unit.specs.declared.stand.Out.the-variants.{More, Done}
 use Rattle.by_unit.specs.Standing.{keepingOf, goingAt, KeptIn, StandIn, Asked, answerOf, Leaves, Told, Comes, Settling, Settles}
-use Rattle.by_unit.specs.OneUnit.{UnitFrom, UnitGives}
+use Rattle.swift_units.specs.Counted.{Leads}
+use Rattle.swift_units.proofs.Counting.{steps-led}
+use Rattle.by_unit.specs.declared.take.TakenUnits.{TakenUnits}
+use Rattle.by_unit.specs.OneUnit.{UnitFrom, SomeGive}
 use Rattle.by_unit.specs.Taking.{TakeFrom, Takes}
 use Rattle.by_unit.proofs.Leaves.{Behind, leaves-then}
 use Rattle.by_unit.proofs.Closing.{none-behind, placed-ends, placed-marks, settles}
@@ -92,6 +95,22 @@ module _ {bytes : List ℕ} {settings : DecodeSettings} {xs es ms : List ℕ} {k
   abbrev ComesTo : Rule.Out Going Page.Answer → Out → List ℕ → List ℕ → List ℕ → Type 0
   ComesTo o r ys fs ns = Comes bytes width (k .rows) (k .base) xs es ms o r ys fs ns
 
+  -- rows before those that were kept stay in front of them
+  steps-framed : (rs : List (List ℕ)) (ms′ : List ℕ) {o p : Rule.Out Going Page.Answer} {m : ℕ} → Steps one o m p → Steps one (outBehind rs ms′ o) m (outBehind rs ms′ p)
+  steps-framed rs ms′ here = here
+  steps-framed rs ms′ {p = p} {m = m} (there {s = g} {n = i} h) =
+      there (subst (λ (o : Rule.Out Going Page.Answer). Steps one o i (outBehind rs ms′ p)) (sym (unit-frame S bs (length xs) places rs ms′ (g .keeping) (g .stand))) (steps-framed rs ms′ h))
+
+  -- what holds of the rows kept stays so
+  steps-inv : {o p : Rule.Out Going Page.Answer} {m : ℕ} → Steps one o m p → BehindOut o → BehindOut p
+  steps-inv here b = b
+  steps-inv (there {s = g} h) b = steps-inv h (inv-unit S bs (length xs) places (Behind (k .rows) (k .base)) with-row (g .keeping) (g .stand) b)
+
+  -- and entries never become fewer
+  steps-size : {o p : Rule.Out Going Page.Answer} {m : ℕ} → Steps one o m p → sizeOf S bs (length xs) places o ≤ sizeOf S bs (length xs) places p
+  steps-size here = omega arith
+  steps-size (there {s = g} h) = omega (arith, size-unit S bs (length xs) places (g .keeping) (g .stand), steps-size h)
+
   -- so many are left, and the others led here
   pub record Running (left : ℕ) (out : Out) (ys fs ns : List ℕ) : Type 0 where
     pub few : left ≤ n
@@ -120,32 +139,28 @@ module _ {bytes : List ℕ} {settings : DecodeSettings} {xs es ms : List ℕ} {k
         cases (more g) t = record { asked = from .asked; kept = t .kept; stand = t .stand; settled = t .settled }
         cases (done a) t = absurd t
 
-    pub running-unit : 0 < left → (r : Out) (zs gs hs : List ℕ) → UnitGives bytes settings ys fs ns k′ s′ r zs gs hs → Running (left - 1) r zs gs hs
-    running-unit some′ r zs gs hs d = cases (u .o) (u .steps) (subst (λ (x : Out). ComesTo (u .o) x ys fs ns) e (u .comes)) (u .behind)
+    pub running-units : (r : TakenUnits) (zs gs hs : List ℕ) → SomeGive bytes settings ys fs ns k′ s′ left r zs gs hs → Running (left - r .units) (r .out) zs gs hs
+    running-units r zs gs hs d = cases (u .o) (u .steps) (subst (λ (x : Out). ComesTo (u .o) x ys fs ns) e (u .comes)) (u .behind)
       where
-        cases : (o : Rule.Out Going Page.Answer) → Steps one begin (n - left) o → ComesTo o (More k′ s′ seen) ys fs ns → BehindOut o → Running (left - 1) r zs gs hs
+        cases : (o : Rule.Out Going Page.Answer) → Steps one begin (n - left) o → ComesTo o (More k′ s′ seen) ys fs ns → BehindOut o → Running (left - r .units) (r .out) zs gs hs
         cases (done a) st c b = absurd (c .told)
         cases (more g) st c b = record {
           few = omega (arith, u .few);
-          o = one g;
-          steps = subst (λ (i : ℕ). Steps one begin i (one g)) (let f = u .few in let z : n - left + 1 ≡ n - (left - 1) = omega arith in z) (steps-add st (there here));
+          o = outBehind (K .rows) (K .marks) o′;
+          steps = subst (λ (i : ℕ). Steps one begin i (outBehind (K .rows) (K .marks) o′)) (let f = u .few in let m = d .few in let z : n - left + r .units ≡ n - (left - r .units) = omega arith in z) (steps-add st framed);
           comes = record {
-            told = subst (λ (o : Rule.Out Going Page.Answer). Told bytes width (k .rows) (k .base) zs gs hs o r) (sym framed) (told-behind bytes width (k .rows) (k .base) K b zs gs hs (one (anew g)) r (there′ .told));
+            told = told-behind bytes width (k .rows) (k .base) K b zs gs hs o′ (r .out) (there′ .told);
             leaves =
-                subst (λ (o : Rule.Out Going Page.Answer). Leaves (k .rows) (k .base) xs es ms o zs gs hs) (sym framed)
-                (leaves-then (from .kept .held) (placed-ends bytes settings (from .asked) xs es ms k (from .kept)) (placed-marks bytes settings (from .asked) xs es ms k (from .kept)) (c .leaves) b (there′ .leaves) longer);
+                leaves-then (from .kept .held) (placed-ends bytes settings (from .asked) xs es ms k (from .kept)) (placed-marks bytes settings (from .asked) xs es ms k (from .kept)) (c .leaves) b (there′ .leaves) longer;
           };
-          behind = inv-unit S bs (length xs) places (Behind (k .rows) (k .base)) with-row K (g .stand) b;
+          behind = steps-inv framed b;
         }
           where
             K : Keeping
             K = g .keeping
 
-            -- the rows kept before stay in front
-            framed : one g ≡ outBehind (K .rows) (K .marks) (one (anew g))
-            framed =
-                ap₂ (λ (rs : List (List ℕ)) (ms : List ℕ). one (going (record { count = K .count; base = K .base; reference = K .reference; rows = rs; marks = ms }) (g .stand))) (sym (append-nil (K .rows))) (sym (append-nil (K .marks)))
-                ∙ unit-frame S bs (length xs) places (K .rows) (K .marks) (anew g .keeping) (g .stand)
+            o′ : Rule.Out Going Page.Answer
+            o′ = d .gives .outcome
 
             is : goingAt ys k′ s′ ≡ anew g
             is = c .told .is
@@ -153,16 +168,30 @@ module _ {bytes : List ℕ} {settings : DecodeSettings} {xs es ms : List ℕ} {k
             same-places : placesIn fs ns ≡ places
             same-places = ap₂ min (c .leaves .ends-long) (c .leaves .marks-long)
 
-            there′ : Comes bytes width (K .count) (K .base) ys fs ns (one (anew g)) r zs gs hs
-            there′ =
-                subst (λ (o : Rule.Out Going Page.Answer). Comes bytes width (K .count) (K .base) ys fs ns o r zs gs hs) (λ i. unit S bs (c .leaves .changes-long i) (same-places i) (is i))
-                (subst (λ (h : Going). Comes bytes width (h .keeping .count) (h .keeping .base) ys fs ns (unit S bs (length ys) (placesIn fs ns) (goingAt ys k′ s′)) r zs gs hs) is d)
+            -- the units, from the state that the arrays stand for
+            led : Steps one (more (anew g)) (r .units) o′
+            led =
+                let l = d .gives .leads in
+                let m = subst (λ (i : ℕ). Leads S bs i (placesIn fs ns) (more (goingAt ys k′ s′)) (r .units) o′) (c .leaves .changes-long) l in
+                let p = subst (λ (i : ℕ). Leads S bs (length xs) i (more (goingAt ys k′ s′)) (r .units) o′) same-places m in
+                let q = subst (λ (h : Going). Leads S bs (length xs) places (more h) (r .units) o′) is p in
+                steps-led (r .units) (more (anew g)) o′ (q .0) (q .1)
+
+            -- the rows kept before stay in front
+            framed : Steps one (more g) (r .units) (outBehind (K .rows) (K .marks) o′)
+            framed =
+                subst (λ (h : Going). Steps one (more h) (r .units) (outBehind (K .rows) (K .marks) o′))
+                (λ i. going (record { count = K .count; base = K .base; reference = K .reference; rows = append-nil (K .rows) i; marks = append-nil (K .marks) i }) (g .stand))
+                (steps-framed (K .rows) (K .marks) led)
+
+            there′ : Comes bytes width (K .count) (K .base) ys fs ns o′ (r .out) zs gs hs
+            there′ = subst (λ (h : Going). Comes bytes width (h .keeping .count) (h .keeping .base) ys fs ns o′ (r .out) zs gs hs) is (d .gives .comes)
 
             larger : {m : ℕ} → entries [] + length (looseOf (g .stand)) ≤ m → length (looseOf (g .stand)) ≤ m
             larger h = omega (arith, h)
 
-            longer : length (looseOf (g .stand)) ≤ entries (soFar (one (anew g)) .rows) + length (soFar (one (anew g)) .loose)
-            longer = larger (size-unit S bs (length xs) places (anew g .keeping) (g .stand))
+            longer : length (looseOf (g .stand)) ≤ entries (soFar o′ .rows) + length (soFar o′ .loose)
+            longer = larger (steps-size led)
 
   -- ---- The end
 

@@ -2,18 +2,23 @@
 use mathlib.Core.Bool.{_&&_}
 use mathlib.Core.List.{List}
 use mathlib.Core.Option.{Option, none, some}
-use Prim.Native.Nat.{ℕ, _+_}
+use Prim.Native.Nat.{ℕ, _+_, _≤_, _<_}
 use lib.Dec.{eqb}
 use lib.ListN.{length}
+use Rattle.rules.specs.Machine as Rule
+use Rattle.rules.specs.Machine.{more}
 use Rattle.rules.specs.Bits.{bitsOf}
+use Rattle.rules.specs.Pages as Page
 use Rattle.rules.specs.Pages.{placesIn}
 use Rattle.rules.specs.Units as Units
+use Rattle.rules.specs.Units.{Going}
 use Rattle.codes.specs.declared.eol.Eols.{Eols}
 use Rattle.context.specs.declared.line.Line.{Line}
 use Rattle.context.specs.declared.step.Rules.{Rules}
 use Rattle.context.specs.declared.step.Step.{Step}
 use Rattle.context.specs.declared.step.Step.the-variants as Step
 use Rattle.context.specs.Coding.{unlessIdleFor}
+use Rattle.swift_units.specs.Counted.{Leads}
 use Rattle.settings.specs.declared.DecodeSettings.{DecodeSettings}
 use Rattle.settings.specs.Settings.{settingsOf}
 use Rattle.by_unit.specs.declared.stand.Half.{Half}
@@ -23,6 +28,7 @@ use Rattle.by_unit.specs.declared.stand.Stand.the-variants.{InLine, InRu
 use Rattle.by_unit.specs.declared.stand.Kept.{Kept}
 use Rattle.by_unit.specs.declared.stand.Out.{Out}
 use Rattle.by_unit.specs.declared.stand.Out.the-variants.{More}
+use Rattle.by_unit.specs.declared.take.TakenUnits.{TakenUnits}
 use Rattle.by_unit.specs.Standing.{goingAt, KeptIn, StandIn, Settled, Asked, Comes, doneFor, betweenFor, eolsAt, Closing, Stays, Settles}
 
 abbrev pub rulesIn : DecodeSettings → Rules
@@ -67,3 +73,15 @@ pub record UnitFrom (bytes : List ℕ) (settings : DecodeSettings) (xs es ms : L
 abbrev pub UnitGives : List ℕ → DecodeSettings → List ℕ → List ℕ → List ℕ → Kept → Stand → Out → List ℕ → List ℕ → List ℕ → Type 0
 UnitGives bytes settings xs es ms k s r ys fs ns =
     Comes bytes (settings .columns) (k .rows) (k .base) xs es ms (Units.unit (settingsOf settings) (bitsOf bytes) (length xs) (placesIn es ms) (goingAt xs k s)) r ys fs ns
+
+-- n units, none of which is taken from an end
+pub record UnitsGive (bytes : List ℕ) (settings : DecodeSettings) (xs es ms : List ℕ) (k : Kept) (s : Stand) (n : ℕ) (r : Out) (ys fs ns : List ℕ) : Type 0 where
+  pub outcome : Rule.Out Going Page.Answer
+  pub leads : Leads (settingsOf settings) (bitsOf bytes) (length xs) (placesIn es ms) (more (goingAt xs k s)) n outcome
+  pub comes : Comes bytes (settings .columns) (k .rows) (k .base) xs es ms outcome r ys fs ns
+
+-- at least one of those that are left, and no more
+pub record SomeGive (bytes : List ℕ) (settings : DecodeSettings) (xs es ms : List ℕ) (k : Kept) (s : Stand) (left : ℕ) (r : TakenUnits) (ys fs ns : List ℕ) : Type 0 where
+  pub some : 0 < r .units
+  pub few : r .units ≤ left
+  pub gives : UnitsGive bytes settings xs es ms k s (r .units) (r .out) ys fs ns

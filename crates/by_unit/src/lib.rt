@@ -3,6 +3,7 @@
 // handed back as left.
 mod stand;
 mod state;
+mod swift;
 mod take;
 mod unit;
 

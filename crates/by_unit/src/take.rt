@@ -38,8 +38,9 @@ pub(crate) fn take(
                 };
             }
             Out::More(next, at, seen) => {
-                out = unit::unit(src, settings, changes, ends, marks, next, at, seen);
-                left -= 1;
+                let taken = unit::units(src, settings, changes, ends, marks, next, at, seen, left);
+                out = taken.out;
+                left -= taken.units;
             }
         }
     }

@@ -1,10 +1,12 @@
-// One unit: an EOL, a mode code, or a code of a run; and what closes behind it.
+// One unit: an EOL, a mode code, or a code of a run; or the swift units of a line. And what closes behind them.
 use crate::stand;
 use crate::stand::Half;
 use crate::stand::Kept;
 use crate::stand::NextEol;
 use crate::stand::Out;
 use crate::stand::Stand;
+use crate::swift;
+use crate::take::TakenUnits;
 use codes::eol::Eols;
 use codes::run::RunCode;
 use context::line::Line;
@@ -15,9 +17,10 @@ use one_line::one_code;
 use one_line::one_code::OneCode;
 use settings::DecodeSettings;
 ghost use mathlib.Core.Path.{_≡_};
+ghost use Prim.Native.Nat.{_<_};
 ghost use Rattle.bit_reader.specs.Loaded.{Loading};
 ghost use Rattle.by_unit.specs.Standing.{nextOf};
-ghost use Rattle.by_unit.specs.OneUnit.{rulesIn, eolUnitFor, CodeEnds, AfterCodes, AfterRuns, UnitFrom, UnitGives};
+ghost use Rattle.by_unit.specs.OneUnit.{rulesIn, eolUnitFor, CodeEnds, AfterCodes, AfterRuns, UnitFrom, UnitGives, SomeGive};
 
 fn rules_of(settings: DecodeSettings) -> Rules
     ensures { λ r. ⌜ r ≡ rulesIn settings ⌝ }
@@ -188,7 +191,64 @@ fn run_unit(
     }
 }
 
-pub(crate) fn unit(
+// Swift units of a line; where the next code is another, that one.
+fn line_units(
+    src: &[u8],
+    settings: DecodeSettings,
+    changes: &mut [u32],
+    ends: &mut [u64],
+    marks: &mut [u8],
+    kept: Kept,
+    line: Line,
+    at: usize,
+    seen: usize,
+    left: usize,
+) -> TakenUnits
+    requires { ⌜ UnitFrom (now src) settings (now changes) (now ends) (now marks) kept (Stand.InLine line at) seen × (0 < left) ⌝ }
+    ensures { λ r. ⌜ SomeGive (now (src .entry)) settings (now (changes .entry)) (now (ends .entry)) (now (marks .entry)) kept (Stand.InLine line at) left r (now (changes .exit)) (now (ends .exit)) (now (marks .exit)) ⌝ }
+{
+    let start = kept.start;
+    let base = kept.base;
+    let u = swift::swiftly(
+        src,
+        changes,
+        start,
+        base,
+        line,
+        at,
+        seen,
+        left,
+        settings.plain,
+    );
+    if u.left == left {
+        let out = mode_unit(src, settings, changes, ends, marks, kept, line, at, seen);
+        return TakenUnits { out, units: 1 };
+    }
+    let s = u.stand;
+    let next = Line {
+        width: line.width,
+        position: s.position,
+        changes: s.count,
+        colour: (s.place % 2) as u32,
+        cut: line.cut,
+    };
+    let out = stand::settle(
+        src,
+        settings,
+        ends,
+        marks,
+        kept,
+        Stand::InLine(next, s.at),
+        seen,
+    );
+    TakenUnits {
+        out,
+        units: left - u.left,
+    }
+}
+
+// One of those that are left, or more where they are swift.
+pub(crate) fn units(
     src: &[u8],
     settings: DecodeSettings,
     changes: &mut [u32],
@@ -197,17 +257,32 @@ pub(crate) fn unit(
     kept: Kept,
     stand: Stand,
     seen: usize,
-) -> Out
-    requires { ⌜ UnitFrom (now src) settings (now changes) (now ends) (now marks) kept stand seen ⌝ }
-    ensures { λ r. ⌜ UnitGives (now (src .entry)) settings (now (changes .entry)) (now (ends .entry)) (now (marks .entry)) kept stand r (now (changes .exit)) (now (ends .exit)) (now (marks .exit)) ⌝ }
+    left: usize,
+) -> TakenUnits
+    requires { ⌜ UnitFrom (now src) settings (now changes) (now ends) (now marks) kept stand seen × (0 < left) ⌝ }
+    ensures { λ r. ⌜ SomeGive (now (src .entry)) settings (now (changes .entry)) (now (ends .entry)) (now (marks .entry)) kept stand left r (now (changes .exit)) (now (ends .exit)) (now (marks .exit)) ⌝ }
 {
     match stand {
-        Stand::Between(eols) => eol_unit(src, settings, kept, eols),
+        Stand::Between(eols) => {
+            let out = eol_unit(src, settings, kept, eols);
+            TakenUnits { out, units: 1 }
+        }
         Stand::InLine(line, at) => {
-            mode_unit(src, settings, changes, ends, marks, kept, line, at, seen)
+            line_units(
+                src,
+                settings,
+                changes,
+                ends,
+                marks,
+                kept,
+                line,
+                at,
+                seen,
+                left,
+            )
         }
         Stand::InRun(half, line, from, total, at) => {
-            run_unit(
+            let out = run_unit(
                 src,
                 settings,
                 changes,
@@ -220,7 +295,8 @@ pub(crate) fn unit(
                 total,
                 at,
                 seen,
-            )
+            );
+            TakenUnits { out, units: 1 }
         }
     }
 }

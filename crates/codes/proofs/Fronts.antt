@@ -1,6 +1,6 @@
 -- A run of one code, and of two, by their entries. Assumes nothing.
 use mathlib.Core.Path.{_≡_, refl, sym, ap, _∙_}
-use mathlib.Core.Bool.{Bool}
+use mathlib.Core.Bool.{Bool, cond}
 use mathlib.Core.List.{List}
 use Prim.Native.Nat.{ℕ, _+_, _-_, _*_, _/_, _%_, _^_, _≤_, _<_}
 use native.Mathlib.Omega.{arith}
@@ -15,6 +15,7 @@ use Rattle.rules.specs.Runs.{ok, sum, runStep, readRun}
 use Rattle.rules.proofs.Bits.{length-bitsOf}
 use Rattle.rules.proofs.Codes.{shape}
 use Rattle.rules.proofs.Lookup.{length-tabulate, lookup-valid, table-at}
+use Rattle.rules.proofs.Units.{one-unit, two-units}
 use Rattle.bit_reader.specs.Loaded.{Ahead}
 use Rattle.bit_reader.proofs.Window.{ahead-first, ahead-shift}
 use Rattle.codes.specs.declared.front.Front.{Front}
@@ -87,6 +88,7 @@ module _ (colour : Colour) {bytes : List ℕ} {at live bits : ℕ} (h : Ahead by
       record {
         within = omega (arith, short n);
         same = sym (sum-stops no-sum (ok (sum (at + size) (0 + run))) step) ∙ ap (λ (t : ℕ). ok (sum (at + size) t)) (zero-add run);
+        codes = one-unit bs colour at step ∙ sym (ap (λ (b : Bool). cond b 1 2) (lt-ltb run 64 k));
       }
 
   -- a make-up code, and a terminating code behind it, by the entry for the bits there
@@ -115,6 +117,9 @@ module _ (colour : Colour) {bytes : List ℕ} {at live bits : ℕ} (h : Ahead by
         record {
           within = omega (arith, short is-run, few);
           same = sym (sum-stops on (ok (sum (at + size + second / 4096) (0 + run + second % 4096))) step) ∙ (λ i. ok (sum (end i) (total i)));
+          codes =
+              two-units bs colour at (goes is-run k) step (omega (arith, h .there, length-bitsOf bytes))
+              ∙ sym (ap (λ (b : Bool). cond b 1 2) (le-ltb (run + second % 4096) 64 (omega arith)));
         }
 
 -- a terminating code's entry, of whatever table

@@ -9,13 +9,15 @@ use Rattle.rules.specs.Bits.{bitsOf, window}
 use Rattle.rules.specs.Codes.{Colour}
 use Rattle.rules.specs.Lookup.{lookup, entryNumber, lookupTable}
 use Rattle.rules.specs.Runs.{ok, sum, readRun}
+use Rattle.rules.specs.Units.{runUnits}
 use Rattle.bit_reader.specs.Loaded.{Ahead}
 use Rattle.codes.specs.declared.front.Front.{Front}
 
--- the run of a colour that begins at a bit, in 26 bits at most
+-- the run of a colour that begins at a bit, in 26 bits at most: one code, or two where it has 64 pixels or more
 pub record FrontRun (colour : Colour) (bytes : List ℕ) (at : ℕ) (r : Front) : Type 0 where
   pub within : r .size ≤ 26
   pub same : readRun colour (bitsOf bytes) at ≡ ok (sum (at + r .size) (r .pixels))
+  pub codes : runUnits (bitsOf bytes) colour at ≡ cond (ltb (r .pixels) 64) 1 2
 
 -- ---- Which runs are taken so, by the entries of the lent table: each is its code's bits × 4096 + its run, or 4095 for a run where no code begins
 

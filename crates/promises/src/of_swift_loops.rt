@@ -6,7 +6,8 @@ use swift_loops::fast_2d::BetweenCodes;
 ghost use mathlib.Core.Path.{_≡_};
 ghost use mathlib.Core.Bool.{true};
 ghost use mathlib.Core.List.{[]};
-ghost use Prim.Native.Nat.{_+_};
+ghost use Prim.Native.Nat.{_+_, _-_, _/_, _%_, _^_, _≤_, _<_};
+ghost use lib.Dec.{leb};
 ghost use lib.ListN.{length};
 ghost use Rattle.rules.specs.Bits.{bitsOf};
 ghost use Rattle.rules.specs.Codes as Colour;
@@ -16,7 +17,7 @@ ghost use Rattle.bit_reader.specs.Loaded.{Loading};
 ghost use Rattle.context.specs.declared.reference.Reference.the-variants.{Kept};
 ghost use Rattle.context.specs.Places.{Onward, Reached, Turning};
 ghost use Rattle.swift_loops.specs.Pairs.{haltLine, startAt, Ran, Filled, Pairing};
-ghost use Rattle.swift_loops.specs.Swift.{Walks, WalkedIn};
+ghost use Rattle.swift_loops.specs.Swift.{Noted, Walks, WalkedIn};
 
 pub fn line_of(width: u32, s: BetweenRuns) -> Line
     ensures { λ r. ⌜ r ≡ haltLine width s ⌝ }
@@ -70,6 +71,27 @@ pub fn swift_codes<'a>(
     ensures { λ r. ⌜ WalkedIn (now (src .entry)) (Kept start) [] (now (changes .entry)) base width from (now (changes .exit)) r ⌝ }
 {
     swift_loops::fast_2d::swift_codes(white, black, src, changes, start, base, width, from)
+}
+
+pub fn note(row: &mut [u32], s: BetweenCodes) -> usize
+    requires { ⌜ s .count < length (now row) ⌝ }
+    ensures { λ r. ⌜ Noted (now (row .entry)) s r (now (row .exit)) ⌝ }
+{
+    swift_loops::fast_2d::note(row, s)
+}
+
+pub fn bit_of(bits: u64, k: usize) -> usize
+    requires { ⌜ k < 64 ⌝ }
+    ensures { λ r. ⌜ r ≡ bits / 2 ^ k % 2 ⌝ }
+{
+    swift_loops::fast_2d::bit_of(bits, k)
+}
+
+pub fn has_room(room: usize, width: u32, s: BetweenCodes) -> bool
+    requires { ⌜ (s .position ≤ width) × (s .count ≤ room) ⌝ }
+    ensures { λ r. ⌜ r ≡ leb (width - s .position) (room - s .count) ⌝ }
+{
+    swift_loops::fast_2d::has_room(room, width, s)
 }
 
 pub fn onward(reference: &[u32], from: usize, position: u32) -> usize

@@ -8,7 +8,8 @@ use native.Mathlib.Omega.{arith}
 use lib.Dec.{eqb, ltb}
 use lib.ListN.{length, drop}
 use borrow.Author.Tests.{lt-ltb, le-ltb, eqb-true, eqb-false, eq-eqb, ne-eqb}
-use Rattle.rules.specs.Machine.{Out, more, done, ends, costs}
+use Rattle.rules.specs.Machine.{Out, more, done, ends, onward, spent, costs}
+use Rattle.rules.specs.Codes.{Colour}
 use Rattle.rules.specs.Runs.{Res, ok, fault, Sum, sum, runStep, bitsAfter, answer, readRun}
 use Rattle.rules.specs.Modes.{Mode, pass, horizontal, VR, VL, Moded, readMode}
 use Rattle.rules.specs.Lines.{Rules, Line, newLine, movedTo, Went, went, failed, next, afterRun, pushRun, idle, unlessIdle, apply, afterMode, code2D, goOn, lineOf, lineStep, lineEnd, two, readLine, unmoved}
@@ -26,6 +27,22 @@ use Rattle.rules.proofs.Grows.{Grows, GrowsTo, behind, afterRun-grows}
 use Rattle.rules.proofs.Budget.{Bytes}
 use Rattle.rules.proofs.Pages.{page-falls, Held, held-start, held-next}
 use Rattle.rules.proofs.Paced.{Steps, here, there, steps-add, lifted, paced-ends}
+
+-- ---- The units of a short run
+
+module _ (bs : List Bool) (colour : Colour) (at : ℕ) where
+  -- one code
+  pub one-unit : {r : Res Sum} → runStep colour bs (sum at 0) ≡ done r → runUnits bs colour at ≡ 1
+  unfolding runUnits costs spent
+  one-unit e = rw e refl
+
+  -- and two: the first is not the data's last
+  pub two-units : {t : Sum} {r : Res Sum} → runStep colour bs (sum at 0) ≡ more t → runStep colour bs t ≡ done r → at < length bs → runUnits bs colour at ≡ 2
+  unfolding runUnits costs spent
+  two-units {t} {r} e f h =
+      ap (λ (o : Out Sum (Res Sum)). 1 + onward o (spent each (runStep colour bs) (length bs - at))) e
+      ∙ ap (λ (n : ℕ). 1 + spent each (runStep colour bs) n t) (let z : length bs - at ≡ suc (length bs - at - 1) = omega arith in z)
+      ∙ ap (λ (o : Out Sum (Res Sum)). 1 + (1 + onward o (spent each (runStep colour bs) (length bs - at - 1)))) f
 
 module _ (S : Settings) (bs : List Bool) (store places : ℕ) where
   abbrev Pages : Out Going Answer → ℕ → Out Going Answer → Type 0
@@ -137,7 +154,7 @@ module _ (S : Settings) (bs : List Bool) (store places : ℕ) where
     unfolding unit code2D
     one-code l = there (code-paced l (readMode bs (l .at)))
 
-    line-sim : (l : Line) → Pages (lineFrom l) (ofCode (runUnits bs) (rulesAt S bs store places k) bs l) (goesTo (lineStep (S .columns) (code2D (rulesAt S bs store places k) (k .reference) bs) l))
+    pub line-sim : (l : Line) → Pages (lineFrom l) (ofCode (runUnits bs) (rulesAt S bs store places k) bs l) (goesTo (lineStep (S .columns) (code2D (rulesAt S bs store places k) (k .reference) bs) l))
     unfolding settle lineStep ofCode
     line-sim l = tests (eqb (l .position) (S .columns))
       where

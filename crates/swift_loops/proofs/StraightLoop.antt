@@ -27,7 +27,7 @@ use Rattle.context.proofs.Search.{head-at, right-more}
 use Rattle.context.proofs.RowPart.{placed-base, placed-as, reference-same}
 use Rattle.context.proofs.Placing.{seen-next, change-fits}
 use Rattle.context.proofs.Goes.{last-recorded}
-use Rattle.swift_loops.proofs.Swiftly.{NotedIn, StoredIn, stored-part, noted-turned, ready-note, after-length, straight-walked}
+use Rattle.swift_loops.proofs.Swiftly.{OneCodeIn, NotedIn, StoredIn, stored-part, noted-turned, ready-note, after-length, straight-code}
 use Rattle.swift_loops.proofs.Swiftly.{room-full, room-same, walked-none, walked-further}
 
 -- ---- Parities
@@ -159,7 +159,13 @@ module _ {place : Reference} {lent xs : List ℕ} {base width : ℕ} {s : Betwee
           front = put .front;
         }
 
-        -- one code on, to b1
+        -- it is one code, to b1
+        pub along-code : {x : ℕ} → x ≡ getD (referenceIn place base lent xs) (t .place) 0 → (bytes : List ℕ) {live : ℕ} → Ahead bytes (t .at) live rest
+            → rest / 2 ^ 63 ≡ 1
+            → OneCodeIn bytes place lent zs base width t us (record { at = t .at + 1; position = x; count = t .count + 1; place = t .place + 1 })
+        along-code x-is bytes h one = rw x-is (straight-code ready noted bytes (top-straight h one))
+
+        -- and takes the line on
         pub along-on : {x : ℕ} → x ≡ getD (referenceIn place base lent xs) (t .place) 0 → rest / 2 ^ 63 ≡ 1
             → Along place lent xs base width s bits us
             (record { at = t .at + 1; position = x; count = t .count + 1; place = t .place + 1 }) (rest * 2 ^ 1 % 2 ^ 64)
@@ -183,7 +189,7 @@ module _ {place : Reference} {lent xs : List ℕ} {base width : ℕ} {s : Betwee
           walked = λ bytes live h.
               let w = a .walked bytes live h in
               let shown = w .1 .next in (
-                walked-further place lent (g .placed) (w .0) (straight-walked ready noted bytes (top-straight shown one)),
+                walked-further place lent (g .placed) (w .0) (straight-code ready noted bytes (top-straight shown one) .walked),
                 record {
                   live = w .1 .live - 1;
                   next = ahead-shift shown 1 (one-live shown one);
@@ -206,18 +212,23 @@ module _ {xs : List ℕ} {start base width : ℕ} {s : BetweenCodes} (g : Turned
   pub kept-next : (v : ℕ) → start + t .place < length (set zs (base + t .count) v)
   kept-next v = omega (arith, a .size, g .placed, length-set zs (base + t .count) v)
 
+  put : StoredIn base zs (t .count) (t .position) (set zs (base + t .count) (t .position))
+  put = stored-part
+
+  b1-left : getD (set zs (base + t .count) (t .position)) (start + t .place) 0 ≡ getD (take (base - start) (drop start xs)) (t .place) 0
+  b1-left =
+      sym (getD-take base (set zs (base + t .count) (t .position)) (start + t .place) 0 (omega arith))
+      ∙ ap (λ (l : List ℕ). getD l (start + t .place) 0) (put .front ∙ a .front)
+      ∙ getD-take base xs (start + t .place) 0 (omega arith)
+      ∙ sym (getD-take (base - start) (drop start xs) (t .place) 0 there ∙ getD-drop start xs (t .place) 0)
+
+  pub kept-code : (bytes : List ℕ) {live : ℕ} → Ahead bytes (t .at) live rest → rest / 2 ^ 63 ≡ 1
+      → OneCodeIn bytes (Kept start) [] zs base width t (set zs (base + t .count) (t .position))
+      (record { at = t .at + 1; position = getD (set zs (base + t .count) (t .position)) (start + t .place) 0; count = t .count + 1; place = t .place + 1 })
+  kept-code bytes h one = along-code g a kept-inside put b1-left bytes h one
+
   pub kept-on : rest / 2 ^ 63 ≡ 1
       → Along (Kept start) [] xs base width s bits (set zs (base + t .count) (t .position))
       (record { at = t .at + 1; position = getD (set zs (base + t .count) (t .position)) (start + t .place) 0; count = t .count + 1; place = t .place + 1 })
       (rest * 2 ^ 1 % 2 ^ 64)
-  kept-on one = along-on g a kept-inside put is one
-    where
-      put : StoredIn base zs (t .count) (t .position) (set zs (base + t .count) (t .position))
-      put = stored-part
-
-      is : getD (set zs (base + t .count) (t .position)) (start + t .place) 0 ≡ getD (take (base - start) (drop start xs)) (t .place) 0
-      is =
-          sym (getD-take base (set zs (base + t .count) (t .position)) (start + t .place) 0 (omega arith))
-          ∙ ap (λ (l : List ℕ). getD l (start + t .place) 0) (put .front ∙ a .front)
-          ∙ getD-take base xs (start + t .place) 0 (omega arith)
-          ∙ sym (getD-take (base - start) (drop start xs) (t .place) 0 there ∙ getD-drop start xs (t .place) 0)
+  kept-on one = along-on g a kept-inside put b1-left one

@@ -71,6 +71,18 @@ module _ (row : List ℕ) (s : BetweenCodes) (h : s .count < length row) where
 
 -- ---- One code
 
+-- One code of the rules took the line from a stand to another, and the array with it.
+pub record OneCode (reference : List ℕ) (bs : List Bool) (base room width : ℕ) (xs : List ℕ) (s : BetweenCodes) (ys : List ℕ)
+    (t : BetweenCodes) : Type 0 where
+  pub short : s .position < width
+  pub walked : Walked reference bs base room width xs s ys t
+  pub goes : (strict exact cut : Bool)
+      → code2D (ruling width room strict exact) reference bs (standing (drop base xs) cut s) ≡ went (standing (drop base ys) cut t)
+
+abbrev pub OneCodeIn : List ℕ → Reference → List ℕ → List ℕ → ℕ → ℕ → BetweenCodes → List ℕ → BetweenCodes → Type 0
+OneCodeIn bytes place lent xs base width s ys t =
+    OneCode (referenceIn place base lent xs) (bitsOf bytes) base (roomIn base xs) width xs s ys t
+
 module _ {reference : List ℕ} {bs : List Bool} {base room width : ℕ} {xs : List ℕ} {s : BetweenCodes} where
   -- A code that takes the line of the rules from one stand to another takes the array with it.
   walk : (u : BetweenCodes) (qs ys : List ℕ) → room + base ≡ length xs → Stands reference room width u → Roomy room width u
@@ -78,28 +90,34 @@ module _ {reference : List ℕ} {bs : List Bool} {base room width : ℕ} {xs : L
       → length ys ≡ length xs → take base ys ≡ take base xs → drop base ys ≡ overlaid qs (drop base xs)
       →
       ((strict exact cut : Bool) → code2D (ruling width room strict exact) reference bs (standing (drop base xs) cut s) ≡ went (Rule.line (u .at) (u .position) (colourOf (u .place % 2)) qs cut))
-      → Walked reference bs base room width xs s ys u
+      → OneCode reference bs base room width xs s ys u
   walk u qs ys full stands roomy short longer count size front store goes = record {
-    stands = stands;
-    roomy = λ _. roomy;
-    forth = omega (arith, bits .0);
-    inside = bits .1;
-    longer = longer;
-    size = size;
-    front = front;
-    store = store ∙ ap (λ (l : List ℕ). overlaid l (drop base xs)) (sym changes);
-    same = λ strict exact cut.
-        line-more width (code2D (ruling width room strict exact) reference bs) bs
-        (moves (ruling width room strict exact) (two reference) bs)
-        (standing (drop base xs) cut s) (Rule.line (u .at) (u .position) (colourOf (u .place % 2)) qs cut) (λ z. omega arith)
-        (goes strict exact cut)
-        ∙ ap
-        (λ (l : List ℕ). lineEnd width (code2D (ruling width room strict exact) reference bs) bs (Rule.line (u .at) (u .position) (colourOf (u .place % 2)) l cut))
-        (sym changes);
+    short = short;
+    walked = record {
+      stands = stands;
+      roomy = λ _. roomy;
+      forth = omega (arith, bits .0);
+      inside = bits .1;
+      longer = longer;
+      size = size;
+      front = front;
+      store = store ∙ ap (λ (l : List ℕ). overlaid l (drop base xs)) (sym changes);
+      same = λ strict exact cut.
+          line-more width (code2D (ruling width room strict exact) reference bs) bs
+          (moves (ruling width room strict exact) (two reference) bs)
+          (standing (drop base xs) cut s) (standing (drop base ys) cut u) (λ z. omega arith)
+          (there strict exact cut);
+    };
+    goes = there;
   }
     where
       changes : take (u .count) (drop base ys) ≡ qs
       changes = front-of (u .count) qs (drop base xs) (drop base ys) count store
+
+      there : (strict exact cut : Bool)
+          → code2D (ruling width room strict exact) reference bs (standing (drop base xs) cut s) ≡ went (standing (drop base ys) cut u)
+      there strict exact cut =
+          goes strict exact cut ∙ ap (λ (l : List ℕ). went (Rule.line (u .at) (u .position) (colourOf (u .place % 2)) l cut)) (sym changes)
 
       bits : (s .at < u .at) × (u .at ≤ length bs)
       bits =
@@ -292,8 +310,8 @@ module _ {place : Reference} {lent xs : List ℕ} {base width : ℕ} {s : Betwee
         (seen : Seen ref (u .position + 1) (u .place)) (near : u .place ≤ suc (length ref) + u .at)
         (goes : (strict exact cut : Bool) → code2D (ruling width (roomIn base xs) strict exact) ref bs (standing row cut s) ≡ went (Rule.line (u .at) (u .position) (colourOf (u .place % 2)) (recorded (standing row cut s)) cut))
       where
-        pub noted-walked : Walked ref bs base (roomIn base xs) width xs s zs u
-        noted-walked =
+        noted-code : OneCode ref bs base (roomIn base xs) width xs s zs u
+        noted-code =
             walk u (recorded line) zs full
             (record {
               fits = fits;
@@ -311,20 +329,20 @@ module _ {place : Reference} {lent xs : List ℕ} {base width : ℕ} {s : Betwee
         (move : moveBy b m (s .position) ≡ By (a1 - s .position))
         (right : s .position < a1) (fits : a1 ≤ width) (seen : Seen ref (a1 + 1) p) (parity : p % 2 ≡ (s .place + 1) % 2)
         (near : p ≤ suc (length ref) + end) where
-      vertical-walked : WalkedIn bytes place lent xs base width s zs (record { at = end; position = a1; count = r; place = p })
-      vertical-walked =
-          noted-walked (bitsOf bytes) (record { at = end; position = a1; count = r; place = p }) refl right fits seen near
+      vertical-code : OneCodeIn bytes place lent xs base width s zs (record { at = end; position = a1; count = r; place = p })
+      vertical-code =
+          noted-code (bitsOf bytes) (record { at = end; position = a1; count = r; place = p }) refl right fits seen near
           (λ strict exact cut.
           vertical-goes (ruling width (roomIn base xs) strict exact) ref (bitsOf bytes) (standing row cut s) end m upright read a1
           (ap (λ (x : ℕ). moveBy x m (s .position)) (sym b1-rule) ∙ move)
           right fits (noted-room cut)
           ∙ ap (λ (c : Colour). went (Rule.line end a1 c (recorded (standing row cut s)) cut)) (parity-turns (s .place) p parity))
 
-    pub straight-walked : (bytes : List ℕ) → readMode (bitsOf bytes) (s .at) ≡ ok (moded (s .at + 1) (VR 0))
-        → WalkedIn bytes place lent xs base width s zs (record { at = s .at + 1; position = b; count = r; place = s .place + 1 })
-    straight-walked bytes read =
+    pub straight-code : (bytes : List ℕ) → readMode (bitsOf bytes) (s .at) ≡ ok (moded (s .at + 1) (VR 0))
+        → OneCodeIn bytes place lent xs base width s zs (record { at = s .at + 1; position = b; count = r; place = s .place + 1 })
+    straight-code bytes read =
         let same : b + 0 ≡ b = omega arith in
-        vertical-walked bytes (VR 0) tt (s .at + 1) b (s .place + 1) read
+        vertical-code bytes (VR 0) tt (s .at + 1) b (s .place + 1) read
         (moves-right b b 0 (s .position) (omega (arith, fits-b1, g .narrow)) (omega (arith, g .ahead)) same)
         (g .ahead) fits-b1
         (subst (λ (x : ℕ). Seen ref (x + 1) (s .place + 1)) (sym (g .b1-is)) (seen-next (g .rising) (s .place)))
@@ -332,10 +350,10 @@ module _ {place : Reference} {lent xs : List ℕ} {base width : ℕ} {s : Betwee
 
     -- ---- Pass mode
 
-    pub pass-walked : (bytes : List ℕ) (c : ℕ) → c ≡ headOr width (drop (s .place + 1) (referenceIn place base lent zs))
+    pub pass-code : (bytes : List ℕ) (c : ℕ) → c ≡ headOr width (drop (s .place + 1) (referenceIn place base lent zs))
         → readMode (bitsOf bytes) (s .at) ≡ ok (moded (s .at + 4) pass)
-        → WalkedIn bytes place lent xs base width s zs (record { at = s .at + 4; position = c; count = r; place = s .place + 2 })
-    pass-walked bytes c e read =
+        → OneCodeIn bytes place lent xs base width s zs (record { at = s .at + 4; position = c; count = r; place = s .place + 2 })
+    pass-code bytes c e read =
         let c-is : c ≡ headOr width (drop (s .place + 1) ref) =
         e ∙ ap (λ (l : List ℕ). headOr width (drop (s .place + 1) l)) after-reference in
         let rule : c ≡ b2 width ref (s .position) (colourOf (s .place % 2)) = c-is ∙ seen-b2 width (s .position) (g .stands .seen) in
@@ -343,7 +361,7 @@ module _ {place : Reference} {lent xs : List ℕ} {base width : ℕ} {s : Betwee
         let fits : c ≤ width = omega (arith, c-is, change-fits (g .rising) (s .place + 1)) in
         let two-on : s .place + 1 + 1 ≡ s .place + 2 = omega arith in
         let stays : s .place % 2 ≡ (s .place + 2) % 2 = omega arith in
-        noted-walked (bitsOf bytes) (record { at = s .at + 4; position = c; count = r; place = s .place + 2 }) refl right fits
+        noted-code (bitsOf bytes) (record { at = s .at + 4; position = c; count = r; place = s .place + 2 }) refl right fits
         (subst (λ (x : ℕ). Seen ref (c + 1) x) two-on (subst (λ (x : ℕ). Seen ref (x + 1) (s .place + 1 + 1)) (sym c-is) (seen-next (g .rising) (s .place + 1))))
         (omega (arith, g .stands .near))
         (λ strict exact cut.
@@ -396,8 +414,8 @@ module _ {place : Reference} {lent xs : List ℕ} {base width : ℕ} {s : Betwee
           there : Reached ref (q + 1) (s .place) p
           there = subst (λ (l : List ℕ). Reached l (q + 1) (s .place) p) both-reference reached
 
-          pub two-walked : WalkedIn bytes place lent xs base width s both (record { at = n2; position = q; count = r + 1; place = p })
-          two-walked =
+          pub two-code : OneCodeIn bytes place lent xs base width s both (record { at = n2; position = q; count = r + 1; place = p })
+          two-code =
               let sums : s .position + p1 + p2 ≡ q = omega arith in
               walk (record { at = n2; position = q; count = r + 1; place = p }) (recorded line ++ a1 ∷ []) both full
               (record {
@@ -518,13 +536,13 @@ module _ {place : Reference} {lent xs : List ℕ} {base width : ℕ} {s : Betwee
       low = omega (arith, asks-place (q .asks));
     })
 
-    pub side-walked : (p : ℕ) → Reached (referenceIn place base lent zs) (b + twice - d + 1) (s .place + 1) p → (bytes : List ℕ)
+    pub side-code : (p : ℕ) → Reached (referenceIn place base lent zs) (b + twice - d + 1) (s .place + 1) p → (bytes : List ℕ)
         → readMode (bitsOf bytes) (s .at) ≡ ok (moded (s .at + size) (sideMode d twice))
-        → WalkedIn bytes place lent xs base width s zs (record { at = s .at + size; position = b + twice - d; count = r; place = p })
-    side-walked p reached bytes read =
+        → OneCodeIn bytes place lent xs base width s zs (record { at = s .at + size; position = b + twice - d; count = r; place = p })
+    side-code p reached bytes read =
         let there : Reached (referenceIn place base lent xs) (b + twice - d + 1) (s .place + 1) p =
         subst (λ (l : List ℕ). Reached l (b + twice - d + 1) (s .place + 1) p) (after-reference (q .asks .ready) n) reached in
-        vertical-walked (q .asks .ready) n bytes (sideMode d twice) (side-upright d twice) (s .at + size) (b + twice - d) p read side-moves
+        vertical-code (q .asks .ready) n bytes (sideMode d twice) (side-upright d twice) (s .at + size) (b + twice - d) p read side-moves
         (omega (arith, far)) (omega (arith, within)) (there .seen) (there .parity)
         (omega (arith, there .near, q .asks .ready .stands .near, q .some-bits))
 

@@ -34,7 +34,7 @@ pub enum TakenCode {
 }
 
 // How many changes there are once pixels of the line's colour follow: one more where the colour is not that of the last pixel.
-pub(crate) fn note(row: &mut [u32], s: BetweenCodes) -> usize
+pub fn note(row: &mut [u32], s: BetweenCodes) -> usize
     requires { ⌜ s .count < length (now row) ⌝ }
     ensures { λ r. ⌜ Noted (now (row .entry)) s r (now (row .exit)) ⌝ }
 {
@@ -158,7 +158,7 @@ fn to_each(
     s
 }
 
-pub(crate) fn bit_of(bits: u64, k: usize) -> usize
+pub fn bit_of(bits: u64, k: usize) -> usize
     requires { ⌜ k < 64 ⌝ }
     ensures { λ r. ⌜ r ≡ bits / 2 ^ k % 2 ⌝ }
 {
@@ -451,7 +451,7 @@ fn codes<'a>(
     s
 }
 
-pub(crate) fn has_room(room: usize, width: u32, s: BetweenCodes) -> bool
+pub fn has_room(room: usize, width: u32, s: BetweenCodes) -> bool
     requires { ⌜ (s .position ≤ width) × (s .count ≤ room) ⌝ }
     ensures { λ r. ⌜ r ≡ leb (width - s .position) (room - s .count) ⌝ }
 {

@@ -7,7 +7,7 @@ use Rattle.by_unit.specs.declared.stand.Stand.{Stand}
 use Rattle.by_unit.specs.declared.stand.Kept.{Kept}
 use Rattle.by_unit.specs.Standing.{Settles}
 use Rattle.by_unit.specs.Taking.{TakeFrom}
-use Rattle.by_unit.proofs.Taking.{Running, running-new, running-asks, running-unit, running-long, running-done, running-over, settling}
+use Rattle.by_unit.proofs.Taking.{Running, running-new, running-asks, running-units, running-long, running-done, running-over, settling}
 use borrow.Author.Needs.{needs}
 use Rattle.by_unit.proofs.take.take.Statement.{statement}
 use Rattle.by_unit.proofs.take.take.Tie as tie
@@ -30,8 +30,8 @@ loop-holds c = λ k s es ms from h. running-new from (c .before .before .before 
 enum-told : tie.Need-enum-told Inv-loop μ-loop
 enum-told c = search needs
 
-sub-t19 : tie.Need-sub-t19 Inv-loop μ-loop
-sub-t19 c = omega (arith, c .before .before .before .loop .inv (c .before .before .before .before .before .before .before .before .before .before .before .before .before .before .before .args .kept) (c .before .before .before .before .before .before .before .before .before .before .before .before .before .before .before .args .stand) (now (c .before .before .before .before .before .before .before .before .before .before .before .before .before .before .before .args .ends)) (now (c .before .before .before .before .before .before .before .before .before .before .before .before .before .before .before .args .marks)) (c .before .before .before .before .before .before .before .before .before .before .before .before .before .before .before .pre) (c .before .before .before .before .before .before .before .before .settle .ensures) .few)
+sub-t20 : tie.Need-sub-t20 Inv-loop μ-loop
+sub-t20 c = omega (arith, c .before .before .before .loop .inv (c .before .before .before .before .before .before .before .before .before .before .before .before .before .before .before .args .kept) (c .before .before .before .before .before .before .before .before .before .before .before .before .before .before .before .args .stand) (now (c .before .before .before .before .before .before .before .before .before .before .before .before .before .before .before .args .ends)) (now (c .before .before .before .before .before .before .before .before .before .before .before .before .before .before .before .args .marks)) (c .before .before .before .before .before .before .before .before .before .before .before .before .before .before .before .pre) (c .before .before .before .before .before .before .before .before .settle .ensures) .few)
 
 same-length : tie.Need-same-length Inv-loop μ-loop
 same-length c = running-long (c .before .before .before .before .before .before .before .before .before .before .before .before .before .before .before .pre) (c .before .before .before .before .before .before .before .before .before .before .before .before .before .before .before .args .n) (c .before .before .before .loop .inv (c .before .before .before .before .before .before .before .before .before .before .before .before .before .before .before .args .kept) (c .before .before .before .before .before .before .before .before .before .before .before .before .before .before .before .args .stand) (now (c .before .before .before .before .before .before .before .before .before .before .before .before .before .before .before .args .ends)) (now (c .before .before .before .before .before .before .before .before .before .before .before .before .before .before .before .args .marks)) (c .before .before .before .before .before .before .before .before .before .before .before .before .before .before .before .pre) (c .before .before .before .before .before .before .before .before .settle .ensures)) .0
@@ -48,20 +48,20 @@ returns c = running-done (c .before .before .before .before .before .before .bef
 enum-known-out : tie.Need-enum-known-out Inv-loop μ-loop
 enum-known-out c = search needs
 
-unit-requires : tie.Need-unit-requires Inv-loop μ-loop
-unit-requires c κs = running-asks (c .before .before .before .before .before .before .before .before .before .before .before .before .before .before .before .before .before .before .before .pre) (c .before .before .before .before .before .before .before .before .before .before .before .before .before .before .before .before .before .before .before .args .n) (c .before .before .before .before .before .before .before .loop .inv (c .before .before .before .before .before .before .before .before .before .before .before .before .before .before .before .before .before .before .before .args .kept) (c .before .before .before .before .before .before .before .before .before .before .before .before .before .before .before .before .before .before .before .args .stand) (now (c .before .before .before .before .before .before .before .before .before .before .before .before .before .before .before .before .before .before .before .args .ends)) (now (c .before .before .before .before .before .before .before .before .before .before .before .before .before .before .before .before .before .before .before .args .marks)) (c .before .before .before .before .before .before .before .before .before .before .before .before .before .before .before .before .before .before .before .pre) (c .before .before .before .before .before .before .before .before .before .before .before .before .settle .ensures)) (c .before .before .before .before .out .given .1)
+units-requires : tie.Need-units-requires Inv-loop μ-loop
+units-requires c κs = (running-asks (c .before .before .before .before .before .before .before .before .before .before .before .before .before .before .before .before .before .before .before .pre) (c .before .before .before .before .before .before .before .before .before .before .before .before .before .before .before .before .before .before .before .args .n) (c .before .before .before .before .before .before .before .loop .inv (c .before .before .before .before .before .before .before .before .before .before .before .before .before .before .before .before .before .before .before .args .kept) (c .before .before .before .before .before .before .before .before .before .before .before .before .before .before .before .before .before .before .before .args .stand) (now (c .before .before .before .before .before .before .before .before .before .before .before .before .before .before .before .before .before .before .before .args .ends)) (now (c .before .before .before .before .before .before .before .before .before .before .before .before .before .before .before .before .before .before .before .args .marks)) (c .before .before .before .before .before .before .before .before .before .before .before .before .before .before .before .before .before .before .before .pre) (c .before .before .before .before .before .before .before .before .before .before .before .before .settle .ensures)) (c .before .before .before .before .out .given .1), c .before .before .before .before .before .before .loop-test .taken)
 
 sub-left : tie.Need-sub-left Inv-loop μ-loop
-sub-left c = search needs
+sub-left c = omega (arith, c .before .before .before .before .before .before .before .units .ensures .few)
 
 loop-less : tie.Need-loop-less Inv-loop μ-loop
-loop-less c = search needs
+loop-less c = omega (arith, c .before .before .before .before .before .before .before .units .ensures .some, c .before .before .before .before .before .before .before .units .ensures .few)
 
 loop-again : tie.Need-loop-again Inv-loop μ-loop
-loop-again c = λ k s es ms from h. running-unit from (c .before .before .before .before .before .before .before .before .before .before .before .before .before .before .before .before .before .before .before .before .before .before .before .before .before .before .args .n) (c .before .before .before .before .before .before .before .before .before .before .before .before .before .before .loop .inv k s es ms from h) (c .before .before .before .before .before .before .before .before .before .before .before .out .given .1) (omega arith) _ _ _ _ (c .before .before .before .before .before .before .unit .ensures)
+loop-again c = λ k s es ms from h. running-units from (c .before .before .before .before .before .before .before .before .before .before .before .before .before .before .before .before .before .before .before .before .before .before .before .before .before .before .before .args .n) (c .before .before .before .before .before .before .before .before .before .before .before .before .before .before .before .loop .inv k s es ms from h) (c .before .before .before .before .before .before .before .before .before .before .before .before .out .given .1) _ _ _ _ (c .before .before .before .before .before .before .before .units .ensures)
 
-sub-t26 : tie.Need-sub-t26 Inv-loop μ-loop
-sub-t26 c = omega (arith, c .before .loop .inv (c .before .before .before .before .before .before .before .before .before .before .before .before .before .args .kept) (c .before .before .before .before .before .before .before .before .before .before .before .before .before .args .stand) (now (c .before .before .before .before .before .before .before .before .before .before .before .before .before .args .ends)) (now (c .before .before .before .before .before .before .before .before .before .before .before .before .before .args .marks)) (c .before .before .before .before .before .before .before .before .before .before .before .before .before .pre) (c .before .before .before .before .before .before .settle .ensures) .few)
+sub-t27 : tie.Need-sub-t27 Inv-loop μ-loop
+sub-t27 c = omega (arith, c .before .loop .inv (c .before .before .before .before .before .before .before .before .before .before .before .before .before .args .kept) (c .before .before .before .before .before .before .before .before .before .before .before .before .before .args .stand) (now (c .before .before .before .before .before .before .before .before .before .before .before .before .before .args .ends)) (now (c .before .before .before .before .before .before .before .before .before .before .before .before .before .args .marks)) (c .before .before .before .before .before .before .before .before .before .before .before .before .before .pre) (c .before .before .before .before .before .before .settle .ensures) .few)
 
 same-length-4 : tie.Need-same-length-4 Inv-loop μ-loop
 same-length-4 c = running-long (c .before .before .before .before .before .before .before .before .before .before .before .before .before .pre) (c .before .before .before .before .before .before .before .before .before .before .before .before .before .args .n) (c .before .loop .inv (c .before .before .before .before .before .before .before .before .before .before .before .before .before .args .kept) (c .before .before .before .before .before .before .before .before .before .before .before .before .before .args .stand) (now (c .before .before .before .before .before .before .before .before .before .before .before .before .before .args .ends)) (now (c .before .before .before .before .before .before .before .before .before .before .before .before .before .args .marks)) (c .before .before .before .before .before .before .before .before .before .before .before .before .before .pre) (c .before .before .before .before .before .before .settle .ensures)) .0
@@ -84,17 +84,17 @@ take-spec =
     settle-requires
     loop-holds
     enum-told
-    sub-t19
+    sub-t20
     same-length
     same-length-2
     same-length-3
     returns
     enum-known-out
-    unit-requires
+    units-requires
     sub-left
     loop-less
     loop-again
-    sub-t26
+    sub-t27
     same-length-4
     same-length-5
     same-length-6

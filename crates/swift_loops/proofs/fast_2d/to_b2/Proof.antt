@@ -1,7 +1,7 @@
 -- Pass mode is one code to b2.
 use native.Mathlib.Omega.{arith}
 use borrow.Author.Needs.{needs}
-use Rattle.swift_loops.proofs.Swiftly.{noted-part, ready-part, after-length, asks-place, pass-walked}
+use Rattle.swift_loops.proofs.Swiftly.{noted-part, ready-part, after-length, asks-place, pass-code}
 use Rattle.swift_loops.proofs.fast_2d.to_b2.Statement.{statement}
 use Rattle.swift_loops.proofs.fast_2d.to_b2.Tie as tie
 
@@ -65,7 +65,7 @@ returns c =
     let at-note = at-change-or .before .before .before .before .before .before in
     let entry = at-note .before .before .before in
     let noted = noted-part (entry .pre .ready .placed .1) (at-note .note .ensures) in
-    λ bytes read. (pass-walked (entry .pre .ready) noted bytes _ (at-change-or .change-or .ensures) read, omega arith)
+    λ bytes read. (pass-code (entry .pre .ready) noted bytes _ (at-change-or .change-or .ensures) read .walked, omega arith)
 
 pub to-b2-spec : {M : Type 1} → statement M
 to-b2-spec =

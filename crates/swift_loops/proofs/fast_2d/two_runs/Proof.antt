@@ -8,7 +8,7 @@ use Rattle.tables.specs.Tables.{colourOf}
 use Rattle.codes.proofs.Fronts.{table-length}
 use Rattle.bit_reader.proofs.Window.{ahead-shift}
 use Rattle.swift_loops.proofs.Swiftly.{noted-part, stored-part, ready-part, after-length, two-index, both-length, two-onward}
-use Rattle.swift_loops.proofs.Swiftly.{two-walked}
+use Rattle.swift_loops.proofs.Swiftly.{two-code}
 use Rattle.swift_loops.proofs.Fronting.{own-table, other-table, front-reads}
 use Rattle.swift_loops.proofs.fast_2d.two_runs.Statement.{statement}
 use Rattle.swift_loops.proofs.fast_2d.two_runs.Tie as tie
@@ -295,10 +295,11 @@ returns-4 c =
     (ahead-shift (ahead-shift h 3 (omega arith)) (one .result .size) (omega (arith, first .within))) (omega (arith, first .within))
     (at-top132 .top132 .ensures .0) (two .ensures) (omega (arith, some2)) in
     let noted = noted-part (entry .pre .1 .ready .placed .1) (at-note .note .ensures) in (
-      two-walked (entry .pre .1 .ready) noted (one .result .pixels) (two .result .pixels) some1 some2 (at-if3 .if3 .left)
+      two-code (entry .pre .1 .ready) noted (one .result .pixels) (two .result .pixels) some1 some2 (at-if3 .if3 .left)
           (s .position + one .result .pixels) refl stored-part bytes (s .at + 3 + one .result .size)
           (s .at + 3 + one .result .size + two .result .size) _ _ refl read (first .same) (second .same) (omega arith)
-          (at-onward .onward .ensures),
+          (at-onward .onward .ensures)
+          .walked,
       omega arith,
     )
 

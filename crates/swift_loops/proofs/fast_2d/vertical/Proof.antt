@@ -3,7 +3,7 @@ use mathlib.Core.Path.{refl}
 use native.Mathlib.Omega.{arith}
 use borrow.Author.Needs.{needs}
 use Rattle.swift_loops.proofs.Beside.{side-turned}
-use Rattle.swift_loops.proofs.Swiftly.{noted-part, ready-part, after-length, side-turning, side-walked}
+use Rattle.swift_loops.proofs.Swiftly.{noted-part, ready-part, after-length, side-turning, side-code}
 use Rattle.swift_loops.proofs.fast_2d.vertical.Statement.{statement}
 use Rattle.swift_loops.proofs.fast_2d.vertical.Tie as tie
 
@@ -94,7 +94,7 @@ returns-3 c =
     let within = c .before .before .before .before .before .before .before .before .if2 .left in
     let noted = noted-part (s .pre .asks .ready .placed .1) (c .before .before .before .before .before .before .note .ensures) in
     let reached = c .before .behind .ensures in (
-      λ bytes read. (side-walked (s .pre) far within noted _ reached bytes read, omega (arith, s .pre .some-bits)),
+      λ bytes read. (side-code (s .pre) far within noted _ reached bytes read .walked, omega (arith, s .pre .some-bits)),
       side-turned (s .pre) far within noted _ reached,
     )
 

@@ -5,7 +5,7 @@ use native.Mathlib.Omega.{arith}
 use borrow.Author.Needs.{needs}
 use Rattle.rules.specs.Modes.{VR, modeFor}
 use Rattle.codes.proofs.Modes.{top-mode}
-use Rattle.swift_loops.proofs.Swiftly.{noted-whole, ready-note, straight-walked}
+use Rattle.swift_loops.proofs.Swiftly.{noted-whole, ready-note, straight-code}
 use Rattle.swift_loops.proofs.Beside.{first-turned, one-sided, one-read}
 use Rattle.swift_loops.proofs.lent_2d.to_b1.Statement.{statement}
 use Rattle.swift_loops.proofs.lent_2d.to_b1.Tie as tie
@@ -32,8 +32,9 @@ returns c =
     let noted = noted-whole (at-note .note .ensures) in
     record {
       took = λ bytes live h k. (
-        straight-walked (q .0 .ready) noted bytes
-            (top-mode h k (sym (q .1) ∙ at-if1 .if1 .taken) (omega arith) (VR 0) 1 (λ side. refl) (omega arith)),
+        straight-code (q .0 .ready) noted bytes
+            (top-mode h k (sym (q .1) ∙ at-if1 .if1 .taken) (omega arith) (VR 0) 1 (λ side. refl) (omega arith))
+            .walked,
         omega arith,
       );
       turned = (first-turned (q .0) noted, omega arith, omega arith);

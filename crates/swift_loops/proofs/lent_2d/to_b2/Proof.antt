@@ -1,7 +1,7 @@
 -- Pass mode is one code to b2.
 use native.Mathlib.Omega.{arith}
 use borrow.Author.Needs.{needs}
-use Rattle.swift_loops.proofs.Swiftly.{noted-whole, ready-note, pass-walked}
+use Rattle.swift_loops.proofs.Swiftly.{noted-whole, ready-note, pass-code}
 use Rattle.swift_loops.proofs.lent_2d.to_b2.Statement.{statement}
 use Rattle.swift_loops.proofs.lent_2d.to_b2.Tie as tie
 
@@ -29,7 +29,7 @@ returns c =
     let at-note = at-change-or .before .before .before .before in
     let entry = at-note .before .before .before .before in
     λ bytes read.
-    (pass-walked (entry .pre .ready) (noted-whole (at-note .note .ensures)) bytes _ (at-change-or .change-or .ensures) read, omega arith)
+    (pass-code (entry .pre .ready) (noted-whole (at-note .note .ensures)) bytes _ (at-change-or .change-or .ensures) read .walked, omega arith)
 
 pub to-b2-spec : {M : Type 1} → statement M
 to-b2-spec =

@@ -7,7 +7,7 @@ use Rattle.rules.specs.Lookup.{lookupTable}
 use Rattle.rules.specs.Codes.{opposite}
 use Rattle.tables.specs.Tables.{colourOf}
 use Rattle.bit_reader.proofs.Window.{ahead-shift}
-use Rattle.swift_loops.proofs.Swiftly.{noted-whole, stored-whole, ready-note, two-index, two-onward, two-walked}
+use Rattle.swift_loops.proofs.Swiftly.{noted-whole, stored-whole, ready-note, two-index, two-onward, two-code}
 use Rattle.swift_loops.proofs.Fronting.{turned-number, front-reads}
 use Rattle.swift_loops.proofs.lent_2d.two_runs.Statement.{statement}
 use Rattle.swift_loops.proofs.lent_2d.two_runs.Tie as tie
@@ -194,11 +194,12 @@ returns-4 c =
     front-reads (opposite (colourOf (s .place % 2))) (sym (ap lookupTable (turned-number (s .place % 2) (omega arith)))) behind
     (omega (arith, first .within))
     (at-top132 .top132 .ensures .0) (two .ensures) (omega (arith, some2)) in (
-      two-walked (asks .ready) noted (one .result .pixels) (two .result .pixels) some1 some2 (at-if3 .if3 .left)
+      two-code (asks .ready) noted (one .result .pixels) (two .result .pixels) some1 some2 (at-if3 .if3 .left)
           (s .position + one .result .pixels) refl stored-whole
           bytes (s .at + 3 + one .result .size) (s .at + 3 + one .result .size + two .result .size) _ _ refl read (first .same)
           (second .same) (omega arith)
-          (at-onward .onward .ensures),
+          (at-onward .onward .ensures)
+          .walked,
       omega arith,
     )
 

@@ -1,7 +1,7 @@
 -- In 64 bits no sum of a place and an offset wraps; outside of the line the code is another.
 use native.Mathlib.Omega.{arith}
 use borrow.Author.Needs.{needs}
-use Rattle.swift_loops.proofs.Swiftly.{noted-whole, ready-note, side-turning, side-walked}
+use Rattle.swift_loops.proofs.Swiftly.{noted-whole, ready-note, side-turning, side-code}
 use Rattle.swift_loops.proofs.Beside.{side-turned}
 use Rattle.swift_loops.proofs.lent_2d.vertical.Statement.{statement}
 use Rattle.swift_loops.proofs.lent_2d.vertical.Tie as tie
@@ -58,7 +58,7 @@ returns-3 c =
     let far = at-if1 .if1 .left in
     let within = at-if2 .if2 .left in
     let reached = at-behind .behind .ensures in (
-      λ bytes read. (side-walked (entry .pre) far within noted _ reached bytes read, omega (arith, entry .pre .some-bits)),
+      λ bytes read. (side-code (entry .pre) far within noted _ reached bytes read .walked, omega (arith, entry .pre .some-bits)),
       side-turned (entry .pre) far within noted _ reached,
     )
 

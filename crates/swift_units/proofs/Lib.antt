@@ -1,0 +1,2 @@
+-- Laws for the proofs of the functions.
+pub mod Counting
