@@ -183,6 +183,29 @@ pub fn swift_row<'a>(
     }
 }
 
+// A white line at a bit, under a lent row that is white. It stands beside `white_line`, which keeps its one caller.
+fn lone_white(
+    white: &[u16],
+    src: &[u8],
+    settings: DecodeSettings,
+    lent: &[u32],
+    at: usize,
+    room: usize,
+) -> AfterPair
+    requires { ⌜ Loading (now src) at ⌝ }
+    ensures { λ r. ⌜ WhiteAt (now (src .entry)) settings room at r ⌝ }
+{
+    let tagged = eols::is_tagged(settings);
+    if tagged {
+        return AfterPair::Other;
+    }
+    if lent.len() != 0 {
+        return AfterPair::Other;
+    }
+    let width = settings.columns;
+    fast_1d::whole_run(false, white, src, width, at, room, settings.plain)
+}
+
 // The same for a row by itself: a function of its own, so that `swift_row` keeps its one caller.
 pub fn lone_row<'a>(
     white: &'a [u16],
@@ -200,16 +223,23 @@ pub fn lone_row<'a>(
     if !eob::is_usual(src, settings, state) {
         return row(white, black, both, src, settings, lent, changes, state);
     }
-    row_at(
-        white,
-        black,
-        both,
-        src,
-        settings,
-        lent,
-        changes,
-        state,
-        state.at + 12,
-        state.eols,
-    )
+    let start = state.at + 12;
+    let room = changes.len() - state.base;
+    match lone_white(white, src, settings, lent, start, room) {
+        AfterPair::On(line) => Row::Kept(line.count, 0, line.at, state.eols),
+        AfterPair::Other => {
+            row_at(
+                white,
+                black,
+                both,
+                src,
+                settings,
+                lent,
+                changes,
+                state,
+                start,
+                state.eols,
+            )
+        }
+    }
 }

@@ -1,7 +1,12 @@
 -- As `swift_row`. Assumes nothing.
-use mathlib.Core.Path.{sym, _∙_}
+use mathlib.Core.Path.{sym, _∙_, subst}
+use Prim.Native.Nat.{_+_, _-_}
+use lib.ListN.{length}
 use borrow.Author.Tests.{not-false}
-use Rattle.group3.proofs.Swiftly.{line-seen, row-seen}
+use denote.Ref.{now}
+use Rattle.swift_loops.specs.declared.fast_1d.AfterPair.{AfterPair}
+use Rattle.group3.specs.Lined.{WhiteAt}
+use Rattle.group3.proofs.Swiftly.{line-seen, row-seen, row-white}
 use borrow.Author.Needs.{needs}
 use Rattle.group3.proofs.lone_row.Statement.{statement}
 use Rattle.group3.proofs.lone_row.Tie as tie
@@ -18,19 +23,42 @@ same-length c = search needs
 returns : tie.Need-returns
 returns c = search needs
 
-add-row-at : tie.Need-add-row-at
-add-row-at c = search needs
+add-start : tie.Need-add-start
+add-start c = search needs
+
+sub-room : tie.Need-sub-room
+sub-room c = search needs
+
+lone-white-requires : tie.Need-lone-white-requires
+lone-white-requires c κs =
+    let from = c .before .before .before .before .before .before .before .before .before .before in
+    line-seen (from .pre .0) (sym (c .before .before .before .is-usual .ensures) ∙ not-false _ (c .before .before .if1 .left)) .loading
+
+enum-known-line : tie.Need-enum-known-line
+enum-known-line c = search needs
+
+enum-told : tie.Need-enum-told
+enum-told c = search needs
 
 row-at-requires : tie.Need-row-at-requires
 row-at-requires c κs =
-    let pre = c .before .before .before .before .before .before .before .before .before .before .pre in
-    (line-seen (pre .0) (sym (c .before .before .before .is-usual .ensures) ∙ not-false _ (c .before .before .if1 .left)), pre .1)
+    let pre = c .before .before .before .before .before .before .before .before .before .before .before .before .before .before .pre in
+    (line-seen (pre .0) (sym (c .before .before .before .before .before .before .before .is-usual .ensures) ∙ not-false _ (c .before .before .before .before .before .before .if1 .left)), pre .1)
+
+returns-2 : tie.Need-returns-2
+returns-2 c =
+    let from = c .before .before .before .before .before .before .before .before .before .before .before .before .before .before in
+    let a = from .args in
+    let room = length (now (a .changes)) - a .state .base in
+    let white = subst (λ (r : AfterPair). WhiteAt (now (a .src)) (a .settings) room (a .state .at + 12) r) (c .before .line .given .1) (c .before .before .before .lone-white .ensures) in
+    row-white (from .pre .0) (sym (c .before .before .before .before .before .before .before .is-usual .ensures) ∙ not-false _ (c .before .before .before .before .before .before .if1 .left)) (c .before .line .given .0 .0) (white .0) (white .1)
 
 same-length-2 : tie.Need-same-length-2
 same-length-2 c = search needs
 
-returns-2 : tie.Need-returns-2
-returns-2 c = row-seen (c .before .before .before .before .before .before .before .before .before .before .before .before .before .pre .0) (sym (c .before .before .before .before .before .before .is-usual .ensures) ∙ not-false _ (c .before .before .before .before .before .if1 .left)) _ _ (c .before .before .row-at .ensures)
+returns-3 : tie.Need-returns-3
+returns-3 c =
+    row-seen (c .before .before .before .before .before .before .before .before .before .before .before .before .before .before .before .before .before .pre .0) (sym (c .before .before .before .before .before .before .before .before .before .before .is-usual .ensures) ∙ not-false _ (c .before .before .before .before .before .before .before .before .before .if1 .left)) _ _ (c .before .before .row-at .ensures)
 
 pub lone-row-spec : {M : Type 1} → statement M
 lone-row-spec =
@@ -40,7 +68,12 @@ lone-row-spec =
     row-requires
     same-length
     returns
-    add-row-at
+    add-start
+    sub-room
+    lone-white-requires
+    enum-known-line
+    enum-told
     row-at-requires
+    returns-2
     same-length-2
-    returns-2)
+    returns-3)
