@@ -16,7 +16,8 @@ use Rattle.heads.specs.Form as Heads
 use Rattle.heads.proofs.RowsAt.{rows-length}
 use Rattle.form_file.specs.declared.Form.{Form}
 use Rattle.ledger.specs.Verdicts.{otherColumns, bytesBehind, otherRows, eolsGivenUp, notProper, unfitForm}
-use Rattle.booking.specs.Tests.{finding, plainly, onPage}
+use Rattle.booking.specs.Tests.{finding, plainly}
+use Rattle.booking.specs.Found.{onForm}
 use Rattle.booking.specs.Steps.{Stored, onRows}
 use Rattle.booking.specs.Verdict.{fits, pageOf, judged}
 
@@ -51,7 +52,7 @@ module _ (form : Form) (boxes places : List ℕ) (encoding : EncodingMode) (prop
       by : (b : Bool) → finding otherRows 0 0 0 (length (page .rows)) (form .least) (form .most)
           ≡ elim (b && false) [
             | false ↦ finding otherRows 0 0 0 (length (page .rows)) (form .least) (form .most)
-            | true ↦ elim (form .proper && not proper) [ true ↦ finding notProper 0 0 0 parts 0 0 | false ↦ onPage form boxes places encoding page marks ]
+            | true ↦ elim (form .proper && not proper) [ true ↦ finding notProper 0 0 0 parts 0 0 | false ↦ onForm form boxes places encoding page marks ]
           ]
       by true = refl
       by false = refl
@@ -61,7 +62,7 @@ module _ (form : Form) (boxes places : List ℕ) (encoding : EncodingMode) (prop
     unfolding onRows
     rows-part e = sym (rw (le-leb (form .least) (length (page .rows)) (omega arith), le-leb (length (page .rows)) (form .most) (omega arith), onRows, e))
 
-    pub rows-fit : (form .proper && not proper) ≡ false → onPage form boxes places encoding page marks ≡ onRows form boxes places encoding proper parts page marks
+    pub rows-fit : (form .proper && not proper) ≡ false → onForm form boxes places encoding page marks ≡ onRows form boxes places encoding proper parts page marks
     unfolding onRows
     rows-fit e = sym (rw (le-leb (form .least) (length (page .rows)) (omega arith), le-leb (length (page .rows)) (form .most) (omega arith), onRows, e))
 

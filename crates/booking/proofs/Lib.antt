@@ -9,6 +9,12 @@ pub mod Tested
 pub mod Readings
 pub mod Stored
 pub mod Findings
+pub mod Moved
+pub mod Seeking
+pub mod Looking
+pub mod Lying
 pub mod Whole
 pub mod Means
+pub mod Findable
 pub mod Sheets
+pub mod FoundSheets

@@ -1,5 +1,5 @@
 -- What a page that is counted means. Assumes nothing.
-use mathlib.Core.Path.{_≡_, refl, sym, _∙_}
+use mathlib.Core.Path.{_≡_, refl, sym, ap, _∙_}
 use mathlib.Core.Bool.{Bool, true, false, not, _&&_, _||_}
 use mathlib.Core.List.{List}
 use Prim.Native.Nat.{ℕ, _-_, _/_, _≤_, _<_}
@@ -18,10 +18,12 @@ use Rattle.heads.specs.Numbers.{formIn}
 use Rattle.heads.specs.declared.Box.{Box}
 use Rattle.heads.specs.declared.HeadsAnswer.{HeadsAnswer}
 use Rattle.heads.proofs.Tests.{every-all}
+use Rattle.form_file.specs.Heard.{hasShift}
 use Rattle.form_file.specs.FormFile.{placeAt}
 use Rattle.form_file.specs.declared.Form.{Form}
 use Rattle.booking.specs.Tests as T
 use Rattle.booking.specs.Tests.{finding, underAbove, badRow, tested, onPage, wrongAt, notOne}
+use Rattle.booking.specs.Found.{onForm}
 use Rattle.booking.specs.Verdict.{fits, pageOf, judged, verdictOn}
 use Rattle.booking.specs.Means.{Counts, CountedMeans}
 use Rattle.booking.specs.declared.Finding.{Finding}
@@ -30,11 +32,11 @@ use Rattle.booking.proofs.Firsts.{none-passes, one-passes}
 
 -- ---- A finding whose number is 0 came by one arm
 
-true-arm : (t : Bool) (x y : Finding) → (t ≡ false → y .number ≡ 0 → ⊥) → elim t as (λ z. Finding) [ true ↦ x | false ↦ y ] .number ≡ 0 → (t ≡ true) × (x .number ≡ 0)
+pub true-arm : (t : Bool) (x y : Finding) → (t ≡ false → y .number ≡ 0 → ⊥) → elim t as (λ z. Finding) [ true ↦ x | false ↦ y ] .number ≡ 0 → (t ≡ true) × (x .number ≡ 0)
 true-arm true x y n e = (refl, e)
 true-arm false x y n e = absurd (n refl e)
 
-false-arm : (t : Bool) (x y : Finding) → (x .number ≡ 0 → ⊥) → elim t as (λ z. Finding) [ true ↦ x | false ↦ y ] .number ≡ 0 → (t ≡ false) × (y .number ≡ 0)
+pub false-arm : (t : Bool) (x y : Finding) → (x .number ≡ 0 → ⊥) → elim t as (λ z. Finding) [ true ↦ x | false ↦ y ] .number ≡ 0 → (t ≡ false) × (y .number ≡ 0)
 false-arm true x y n e = absurd (n e)
 false-arm false x y n e = (refl, e)
 
@@ -72,16 +74,16 @@ module _ (form : Form) (boxes places : List ℕ) (s : DecodeSettings) (page : He
       by false e = omega arith
 
   -- all that was passed
-  record Passes : Type 0 where
-    boxed : length boxes ≡ 80
-    placed : form .places ≤ length places / 7
-    answer : h .number ≡ 0
-    rests : badRow form boxes places (s .encoding) page marks ≡ length (page .rows)
-    right : T.wrongPlace form boxes places (s .encoding) page marks ≡ form .places
-    sure : T.doubtful form boxes places (s .encoding) page marks ≡ 20
-    is : onPage form boxes places (s .encoding) page marks .heads ≡ h .heads
+  pub record Passes : Type 0 where
+    pub boxed : length boxes ≡ 80
+    pub placed : form .places ≤ length places / 7
+    pub answer : h .number ≡ 0
+    pub rests : badRow form boxes places (s .encoding) page marks ≡ length (page .rows)
+    pub right : T.wrongPlace form boxes places (s .encoding) page marks ≡ form .places
+    pub sure : T.doubtful form boxes places (s .encoding) page marks ≡ 20
+    pub is : onPage form boxes places (s .encoding) page marks .heads ≡ h .heads
 
-  passes : onPage form boxes places (s .encoding) page marks .number ≡ 0 → Passes
+  pub passes : onPage form boxes places (s .encoding) page marks .number ≡ 0 → Passes
   unfolding onPage tested
   passes e =
       let p = true-arm (eqb (length boxes) 80 && leb (form .places) (length places / 7)) _ _ (λ t z. omega arith) e in
@@ -167,9 +169,25 @@ module _ (form : Form) (boxes places : List ℕ) (s : DecodeSettings) (src : Lis
   asked true false e z = absurd (let z : _≡_ {A = ℕ} 0 1 = cc in omega arith)
   asked false p e z = absurd (let z : _≡_ {A = ℕ} 0 1 = cc in omega arith)
 
-  means : judged form boxes places s size gave proper parts a .number ≡ 0 → Counts form boxes places s src gave a (judged form boxes places s size gave proper parts a .heads)
+  abbrev found : Finding
+  found = onForm form boxes places (s .encoding) page (a .marks)
+
+  -- what comes before the form is looked at
+  pub record Before (heads : ℕ) : Type 0 where
+    pub fitting : fits form s ≡ true
+    pub read : a .number ≡ 0
+    pub columns : s .columns ≡ form .columns
+    pub all-bytes : a .bytes ≡ length src
+    pub enough-rows : form .least ≤ length (a .rows)
+    pub few-rows : length (a .rows) ≤ form .most
+    pub eols-kept : gave ≡ false
+    pub proper-if : form .proper ≡ true → isProper (settingsOf s) src a ≡ true
+    pub counted : found .number ≡ 0
+    pub heads-are : heads ≡ found .heads
+
+  came : judged form boxes places s size gave proper parts a .number ≡ 0 → Before (judged form boxes places s size gave proper parts a .heads)
   unfolding judged
-  means e =
+  came e =
       let p0 = true-arm (fits form s) _ _ (λ t z. omega arith) e in
       let p1 = true-arm (eqb (a .number) 0) _ _ (λ t z. eqb-false (a .number) 0 t z) (p0 .1) in
       let p2 = true-arm (eqb (s .columns) (form .columns)) _ _ (λ t z. omega arith) (p1 .1) in
@@ -178,7 +196,6 @@ module _ (form : Form) (boxes places : List ℕ) (s : DecodeSettings) (src : Lis
       let p4 = true-arm (leb (form .least) (length (a .rows)) && leb (length (a .rows)) (form .most)) _ _ (λ t z. omega arith) (g .1) in
       let p5 = false-arm (form .proper && not proper) _ _ (λ z. omega arith) (p4 .1) in
       let b = both _ _ (p4 .0) in
-      let on = passes form boxes places s page (a .marks) (p5 .1) in
       record {
         fitting = p0 .0;
         read = eqb-true (a .number) 0 (p1 .0);
@@ -188,16 +205,45 @@ module _ (form : Form) (boxes places : List ℕ) (s : DecodeSettings) (src : Lis
         few-rows = leb-true (length (a .rows)) (form .most) (b .1);
         eols-kept = g .0;
         proper-if = asked (form .proper) proper (p5 .0);
+        counted = p5 .1;
+        heads-are = rw (judged, p0 .0, p1 .0, p2 .0, p3 .0, g .0, p4 .0, p5 .0);
+      }
+
+  pub verdict-came : verdictOn form boxes places s src gave a .number ≡ 0 → Before (verdictOn form boxes places s src gave a .heads)
+  unfolding verdictOn
+  verdict-came e = came e
+
+  -- by the numbers of the boxes and the places where the form lies
+  pub counts : {n : ℕ} → Before n → (bs ps : List ℕ) → onPage form bs ps (s .encoding) page (a .marks) .number ≡ 0
+      → (heads : ℕ) → heads ≡ onPage form bs ps (s .encoding) page (a .marks) .heads → Counts form bs ps s src gave a heads
+  counts f bs ps e heads is =
+      let on = passes form bs ps s page (a .marks) e in
+      record {
+        fitting = f .fitting;
+        read = f .read;
+        columns = f .columns;
+        all-bytes = f .all-bytes;
+        enough-rows = f .enough-rows;
+        few-rows = f .few-rows;
+        eols-kept = f .eols-kept;
+        proper-if = f .proper-if;
         boxed = on .boxed;
         placed = on .placed;
         answer = on .answer;
-        heads-are = rw (judged, p0 .0, p1 .0, p2 .0, p3 .0, g .0, p4 .0, p5 .0) (on .is);
-        clean-above = clean-above form boxes places s page (a .marks) (on .rests);
-        clean-places = clean-places form boxes places s page (a .marks) (on .rests);
-        places-hold = λ k l. not-false _ (none-passes (λ k. not (T.placeHolds form boxes places (s .encoding) page (a .marks) k)) (form .places) (on .right) k l);
-        no-doubt = λ k l. none-passes (T.doubts form boxes places (s .encoding) page (a .marks)) 20 (on .sure) k l;
+        heads-are = is ∙ on .is;
+        clean-above = clean-above form bs ps s page (a .marks) (on .rests);
+        clean-places = clean-places form bs ps s page (a .marks) (on .rests);
+        places-hold = λ k l. not-false _ (none-passes (λ k. not (T.placeHolds form bs ps (s .encoding) page (a .marks) k)) (form .places) (on .right) k l);
+        no-doubt = λ k l. none-passes (T.doubts form bs ps (s .encoding) page (a .marks)) 20 (on .sure) k l;
       }
 
+  -- without a shift it lies at its place
+  pub still : hasShift form ≡ false → found ≡ onPage form boxes places (s .encoding) page (a .marks)
+  unfolding onForm
+  still z = rw (onForm, z)
+
 pub counted-means : CountedMeans
-unfolding verdictOn
-counted-means form boxes places s src gave a e = means form boxes places s src gave a e
+counted-means form boxes places s src gave a z e =
+    let b = verdict-came form boxes places s src gave a e in
+    let q = still form boxes places s src gave a z in
+    counts form boxes places s src gave a b boxes places (sym (ap (λ (f : Finding). f .number) q) ∙ b .counted) _ (b .heads-are ∙ ap (λ (f : Finding). f .heads) q)

@@ -13,6 +13,7 @@ use Rattle.heads.specs.Form as H
 use Rattle.heads.specs.Numbers as N
 use Rattle.form_file.specs.First.{firstOf, countOf}
 use Rattle.form_file.specs.declared.Form.{Form}
+use Rattle.booking.specs.Found as F
 use Rattle.booking.specs.Tests as T
 use Rattle.booking.specs.Verdict.{judged}
 use Rattle.booking.specs.declared.Finding.{Finding}
@@ -25,7 +26,7 @@ boxesFrom width units zero top = []
 boxesFrom width units (suc n) top = 0 ∷ width ∷ top ∷ suc top ∷ units ∷ (units + width) ∷ top ∷ suc top ∷ boxesFrom width units n (suc top)
 
 formFor : ℕ → ℕ → ℕ → ℕ → ℕ → Bool → Form
-formFor least most tick doubt places proper = record { columns = 4; least = least; most = most; tick = tick; doubt = doubt; places = places; proper = proper }
+formFor least most tick doubt places proper = record { columns = 4; least = least; most = most; tick = tick; doubt = doubt; places = places; proper = proper; across = 0; down = 0 }
 
 -- in the last of four columns a place that must be black in the first row (the form's line 3), and one that must be white below it (line 4)
 placed : List ℕ
@@ -125,7 +126,7 @@ record Sheets : Type 0 where
   not-asked : numbered (watched false false false forty) ≡ 0 ∷ 40 ∷ []
 
 sheets : Sheets
-unfolding on below wide loose watched told numbered settings answered clean forty unmarked placed formFor boxesFrom judged T.onPage T.tested T.badRow T.lowest T.wrongAt T.notOne firstOf countOf H.sum H.every H.all H.pixel H.blackIn H.tickTable H.ticks H.headsIn H.given H.cleanUnder H.clean H.headsOn N.formFrom P.colourAt
+unfolding on below wide loose watched told numbered settings answered clean forty unmarked placed formFor boxesFrom judged F.onForm T.onPage T.tested T.badRow T.lowest T.wrongAt T.notOne firstOf countOf H.sum H.every H.all H.pixel H.blackIn H.tickTable H.ticks H.headsIn H.given H.cleanUnder H.clean H.headsOn N.formFrom P.colourAt
 sheets = record {
   counted = refl;
   stopped = refl;

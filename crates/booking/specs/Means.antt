@@ -12,9 +12,11 @@ use Rattle.settings.specs.declared.DecodeSettings.{DecodeSettings}
 use Rattle.heads.specs.Form.{cleanUnder, headsOn}
 use Rattle.heads.specs.Numbers.{formIn}
 use Rattle.heads.specs.declared.HeadsAnswer.{HeadsAnswer}
+use Rattle.form_file.specs.Heard.{hasShift}
 use Rattle.form_file.specs.FormFile.{placeAt}
 use Rattle.form_file.specs.declared.Form.{Form}
 use Rattle.booking.specs.Tests.{underAbove, lowestOfAll, placeHolds, doubts}
+use Rattle.booking.specs.Found.{reach, fitsIn, boxesIn, placesIn}
 use Rattle.booking.specs.Verdict.{fits, pageOf, verdictOn}
 
 module _ (form : Form) (boxes places : List ℕ) (s : DecodeSettings) (src : List ℕ) (gave : Bool) (a : Page.Answer) where
@@ -49,9 +51,36 @@ module _ (form : Form) (boxes places : List ℕ) (s : DecodeSettings) (src : Lis
     pub places-hold : (k : ℕ) → k < form .places → placeHolds form boxes places (s .encoding) (pageOf form boxes places s (length src) a) (a .marks) k ≡ true
     pub no-doubt : (k : ℕ) → k < 20 → doubts form boxes places (s .encoding) (pageOf form boxes places s (length src) a) (a .marks) k ≡ false
 
--- A page whose verdict is 0 counts these heads.
+-- A page whose verdict is 0 counts these heads, by a form that has no shift: at its place.
 abbrev pub CountedMeans : Type 0
 CountedMeans =
     (form : Form) (boxes places : List ℕ) (s : DecodeSettings) (src : List ℕ) (gave : Bool) (a : Page.Answer)
-    → verdictOn form boxes places s src gave a .number ≡ 0
+    → hasShift form ≡ false → verdictOn form boxes places s src gave a .number ≡ 0
     → Counts form boxes places s src gave a (verdictOn form boxes places s src gave a .heads)
+
+-- A form with a shift that is found: there is an offset within reach at which it fits, and at every one at which it fits the page counts these very heads.
+module _ (form : Form) (boxes places : List ℕ) (s : DecodeSettings) (src : List ℕ) (gave : Bool) (a : Page.Answer) where
+  -- at an offset the form fits, and its boxes and its places there (specs/Found.antt)
+  abbrev pub reachOf : ℕ
+  reachOf = reach form boxes places (s .encoding) (pageOf form boxes places s (length src) a) (a .marks)
+
+  abbrev pub fitsOn : ℕ → Bool
+  fitsOn = fitsIn form boxes places (s .encoding) (pageOf form boxes places s (length src) a) (a .marks)
+
+  abbrev pub boxesOn : ℕ → List ℕ
+  boxesOn = boxesIn form boxes places (s .encoding) (pageOf form boxes places s (length src) a) (a .marks)
+
+  abbrev pub placesOn : ℕ → List ℕ
+  placesOn = placesIn form boxes places (s .encoding) (pageOf form boxes places s (length src) a) (a .marks)
+
+  pub record FoundCounts (heads : ℕ) : Type 0 where
+    pub offset : ℕ
+    pub near : offset < reachOf
+    pub fitting : fitsOn offset ≡ true
+    pub each : (j : ℕ) → j < reachOf → fitsOn j ≡ true → Counts form (boxesOn j) (placesOn j) s src gave a heads
+
+abbrev pub FoundMeans : Type 0
+FoundMeans =
+    (form : Form) (boxes places : List ℕ) (s : DecodeSettings) (src : List ℕ) (gave : Bool) (a : Page.Answer)
+    → hasShift form ≡ true → verdictOn form boxes places s src gave a .number ≡ 0
+    → FoundCounts form boxes places s src gave a (verdictOn form boxes places s src gave a .heads)

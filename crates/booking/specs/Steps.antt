@@ -21,7 +21,8 @@ use Rattle.heads.specs.Steps.{Sound}
 use Rattle.form_file.specs.declared.Form.{Form}
 use Rattle.ledger.specs.Verdicts.{otherRows, notProper}
 use Rattle.ledger.specs.declared.Verdict.{Verdict}
-use Rattle.booking.specs.Tests.{finding, onPage}
+use Rattle.booking.specs.Tests.{finding}
+use Rattle.booking.specs.Found.{onForm}
 use Rattle.booking.specs.declared.Finding.{Finding}
 
 -- a store that so many rows were read into: they are there with their marks, and pass test 8
@@ -55,7 +56,7 @@ onRows form boxes places encoding proper parts page marks =
       | true ↦
           elim (form .proper && not proper) [
             | true ↦ finding notProper 0 0 0 parts 0 0
-            | false ↦ onPage form boxes places encoding page marks
+            | false ↦ onForm form boxes places encoding page marks
           ]
     ]
 

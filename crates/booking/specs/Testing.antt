@@ -75,10 +75,10 @@ abbrev pub tickedAt : Page → List ℕ → ℕ → ℕ → ℕ → Bool
 tickedAt page boxes tick column d = leb tick (blackIn page (boxAt boxes (2 * d + column)))
 
 abbrev pub ticksOf : Page → List ℕ → ℕ → ℕ → ℕ
-ticksOf page boxes tick = Tests.ticksIn (formOf 0 0 0 tick 0 0 false) boxes [] Group4 page []
+ticksOf page boxes tick = Tests.ticksIn (formOf 0 0 0 tick 0 0 false 0 0) boxes [] Group4 page []
 
 abbrev pub notOneOf : Page → List ℕ → ℕ → Finding
-notOneOf page boxes tick = Tests.notOne (formOf 0 0 0 tick 0 0 false) boxes [] Group4 page []
+notOneOf page boxes tick = Tests.notOne (formOf 0 0 0 tick 0 0 false 0 0) boxes [] Group4 page []
 
 -- what is found where the rows are clean, by A11's number and heads
 unfoldable pub standing : Form → List ℕ → List ℕ → Page → ℕ → ℕ → Finding

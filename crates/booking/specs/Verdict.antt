@@ -18,7 +18,8 @@ use Rattle.heads.specs.Form as Heads
 use Rattle.form_file.specs.declared.Form.{Form}
 use Rattle.ledger.specs.Verdicts.{otherColumns, bytesBehind, otherRows, eolsGivenUp, notProper, unfitForm}
 use Rattle.ledger.specs.declared.Verdict.{Verdict}
-use Rattle.booking.specs.Tests.{finding, plainly, onPage}
+use Rattle.booking.specs.Tests.{finding, plainly}
+use Rattle.booking.specs.Found.{onForm}
 use Rattle.booking.specs.declared.Finding.{Finding}
 
 -- ---- How a page is read
@@ -106,7 +107,7 @@ module _ (form : Form) (boxes places : List ℕ) (s : DecodeSettings) (size : �
                                           -- only where the form asks for it
                                           elim (form .proper && not proper) [
                                             | true ↦ finding notProper 0 0 0 parts 0 0
-                                            | false ↦ onPage form boxes places (s .encoding) (pageOf form boxes places s size a) (a .marks)
+                                            | false ↦ onForm form boxes places (s .encoding) (pageOf form boxes places s size a) (a .marks)
                                           ]
                                     ]
                               ]

@@ -1,7 +1,7 @@
 // The verdict on the bytes of a page.
 use crate::Finding;
+use crate::found::on_form;
 use crate::tests::found;
-use crate::tests::on_page;
 use crate::tests::plainly;
 use answer::Answer;
 use form_file::Form;
@@ -108,8 +108,9 @@ fn on_rows(
     }
     let n = rows as usize;
     let encoding = settings.encoding;
-    on_page(
+    on_form(
         settings.columns,
+        rows as u32,
         encoding,
         changes,
         &ends[..n],

@@ -1,6 +1,9 @@
 // The steward's number: from a form file and the bytes of a page to the line that is read.
+mod found;
 mod judging;
+mod moving;
 pub mod reading;
+mod showing;
 mod tests;
 
 use form_file::Formed;
@@ -9,6 +12,8 @@ pub use judging::judge;
 use ledger::Ledger;
 use ledger::Verdict;
 use settings::DecodeSettings;
+pub use showing::lies_at;
+pub use showing::move_form;
 ghost use mathlib.Core.Path.{_≡_};
 ghost use Rattle.booking.specs.Booked.{unsound, given, Finds, Books};
 
@@ -22,6 +27,13 @@ pub(crate) struct Finding {
     count: u64,
     least: u64,
     most: u64,
+}
+
+// Where a form lies on a page: how far to the right of the first offset and below it, and whether it fits there.
+pub struct Lies {
+    pub fits: bool,
+    pub across: u32,
+    pub down: u32,
 }
 
 // What one page came to: the verdict, the books behind it, and how many bytes of text its line has; 0 where it has no room, and the

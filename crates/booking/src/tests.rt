@@ -21,7 +21,7 @@ ghost use Rattle.booking.specs.Testing.{Sized, uncleanAt, uncleanAbove, 
 ghost use Rattle.booking.specs.Testing.{wrongFor, doubtsIn, doubtsAt, ticksOf, notOneOf, testedOn};
 
 // A box, by the place of the first of its four numbers.
-fn box_at(numbers: &[u32], at: usize) -> Box
+pub(crate) fn box_at(numbers: &[u32], at: usize) -> Box
     requires { ⌜ at + 4 ≤ length (now numbers) ⌝ }
     ensures { λ r. ⌜ r ≡ boxIn (now (numbers .entry)) at ⌝ }
 {
@@ -413,7 +413,7 @@ fn standing(
 }
 
 // On a page whose boxes and places are there. A11 is asked with no quota: the books take the heads off.
-fn tested(
+pub(crate) fn tested(
     columns: u32,
     encoding: EncodingMode,
     changes: &[u32],

@@ -36,11 +36,11 @@ module _ (f : Form) (places : List ℕ) (kind : ℕ) (b : Box) (n line : ℕ) (l
   front-long = length-append (take (7 * f .places) places) (placeNumbers kind b n line) ∙ omega (arith, length-take-le (7 * f .places) places (omega arith))
 
   pub place-on : (room : ℕ) (boxes lines places′ : List ℕ) → f .places < room → holds b ≡ true → places′ ≡ placed places (7 * f .places) kind b n line
-      → Onward room line f (place kind b n) boxes lines places (formOf (f .columns) (f .least) (f .most) (f .tick) (f .doubt) (f .places + 1) (f .proper)) boxes lines places′
+      → Onward room line f (place kind b n) boxes lines places (formOf (f .columns) (f .least) (f .most) (f .tick) (f .doubt) (f .places + 1) (f .proper) (f .across) (f .down)) boxes lines places′
   place-on room boxes lines places′ h e p = record {
     is =
         rw (heard, lt-ltb (f .places) room h, e)
-        (ap₂ (λ (m : ℕ) (ps : List ℕ). on (record { form = formOf (f .columns) (f .least) (f .most) (f .tick) (f .doubt) m (f .proper); boxes = boxes; lines = lines; places = ps }))
+        (ap₂ (λ (m : ℕ) (ps : List ℕ). on (record { form = formOf (f .columns) (f .least) (f .most) (f .tick) (f .doubt) m (f .proper) (f .across) (f .down); boxes = boxes; lines = lines; places = ps }))
         (sym (add-one (f .places)))
         (sym (ap (take (7 * (f .places + 1))) p ∙ take-at front (drop (7 * f .places + 7) places) (7 * (f .places + 1)) front-long)));
     more = omega arith;

@@ -50,7 +50,8 @@ word-small word ns =
     (either (same word (ascii "doubt")) _ _ (either (eqb (length ns) 1) _ _ (omega arith) (omega arith))
     (either (same word (ascii "black")) _ _ (either (eqb (length ns) 5) _ _ (omega arith) (omega arith))
     (either (same word (ascii "white")) _ _ (either (eqb (length ns) 5) _ _ (omega arith) (omega arith))
-    (either (same word (ascii "proper")) _ _ (either (eqb (length ns) 0) _ _ (omega arith) (omega arith)) (omega arith))))))))
+    (either (same word (ascii "proper")) _ _ (either (eqb (length ns) 0) _ _ (omega arith) (omega arith))
+    (either (same word (ascii "shift")) _ _ (either (eqb (length ns) 2) _ _ (omega arith) (omega arith)) (omega arith)))))))))
 
 pub line-small : (ws : List (List ℕ)) → boxOf (lineSays ws) < 20
 unfolding lineSays

@@ -11,12 +11,12 @@ use Rattle.heads.specs.Form.{all}
 use Rattle.heads.specs.Numbers.{boxIn}
 use Rattle.listing_text.specs.Text.{ascii}
 use Rattle.form_file.specs.Words.{isBlank, same, valuesOf}
-use Rattle.form_file.specs.Said.{boxSaid, pageSaid, oneSaid, placeSaid, properSaid, whiteKind, blackKind, byWord, lineSays}
+use Rattle.form_file.specs.Said.{boxSaid, pageSaid, oneSaid, placeSaid, properSaid, shiftSaid, whiteKind, blackKind, byWord, lineSays}
 use Rattle.form_file.specs.Steps.{ahead, isLetter, wordsIn, isHeld, Numbers, Valued}
 use Rattle.form_file.proofs.Ahead.{past-in, past-stops}
 use Rattle.form_file.proofs.Wording.{words-skip, words-done, words-next, word-some}
 use Rattle.form_file.specs.declared.said.Said.{Said}
-use Rattle.form_file.specs.declared.said.Said.the-variants.{Nothing as nothing, Square as box, Page as page, Tick as tick, Doubt as doubt, Place as place, Proper as proper, Wrong as wrong}
+use Rattle.form_file.specs.declared.said.Said.the-variants.{Nothing as nothing, Square as box, Page as page, Tick as tick, Doubt as doubt, Place as place, Proper as proper, Shift as shift, Wrong as wrong}
 use Rattle.form_file.specs.declared.said.Values.{Values}
 
 -- ---- By the numbers
@@ -57,6 +57,12 @@ module _ (v : Values) (ns : List ℕ) (h : Numbers v ns) where
   pub proper-said : v .count ≡ 0 → proper ≡ properSaid ns
   proper-said e = rw (properSaid, many 0 e)
 
+  pub shift-wrong : (v .count ≡ 2 → ⊥) → wrong ≡ shiftSaid ns
+  shift-wrong n = rw (shiftSaid, other 2 n)
+
+  pub shift-said : v .count ≡ 2 → shift (getD (v .n) 0 0) (getD (v .n) 1 0) ≡ shiftSaid ns
+  shift-said e = rw (shiftSaid, many 2 e) (cc (h .first 0 (omega arith), h .first 1 (omega arith)))
+
   pub box-wrong : (column : ℕ) → (v .count ≡ 5 → ⊥) → wrong ≡ boxSaid column ns
   box-wrong column n = rw (boxSaid, other 5 n)
 
@@ -95,6 +101,9 @@ Not7 word = Not6 word × (same word (ascii "white") ≡ false)
 abbrev pub Not8 : List ℕ → Type 0
 Not8 word = Not7 word × (same word (ascii "proper") ≡ false)
 
+abbrev pub Not9 : List ℕ → Type 0
+Not9 word = Not8 word × (same word (ascii "shift") ≡ false)
+
 module _ (word ns : List ℕ) (r : Said) where
   pub by-tens : same word (ascii "tens") ≡ true → r ≡ boxSaid 0 ns → r ≡ byWord word ns
   unfolding byWord
@@ -128,10 +137,16 @@ module _ (word ns : List ℕ) (r : Said) where
   unfolding byWord
   by-proper n e h = rw (byWord, n .0 .0 .0 .0 .0 .0, n .0 .0 .0 .0 .0 .1, n .0 .0 .0 .0 .1, n .0 .0 .0 .1, n .0 .0 .1, n .0 .1, n .1, e) h
 
-  pub by-none : Not8 word → r ≡ wrong → r ≡ byWord word ns
+  pub by-shift : Not8 word → same word (ascii "shift") ≡ true → r ≡ shiftSaid ns → r ≡ byWord word ns
   unfolding byWord
-  by-none n h =
-      rw (byWord, n .0 .0 .0 .0 .0 .0 .0, n .0 .0 .0 .0 .0 .0 .1, n .0 .0 .0 .0 .0 .1, n .0 .0 .0 .0 .1, n .0 .0 .0 .1, n .0 .0 .1, n .0 .1, n .1) h
+  by-shift n e h =
+      rw (byWord, n .0 .0 .0 .0 .0 .0 .0, n .0 .0 .0 .0 .0 .0 .1, n .0 .0 .0 .0 .0 .1, n .0 .0 .0 .0 .1, n .0 .0 .0 .1, n .0 .0 .1, n .0 .1, n .1, e) h
+
+  pub by-none : Not9 word → r ≡ wrong → r ≡ byWord word ns
+  unfolding byWord
+  by-none m h =
+      let n = m .0 in
+      rw (byWord, n .0 .0 .0 .0 .0 .0 .0, n .0 .0 .0 .0 .0 .0 .1, n .0 .0 .0 .0 .0 .1, n .0 .0 .0 .0 .1, n .0 .0 .0 .1, n .0 .0 .1, n .0 .1, n .1, m .1) h
 
 -- ---- A line
 

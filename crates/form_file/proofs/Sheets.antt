@@ -34,7 +34,7 @@ small : List ℕ
 small = ascii "page 4 10 # columns, rows\ntick 1\nblack 3 4 0 1 1\nwhite 3 4 1 10 0\n" ++ boxLines
 
 smallForm : Form
-smallForm = record { columns = 4; least = 10; most = 10; tick = 1; doubt = 1; places = 2; proper = false }
+smallForm = record { columns = 4; least = 10; most = 10; tick = 1; doubt = 1; places = 2; proper = false; across = 0; down = 0 }
 
 -- what is lent for the boxes
 lent : List ℕ
@@ -50,11 +50,19 @@ sound = refl
 
 -- and one that asks for proper pages alone
 properForm : Form
-properForm = record { columns = 4; least = 10; most = 10; tick = 1; doubt = 1; places = 2; proper = true }
+properForm = record { columns = 4; least = 10; most = 10; tick = 1; doubt = 1; places = 2; proper = true; across = 0; down = 0 }
 
 only-proper : readForm (ascii "proper\n" ++ small) lent 14 .formed ≡ formed properForm
 unfolding small properForm formed boxLines boxLinesAt tensLines unitsLines lent ascii readForm hearing whole firstMissing lineSays byWord setFour pieces uncommented filled same valueFrom valuesOf firstOf all
 only-proper = refl
+
+-- and one that may lie seven pixels aside
+shiftForm : Form
+shiftForm = record { columns = 4; least = 10; most = 10; tick = 1; doubt = 1; places = 2; proper = false; across = 7; down = 0 }
+
+shifted : readForm (ascii "shift 7 0\n" ++ small) lent 14 .formed ≡ formed shiftForm
+unfolding small shiftForm formed boxLines boxLinesAt tensLines unitsLines lent ascii readForm hearing whole firstMissing lineSays byWord setFour pieces uncommented filled same valueFrom valuesOf firstOf all
+shifted = refl
 
 -- the numbers of the places: black, its edges, the count and the line; and then those of the second
 places : readForm small lent 14 .places ≡ 1 ∷ 3 ∷ 4 ∷ 0 ∷ 1 ∷ 1 ∷ 3 ∷ 0 ∷ 3 ∷ 4 ∷ 1 ∷ 10 ∷ 0 ∷ 4 ∷ []
@@ -100,6 +108,23 @@ proper-number : bad (ascii "proper 1\n") 32 0 1
 unfolding bad lent ascii readForm hearing whole firstMissing lineSays byWord setFour pieces uncommented filled same valueFrom valuesOf firstOf all
 proper-number = refl
 
+shift-twice : bad (ascii "shift 0 1\nshift 2 0\n") 33 0 2
+unfolding bad lent ascii readForm hearing whole firstMissing lineSays byWord setFour pieces uncommented filled same valueFrom valuesOf firstOf all
+shift-twice = refl
+
+shift-one : bad (ascii "shift 1\n") 32 0 1
+unfolding bad lent ascii readForm hearing whole firstMissing lineSays byWord setFour pieces uncommented filled same valueFrom valuesOf firstOf all
+shift-one = refl
+
+-- none at all, and one that is too far
+shift-none : bad (ascii "shift 0 0\n") 34 0 1
+unfolding bad lent ascii readForm hearing whole firstMissing lineSays byWord setFour pieces uncommented filled same valueFrom valuesOf firstOf all
+shift-none = refl
+
+shift-far : bad (ascii "shift 1000 1001\n") 34 0 1
+unfolding bad lent ascii readForm hearing whole firstMissing lineSays byWord setFour pieces uncommented filled same valueFrom valuesOf firstOf all
+shift-far = refl
+
 empty : bad (ascii "white 5 5 0 1 9\n") 34 0 1
 unfolding bad lent ascii readForm hearing whole firstMissing lineSays byWord setFour pieces uncommented filled same valueFrom valuesOf firstOf all
 empty = refl
@@ -119,6 +144,11 @@ no-tick = refl
 no-box : bad (ascii "page 4 10\ntick 1\ntens 0 0 1 0 1\n") 36 1 0
 unfolding bad lent ascii readForm hearing whole firstMissing lineSays byWord setFour pieces uncommented filled same valueFrom valuesOf firstOf all
 no-box = refl
+
+-- nothing to find it by
+no-place : bad (ascii "page 4 10\ntick 1\nshift 1 1\n" ++ boxLines) 36 22 0
+unfolding bad boxLines boxLinesAt tensLines unitsLines lent ascii readForm hearing whole firstMissing lineSays byWord setFour pieces uncommented filled same valueFrom valuesOf firstOf all
+no-place = refl
 
 -- its last row is not on every page of nine rows or ten
 not-inside : bad (boxLines ++ ascii "tick 1\npage 4 9 10") 37 18 10

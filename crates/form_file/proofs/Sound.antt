@@ -1,6 +1,6 @@
 -- Laws of a form that is sound: each test of what was heard hands its outcome to one of these. Assumes nothing.
 use mathlib.Core.Path.{_≡_, refl, sym, ap, _∙_}
-use mathlib.Core.Bool.{true, not}
+use mathlib.Core.Bool.{Bool, true, false, not, _&&_}
 use mathlib.Core.List.{List, []}
 use Prim.Native.Nat.{ℕ, _+_, _*_, _≤_, _<_}
 use native.Mathlib.Omega.{arith}
@@ -12,8 +12,8 @@ use Rattle.heads.specs.Numbers.{boxIn}
 use Rattle.heads.specs.declared.Box.{Box}
 use Rattle.ledger.specs.Verdicts.{badNumbers, missingLine, outsidePage, overlapping}
 use Rattle.form_file.specs.First.{firstOf}
-use Rattle.form_file.specs.Heard.{Heard}
-use Rattle.form_file.specs.FormFile.{noPage, noTick, noBox, nothingMissing, firstUnsaid, firstMissing, inside, boxAt, placeAt, boxOutside, overlaps, boxOver, placeOutside, faulty, doubted, whole}
+use Rattle.form_file.specs.Heard.{Heard, hasShift}
+use Rattle.form_file.specs.FormFile.{noPage, noTick, noPlace, noBox, nothingMissing, firstUnsaid, firstMissing, inside, boxAt, placeAt, boxOutside, overlaps, boxOver, placeOutside, faulty, doubted, whole}
 use Rattle.form_file.specs.Going.{heardIn, within}
 use Rattle.form_file.specs.declared.Form.{Form}
 use Rattle.form_file.proofs.Firsts.{first-high, first-same}
@@ -35,9 +35,27 @@ module _ (h : Heard) where
       unfolding firstMissing
       lacks-box l = is ∙ sym (rw (firstMissing, ne-eqb (h .form .columns) 0 page, ne-eqb (h .form .tick) 0 tick, lt-ltb (firstUnsaid h) 20 (omega arith)))
 
-      pub lacks-none : 20 ≤ k → nothingMissing ≡ firstMissing h
-      unfolding firstMissing
-      lacks-none l = sym (rw (firstMissing, ne-eqb (h .form .columns) 0 page, ne-eqb (h .form .tick) 0 tick, le-ltb (firstUnsaid h) 20 (omega arith)))
+      module _ (l : 20 ≤ k) where
+        abbrev last : Bool → ℕ
+        last t = elim t [ true ↦ noPlace | false ↦ nothingMissing ]
+
+        lacks-last : firstMissing h ≡ last (hasShift (h .form) && eqb (h .form .places) 0)
+        unfolding firstMissing
+        lacks-last = rw (firstMissing, ne-eqb (h .form .columns) 0 page, ne-eqb (h .form .tick) 0 tick, le-ltb (firstUnsaid h) 20 (omega arith))
+
+        pub lacks-nothing : (h .form .places ≡ 0 → ⊥) → nothingMissing ≡ firstMissing h
+        lacks-nothing e = sym (lacks-last ∙ rw (ne-eqb (h .form .places) 0 e) (by (hasShift (h .form))))
+          where
+            by : (t : Bool) → last (t && false) ≡ nothingMissing
+            by true = refl
+            by false = refl
+
+        module _ (e : h .form .places ≡ 0) {t : Bool} (s : t ≡ hasShift (h .form)) where
+          pub lacks-place : t ≡ true → noPlace ≡ firstMissing h
+          lacks-place z = sym (lacks-last ∙ rw (← s, z, eq-eqb (h .form .places) 0 e))
+
+          pub lacks-none : t ≡ false → nothingMissing ≡ firstMissing h
+          lacks-none z = sym (lacks-last ∙ rw (← s, z))
 
 -- ---- The tests, one behind the other, by what is lent: the places that were heard are the first there
 

@@ -13,7 +13,7 @@ use Rattle.ledger.specs.Verdicts.{badNumbers, missingLine, outsidePage, overlap
 use Rattle.form_file.specs.First.{firstOf}
 use Rattle.form_file.specs.Words.{wordsOf, same}
 use Rattle.form_file.specs.Said.{lineSays}
-use Rattle.form_file.specs.Heard.{Heard, formOf, noForm, unheard, heard, on, fault}
+use Rattle.form_file.specs.Heard.{Heard, formOf, noForm, hasShift, unheard, heard, on, fault}
 use Rattle.form_file.specs.declared.Form.{Form}
 use Rattle.form_file.specs.declared.Formed.{Formed}
 
@@ -37,15 +37,18 @@ placeAt places k = boxIn places (7 * k + 1)
 abbrev pub overlaps : List ℕ → ℕ → Bool
 overlaps boxes which = ltb (firstOf (λ k. not (apart (boxAt boxes k) (boxAt boxes which))) which 0) which
 
--- What is missing: the page, then the tick, then the boxes by their numbers
+-- What is missing: the page, then the tick, then the boxes by their numbers, then a place to find a form by that has a shift
 abbrev pub noPage : ℕ
 noPage = 20
 
 abbrev pub noTick : ℕ
 noTick = 21
 
+abbrev pub noPlace : ℕ
+noPlace = 22
+
 abbrev pub nothingMissing : ℕ
-nothingMissing = 22
+nothingMissing = 23
 
 abbrev pub firstUnsaid : Heard → ℕ
 firstUnsaid h = firstOf (λ k. eqb (getD (h .lines) k 0) 0) 20 0
@@ -57,7 +60,11 @@ firstMissing h =
       | false ↦
           elim (eqb (h .form .tick) 0) [
             | true ↦ noTick
-            | false ↦ elim (ltb (firstUnsaid h) 20) [ true ↦ firstUnsaid h | false ↦ nothingMissing ]
+            | false ↦
+                elim (ltb (firstUnsaid h) 20) [
+                  | true ↦ firstUnsaid h
+                  | false ↦ elim (hasShift (h .form) && eqb (h .form .places) 0) [ true ↦ noPlace | false ↦ nothingMissing ]
+                ]
           ]
     ]
 
@@ -79,7 +86,7 @@ faulty number which line = record { number = number; which = which; line = line;
 -- "if missing the tick's"
 abbrev pub doubted : Form → Form
 doubted f =
-    formOf (f .columns) (f .least) (f .most) (f .tick) (elim (eqb (f .doubt) 0) [ true ↦ f .tick | false ↦ f .doubt ]) (f .places) (f .proper)
+    formOf (f .columns) (f .least) (f .most) (f .tick) (elim (eqb (f .doubt) 0) [ true ↦ f .tick | false ↦ f .doubt ]) (f .places) (f .proper) (f .across) (f .down)
 
 -- the number of no box, for a fault that is about a place
 abbrev pub noBox : ℕ

@@ -15,7 +15,7 @@ use Rattle.form_file.specs.declared.Formed.{Formed}
 use Rattle.form_file.specs.declared.heard.Went.{Went}
 use Rattle.form_file.specs.declared.heard.Went.the-variants.{On, Fault}
 use Rattle.form_file.specs.declared.said.Said.{Said}
-use Rattle.form_file.specs.declared.said.Said.the-variants.{Nothing as nothing, Square as box, Page as page, Tick as tick, Doubt as doubt, Place as place, Proper as proper, Wrong as wrong}
+use Rattle.form_file.specs.declared.said.Said.the-variants.{Nothing as nothing, Square as box, Page as page, Tick as tick, Doubt as doubt, Place as place, Proper as proper, Shift as shift, Wrong as wrong}
 
 -- what was heard, where a form's places are the first of those that are lent
 abbrev pub heardIn : Form → List ℕ → List ℕ → List ℕ → Heard
@@ -50,6 +50,7 @@ boxOf (tick n) = 0
 boxOf (doubt n) = 0
 boxOf (place kind b n) = 0
 boxOf proper = 0
+boxOf (shift across down) = 0
 boxOf wrong = 0
 
 -- a line that is sound: the arrays hold what is heard then, and behind the places each entry keeps its value

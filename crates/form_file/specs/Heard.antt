@@ -8,7 +8,7 @@ use Rattle.heads.specs.declared.Box.{Box}
 use Rattle.ledger.specs.Verdicts.{noFormLine, saidTwice, badNumbers, tooManyPlaces}
 use Rattle.form_file.specs.declared.Form.{Form}
 use Rattle.form_file.specs.declared.said.Said.{Said}
-use Rattle.form_file.specs.declared.said.Said.the-variants.{Nothing as nothing, Square as box, Page as page, Tick as tick, Doubt as doubt, Place as place, Proper as proper, Wrong as wrong}
+use Rattle.form_file.specs.declared.said.Said.the-variants.{Nothing as nothing, Square as box, Page as page, Tick as tick, Doubt as doubt, Place as place, Proper as proper, Shift as shift, Wrong as wrong}
 
 -- The numbers of a form, 0 until they are said, and whether it asks for proper pages; the four edges of each box, and the line at which it
 -- stands, 0 where it stands at none; the places, with seven numbers for each: kind, edges, count and line.
@@ -18,12 +18,32 @@ pub record Heard : Type 0 where
   pub lines : List ℕ
   pub places : List ℕ
 
-abbrev pub formOf : ℕ → ℕ → ℕ → ℕ → ℕ → ℕ → Bool → Form
-formOf columns least most ticked doubted places only-proper =
-    record { columns = columns; least = least; most = most; tick = ticked; doubt = doubted; places = places; proper = only-proper }
+abbrev pub formOf : ℕ → ℕ → ℕ → ℕ → ℕ → ℕ → Bool → ℕ → ℕ → Form
+formOf columns least most ticked doubted places only-proper across down = record {
+  columns = columns;
+  least = least;
+  most = most;
+  tick = ticked;
+  doubt = doubted;
+  places = places;
+  proper = only-proper;
+  across = across;
+  down = down;
+}
+
+-- a form that may lie aside of its place, or above or below it
+abbrev pub isShift : ℕ → ℕ → Bool
+isShift across down = ltb 0 (across + down)
+
+abbrev pub hasShift : Form → Bool
+hasShift f = isShift (f .across) (f .down)
+
+-- "Each at most 1,000"
+abbrev pub mostShift : ℕ
+mostShift = 1000
 
 abbrev pub noForm : Form
-noForm = formOf 0 0 0 0 0 0 false
+noForm = formOf 0 0 0 0 0 0 false 0 0
 
 -- before the first line: a box of which no line says anything keeps the numbers that were lent
 abbrev pub unheard : List ℕ → Heard
@@ -68,7 +88,7 @@ heard room line h (page columns least most) =
       | true ↦
           elim (ltb 0 columns && (ltb 0 least && leb least most)) [
             | false ↦ fault badNumbers 0
-            | true ↦ on (withForm h (formOf columns least most (h .form .tick) (h .form .doubt) (h .form .places) (h .form .proper)))
+            | true ↦ on (withForm h (formOf columns least most (h .form .tick) (h .form .doubt) (h .form .places) (h .form .proper) (h .form .across) (h .form .down)))
           ]
     ]
 heard room line h (tick n) =
@@ -77,7 +97,7 @@ heard room line h (tick n) =
       | true ↦
           elim (ltb 0 n) [
             | false ↦ fault badNumbers 0
-            | true ↦ on (withForm h (formOf (h .form .columns) (h .form .least) (h .form .most) n (h .form .doubt) (h .form .places) (h .form .proper)))
+            | true ↦ on (withForm h (formOf (h .form .columns) (h .form .least) (h .form .most) n (h .form .doubt) (h .form .places) (h .form .proper) (h .form .across) (h .form .down)))
           ]
     ]
 heard room line h (doubt n) =
@@ -86,7 +106,7 @@ heard room line h (doubt n) =
       | true ↦
           elim (ltb 0 n) [
             | false ↦ fault badNumbers 0
-            | true ↦ on (withForm h (formOf (h .form .columns) (h .form .least) (h .form .most) (h .form .tick) n (h .form .places) (h .form .proper)))
+            | true ↦ on (withForm h (formOf (h .form .columns) (h .form .least) (h .form .most) (h .form .tick) n (h .form .places) (h .form .proper) (h .form .across) (h .form .down)))
           ]
     ]
 heard room line h (place kind b n) =
@@ -97,7 +117,7 @@ heard room line h (place kind b n) =
             | false ↦ fault badNumbers 0
             | true ↦
                 on (record {
-                  form = formOf (h .form .columns) (h .form .least) (h .form .most) (h .form .tick) (h .form .doubt) (suc (h .form .places)) (h .form .proper);
+                  form = formOf (h .form .columns) (h .form .least) (h .form .most) (h .form .tick) (h .form .doubt) (suc (h .form .places)) (h .form .proper) (h .form .across) (h .form .down);
                   boxes = h .boxes;
                   lines = h .lines;
                   places = h .places ++ placeNumbers kind b n line;
@@ -107,5 +127,16 @@ heard room line h (place kind b n) =
 heard room line h proper =
     elim (h .form .proper) [
       | true ↦ fault saidTwice 0
-      | false ↦ on (withForm h (formOf (h .form .columns) (h .form .least) (h .form .most) (h .form .tick) (h .form .doubt) (h .form .places) true))
+      | false ↦ on (withForm h (formOf (h .form .columns) (h .form .least) (h .form .most) (h .form .tick) (h .form .doubt) (h .form .places) true (h .form .across) (h .form .down)))
+    ]
+-- "at least one of them above 0"
+heard room line h (shift across down) =
+    elim (hasShift (h .form)) [
+      | true ↦ fault saidTwice 0
+      | false ↦
+          elim (isShift across down && (leb across mostShift && leb down mostShift)) [
+            | false ↦ fault badNumbers 0
+            | true ↦
+                on (withForm h (formOf (h .form .columns) (h .form .least) (h .form .most) (h .form .tick) (h .form .doubt) (h .form .places) (h .form .proper) across down))
+          ]
     ]

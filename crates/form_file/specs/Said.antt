@@ -9,7 +9,7 @@ use Rattle.heads.specs.Form.{all}
 use Rattle.heads.specs.Numbers.{boxIn}
 use Rattle.form_file.specs.Words.{same, none, valuesOf}
 use Rattle.form_file.specs.declared.said.Said.{Said}
-use Rattle.form_file.specs.declared.said.Said.the-variants.{Nothing as nothing, Square as box, Page as page, Tick as tick, Doubt as doubt, Place as place, Proper as proper, Wrong as wrong}
+use Rattle.form_file.specs.declared.said.Said.the-variants.{Nothing as nothing, Square as box, Page as page, Tick as tick, Doubt as doubt, Place as place, Proper as proper, Shift as shift, Wrong as wrong}
 
 -- `tens D LEFT RIGHT TOP BOTTOM`, `units D ..`: the box of a digit. A box has the number 2 × digit, and one more in the units' column.
 abbrev pub boxSaid : ℕ → List ℕ → Said
@@ -36,6 +36,10 @@ placeSaid kind ns = elim (eqb (length ns) 5) [ true ↦ place kind (boxIn ns 0) 
 -- `proper`, and no number: a page is to be, to the last bit, what a writer of T.6 or T.4 writes for its rows
 abbrev pub properSaid : List ℕ → Said
 properSaid ns = elim (eqb (length ns) 0) [ true ↦ proper | false ↦ wrong ]
+
+-- `shift ACROSS DOWN`: how far the form may lie from its place, to either side, and up or down
+abbrev pub shiftSaid : List ℕ → Said
+shiftSaid ns = elim (eqb (length ns) 2) [ true ↦ shift (getD ns 0 0) (getD ns 1 0) | false ↦ wrong ]
 
 abbrev pub whiteKind : ℕ
 whiteKind = 0
@@ -65,7 +69,11 @@ byWord word ns =
                                     | false ↦
                                         elim (same word (ascii "white")) [
                                           | true ↦ placeSaid whiteKind ns
-                                          | false ↦ elim (same word (ascii "proper")) [ true ↦ properSaid ns | false ↦ wrong ]
+                                          | false ↦
+                                              elim (same word (ascii "proper")) [
+                                                | true ↦ properSaid ns
+                                                | false ↦ elim (same word (ascii "shift")) [ true ↦ shiftSaid ns | false ↦ wrong ]
+                                              ]
                                         ]
                                   ]
                             ]

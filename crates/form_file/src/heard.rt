@@ -6,9 +6,9 @@ ghost use mathlib.Core.Path.{_≡_};
 ghost use Prim.Native.Nat.{_+_, _*_, _≤_, _<_};
 ghost use lib.ListN.{length, set};
 ghost use Rattle.form_file.specs.Heard as Heard;
-ghost use Rattle.form_file.specs.Heard.{setFour};
+ghost use Rattle.form_file.specs.Heard.{setFour, isShift};
 ghost use Rattle.form_file.specs.Going.{Gone, FormGoes, BoxGoes, PlaceGoes, Lent, boxOf};
-ghost use Rattle.form_file.specs.declared.said.Said.the-variants.{Square, Page, Tick, Doubt, Place, Proper};
+ghost use Rattle.form_file.specs.declared.said.Said.the-variants.{Square, Page, Tick, Doubt, Place, Proper, Shift};
 
 // What a line leaves: the form with what it says, or the number of a fault and the box that it is about.
 pub(crate) enum Went {
@@ -92,6 +92,8 @@ fn heard_page(form: Form, columns: u32, least: u32, most: u32) -> Went
         doubt: form.doubt,
         places: form.places,
         proper: form.proper,
+        across: form.across,
+        down: form.down,
     })
 }
 
@@ -112,6 +114,8 @@ fn heard_tick(form: Form, n: u32) -> Went
         doubt: form.doubt,
         places: form.places,
         proper: form.proper,
+        across: form.across,
+        down: form.down,
     })
 }
 
@@ -132,6 +136,8 @@ fn heard_doubt(form: Form, n: u32) -> Went
         doubt: n,
         places: form.places,
         proper: form.proper,
+        across: form.across,
+        down: form.down,
     })
 }
 
@@ -163,6 +169,8 @@ fn heard_place(
         doubt: form.doubt,
         places: form.places + 1,
         proper: form.proper,
+        across: form.across,
+        down: form.down,
     })
 }
 
@@ -180,6 +188,49 @@ fn heard_proper(form: Form) -> Went
         doubt: form.doubt,
         places: form.places,
         proper: true,
+        across: form.across,
+        down: form.down,
+    })
+}
+
+// Whether a form may lie aside of its place, or above or below it.
+pub(crate) fn is_shift(across: u32, down: u32) -> bool
+    ensures { λ r. ⌜ r ≡ isShift across down ⌝ }
+{
+    if 0 < across {
+        return true;
+    }
+    0 < down
+}
+
+// How far it may, at most.
+const MOST_SHIFT: u32 = 1000;
+
+fn heard_shift(form: Form, across: u32, down: u32) -> Went
+    ensures { λ r. ⌜ FormGoes form (Shift across down) r ⌝ }
+{
+    if is_shift(form.across, form.down) {
+        return Went::Fault(ledger::SAID_TWICE, 0);
+    }
+    if !is_shift(across, down) {
+        return Went::Fault(ledger::BAD_NUMBERS, 0);
+    }
+    if MOST_SHIFT < across {
+        return Went::Fault(ledger::BAD_NUMBERS, 0);
+    }
+    if MOST_SHIFT < down {
+        return Went::Fault(ledger::BAD_NUMBERS, 0);
+    }
+    Went::On(Form {
+        columns: form.columns,
+        least: form.least,
+        most: form.most,
+        tick: form.tick,
+        doubt: form.doubt,
+        places: form.places,
+        proper: form.proper,
+        across,
+        down,
     })
 }
 
@@ -204,6 +255,7 @@ pub(crate) fn heard(
         Said::Doubt(n) => heard_doubt(form, n),
         Said::Place(kind, b, n) => heard_place(room, form, line, kind, b, n, places),
         Said::Proper => heard_proper(form),
+        Said::Shift(across, down) => heard_shift(form, across, down),
         Said::Wrong => Went::Fault(ledger::NO_FORM_LINE, 0),
     }
 }

@@ -15,7 +15,8 @@ ghost use Rattle.form_file.specs.FormFile.{Forms, placesFor, textStart};
 ghost use Rattle.form_file.specs.Going.{Hearable, Leaves, heardFrom};
 
 // The numbers of a form: the columns and the rows of its page, the black pixels from which a box is ticked, and from which it is in
-// doubt; how many places it has. And whether it asks for proper pages alone.
+// doubt; how many places it has; whether it asks for proper pages alone. And how far it may lie from its place, to either side, and up or
+// down.
 #[repr(C)]
 pub struct Form {
     pub columns: u32,
@@ -25,6 +26,8 @@ pub struct Form {
     pub doubt: u32,
     pub places: u32,
     pub proper: bool,
+    pub across: u32,
+    pub down: u32,
 }
 
 // A form file that was read: 0 and the form; or what is wrong, with the box and the line that it is about.
@@ -86,6 +89,8 @@ fn hear(
         doubt: 0,
         places: 0,
         proper: false,
+        across: 0,
+        down: 0,
     };
     let mut line: u32 = 0;
     let mut at = from;

@@ -6,7 +6,7 @@ ghost use mathlib.Core.List.{List};
 ghost use Prim.Native.Nat.{ℕ, _≤_};
 ghost use lib.ListN.{length, drop};
 ghost use Rattle.form_file.specs.Words.{wordsOf, valuesOf};
-ghost use Rattle.form_file.specs.Said.{boxSaid, pageSaid, oneSaid, placeSaid, properSaid, byWord, lineSays};
+ghost use Rattle.form_file.specs.Said.{boxSaid, pageSaid, oneSaid, placeSaid, properSaid, shiftSaid, byWord, lineSays};
 ghost use Rattle.form_file.specs.declared.said.Said.the-variants.{Tick as tick, Doubt as doubt};
 ghost use Rattle.form_file.specs.Steps.{wordsIn, Numbers, Valued};
 
@@ -24,6 +24,7 @@ pub enum Said {
     Doubt(u32),
     Place(u32, Box, u32),
     Proper,
+    Shift(u32, u32),
     Wrong,
 }
 
@@ -139,6 +140,17 @@ fn proper_in(v: Values) -> Said
     Said::Proper
 }
 
+// `shift`: to either side, and up or down.
+fn shift_in(v: Values) -> Said
+    ensures { λ r. ⌜ ((ns : List ℕ) → Numbers v ns → r ≡ shiftSaid ns) ⌝ }
+{
+    let n = v.n;
+    if v.count != 2 {
+        return Said::Wrong;
+    }
+    Said::Shift(n[0], n[1])
+}
+
 // What a line says whose first word is this one, and all others are numbers.
 fn by_word(word: &[u8], v: Values) -> Said
     ensures { λ r. ⌜ ((ns : List ℕ) → Numbers v ns → r ≡ byWord (now (word .entry)) ns) ⌝ }
@@ -166,6 +178,9 @@ fn by_word(word: &[u8], v: Values) -> Said
     }
     if words::same(word, b"proper") {
         return proper_in(v);
+    }
+    if words::same(word, b"shift") {
+        return shift_in(v);
     }
     Said::Wrong
 }

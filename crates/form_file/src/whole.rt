@@ -1,6 +1,7 @@
 // Whether what the lines of a form file say is a form.
 use crate::Form;
 use crate::Formed;
+use crate::heard::is_shift;
 use heads::Box;
 ghost use mathlib.Core.Bool.{not};
 ghost use mathlib.Core.List.{[]};
@@ -19,7 +20,9 @@ const NO_PAGE: u32 = 20;
 
 const NO_TICK: u32 = 21;
 
-const NOTHING_MISSING: u32 = 22;
+const NO_PLACE: u32 = 22;
+
+const NOTHING_MISSING: u32 = 23;
 
 const NO_BOX: u32 = 20;
 
@@ -38,6 +41,8 @@ pub(crate) fn faulty(number: u32, which: u32, line: u32) -> Formed
             doubt: 0,
             places: 0,
             proper: false,
+            across: 0,
+            down: 0,
         },
     }
 }
@@ -70,6 +75,12 @@ fn first_missing(form: Form, lines: &[u32]) -> u32
     let k = first_unsaid(lines);
     if k < 20 {
         return k;
+    }
+    if form.places != 0 {
+        return NOTHING_MISSING;
+    }
+    if is_shift(form.across, form.down) {
+        return NO_PLACE;
     }
     NOTHING_MISSING
 }
@@ -182,6 +193,8 @@ fn doubted(form: Form) -> Form
         doubt,
         places: form.places,
         proper: form.proper,
+        across: form.across,
+        down: form.down,
     }
 }
 

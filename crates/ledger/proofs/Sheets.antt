@@ -73,6 +73,10 @@ not-proper : said (looked 24 0 0 0 0 871 0 0) ≡ ascii "b\t24\t-\t30\t24: the p
 unfolding said looked ascii digits decimal S.fill S.shown S.pageLine P.words P.reasonAt P.plainAt books
 not-proper = refl
 
+other-heads : said (looked 25 0 0 0 0 0 40 41) ≡ ascii "b\t25\t-\t30\t25: the form fits at two places of the page, and they read other heads: 40 and 41\n"
+unfolding said looked ascii digits decimal S.fill S.shown S.pageLine P.words P.reasonAt P.plainAt books
+other-heads = refl
+
 bad-line : said (looked 32 0 7 0 0 0 0 0) ≡ ascii "b\t32\t-\t30\t32: the form's line 7 is none of a form\n"
 unfolding said looked ascii digits decimal S.fill S.shown S.pageLine P.words P.reasonAt P.plainAt books
 bad-line = refl
@@ -84,6 +88,10 @@ doubt-above = refl
 no-box : said (looked 36 7 0 0 0 0 0 0) ≡ ascii "b\t36\t-\t30\t36: the form has no box of units 3\n"
 unfolding said looked ascii digits decimal S.fill S.shown S.pageLine P.words P.reasonAt P.plainAt P.missingAt books
 no-box = refl
+
+no-place : said (looked 36 22 0 0 0 0 0 0) ≡ ascii "b\t36\t-\t30\t36: the form has a shift, and no black or white place to find it by\n"
+unfolding said looked ascii digits decimal S.fill S.shown S.pageLine P.words P.reasonAt P.plainAt P.missingAt books
+no-place = refl
 
 too-long : said (looked 46 0 0 0 0 0 0 0) ≡ ascii "b\t46\t-\t30\t46: the file is longer than the tool holds\n"
 unfolding said looked ascii digits decimal S.fill S.shown S.pageLine P.words P.reasonAt P.plainAt books

@@ -72,6 +72,8 @@ words =
     "the page's end-of-line marks stop before its end" ∷
     -- 24
     "the page's bits are not those that a writer writes for its rows: they part at bit C" ∷
+    -- 25
+    "the form fits at two places of the page, and they read other heads: L and M" ∷
     -- 32
     "the form's line F is none of a form" ∷
     -- 33
@@ -126,9 +128,10 @@ words =
     "the box of units D has C black pixels: in doubt from L on, ticked from M on" ∷
     -- 34, of no line
     "the form's doubt is above its tick" ∷
-    -- 36: the page, the tick, a box
+    -- 36: the page, the tick, a place, a box
     "the form has no line that says its page" ∷
     "the form has no line that says its tick" ∷
+    "the form has a shift, and no black or white place to find it by" ∷
     "the form has no box of tens D" ∷
     "the form has no box of units D" ∷
     -- a reason alone, and that there is none
@@ -157,47 +160,51 @@ isUnits v = not (eqb (v .which % 2) 0)
 
 -- where the phrases of some numbers begin
 abbrev pub ticksSaid : ℕ
-ticksSaid = 49
+ticksSaid = 50
 
 abbrev pub mendedSaid : ℕ
-mendedSaid = 53
+mendedSaid = 54
 
 abbrev pub rowsSaid : ℕ
-rowsSaid = 57
+rowsSaid = 58
 
 abbrev pub uncleanSaid : ℕ
-uncleanSaid = 58
+uncleanSaid = 59
 
 abbrev pub doubtSaid : ℕ
-doubtSaid = 60
+doubtSaid = 61
 
 abbrev pub doubtAboveSaid : ℕ
-doubtAboveSaid = 62
+doubtAboveSaid = 63
 
 abbrev pub missingSaid : ℕ
-missingSaid = 63
+missingSaid = 64
 
 abbrev pub aloneSaid : ℕ
-aloneSaid = 67
+aloneSaid = 69
 
 -- for a number that no verdict on a page has
 abbrev pub noAnswerSaid : ℕ
 noAnswerSaid = 16
 
--- the phrase of a number by itself: they stand behind the eight of a line and the total, without the numbers from 25 to 31
+-- the phrase of a number by itself: they stand behind the eight of a line and the total, without the numbers from 26 to 31
 unfoldable pub plainAt : ℕ → ℕ
 plainAt n =
     elim (leb n lastOfPage) [
       | true ↦ 7 + n
-      | false ↦ elim (leb firstOfForm n && leb n lastVerdict) [ true ↦ n | false ↦ noAnswerSaid ]
+      | false ↦ elim (leb firstOfForm n && leb n lastVerdict) [ true ↦ 1 + n | false ↦ noAnswerSaid ]
     ]
 
--- the page, the tick or the box that is missing
+-- the page, the tick, the place or the box that is missing
 unfoldable pub missingAt : Verdict → ℕ
 missingAt v =
     elim (leb 20 (v .which)) [
-      | true ↦ elim (eqb (v .which) 20) [ true ↦ missingSaid | false ↦ missingSaid + 1 ]
-      | false ↦ missingSaid + 2 + one (isUnits v)
+      | true ↦
+          elim (eqb (v .which) 20) [
+            | true ↦ missingSaid
+            | false ↦ elim (eqb (v .which) 21) [ true ↦ missingSaid + 1 | false ↦ missingSaid + 2 ]
+          ]
+      | false ↦ missingSaid + 3 + one (isUnits v)
     ]
 
 -- "the page has C rows", where the form has one number of rows

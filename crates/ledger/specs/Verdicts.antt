@@ -39,6 +39,10 @@ eolsGivenUp = 23
 abbrev pub notProper : ℕ
 notProper = 24
 
+-- the form, which may lie aside of its place, fits at two places of it, and they read other heads
+abbrev pub otherTicks : ℕ
+otherTicks = 25
+
 -- ---- Of the form file: its lines
 
 -- none of a form's lines
@@ -112,7 +116,7 @@ cutFile = 48
 
 -- the last of the page's, the first of the form's, and the last of all
 abbrev pub lastOfPage : ℕ
-lastOfPage = 24
+lastOfPage = 25
 
 abbrev pub firstOfForm : ℕ
 firstOfForm = 32

@@ -11,9 +11,12 @@ pub use entry::enter;
 pub use quota::is_passed;
 pub use quota::size_left;
 pub use quota::status;
+pub use said::numbers;
 pub use said::put_line;
+pub use said::put_line_of;
 pub use said::put_reason;
 pub use said::put_total;
+pub use said::put_words;
 pub use said::shown_byte;
 pub use said::unread;
 
@@ -54,8 +57,8 @@ pub struct Entered {
 // The numbers of the verdicts. Up to 15 they are the answers' (crate `answer`); those above are the desk's own.
 
 // Of the page: read with other columns than the form's, bytes left behind it, other rows than the form says, a row that the form
-// rests on and that is not clean, a place that is not black, not white, a box in doubt, EOLs that were given up, and a page that is not
-// proper.
+// rests on and that is not clean, a place that is not black, not white, a box in doubt, EOLs that were given up, a page that is not proper,
+// and a form that fits at two places, which read other heads.
 pub const OTHER_COLUMNS: u32 = 16;
 
 pub const BYTES_BEHIND: u32 = 17;
@@ -73,6 +76,8 @@ pub const IN_DOUBT: u32 = 22;
 pub const GAVE_UP: u32 = 23;
 
 pub const NOT_PROPER: u32 = 24;
+
+pub const OTHER_TICKS: u32 = 25;
 
 // Of a line of the form file: none of a form's, one that says what another says, numbers out of order, a place too many.
 pub const NO_FORM_LINE: u32 = 32;

@@ -11,23 +11,23 @@ const BEFORE_REASONS: usize = 7;
 const NO_ANSWER: usize = 16;
 
 // Where the phrases of some numbers begin.
-const TICKS: usize = 49;
+const TICKS: usize = 50;
 
-const MENDED: usize = 53;
+const MENDED: usize = 54;
 
-const ROWS: usize = 57;
+const ROWS: usize = 58;
 
-const UNCLEAN: usize = 58;
+const UNCLEAN: usize = 59;
 
-const DOUBT: usize = 60;
+const DOUBT: usize = 61;
 
-const DOUBT_ABOVE: usize = 62;
+const DOUBT_ABOVE: usize = 63;
 
-const MISSING: usize = 63;
+const MISSING: usize = 64;
 
-pub(crate) const ALONE: usize = 67;
+pub(crate) const ALONE: usize = 69;
 
-pub(crate) fn phrases() -> [u8; 2802]
+pub(crate) fn phrases() -> [u8; 2942]
     ensures { λ r. ⌜ r ≡ lined words ⌝ }
 {
     *b"\tA\tH\tN\tcounted\n\
@@ -62,6 +62,7 @@ pub(crate) fn phrases() -> [u8; 2802]
         (said by its lines below)\n\
         the page's end-of-line marks stop before its end\n\
         the page's bits are not those that a writer writes for its rows: they part at bit C\n\
+        the form fits at two places of the page, and they read other heads: L and M\n\
         the form's line F is none of a form\n\
         the form's line F says what a line above it says\n\
         the form's line F has numbers out of order\n\
@@ -95,6 +96,7 @@ pub(crate) fn phrases() -> [u8; 2802]
         the form's doubt is above its tick\n\
         the form has no line that says its page\n\
         the form has no line that says its tick\n\
+        the form has a shift, and no black or white place to find it by\n\
         the form has no box of tens D\n\
         the form has no box of units D\n\
         A: \n\
@@ -108,11 +110,11 @@ pub(crate) fn one(b: bool) -> usize
     if b { 1 } else { 0 }
 }
 
-// The phrase of a number by itself. From 32 on it is the number of the phrase, too.
+// The phrase of a number by itself. From 32 on it is the next one.
 fn plain_at(number: u32) -> usize
     ensures { λ r. ⌜ r ≡ plainAt number ⌝ }
 {
-    if number <= crate::NOT_PROPER {
+    if number <= crate::OTHER_TICKS {
         return BEFORE_REASONS + number as usize;
     }
     if number < crate::NO_FORM_LINE {
@@ -121,22 +123,25 @@ fn plain_at(number: u32) -> usize
     if crate::CUT_FILE < number {
         return NO_ANSWER;
     }
-    number as usize
+    1 + number as usize
 }
 
-// The page, the tick or the box that is missing.
+// The page, the tick, the place or the box that is missing.
 fn missing_at(v: Verdict) -> usize
     ensures { λ r. ⌜ r ≡ missingAt v ⌝ }
 {
     let which = v.which;
     let units = one(which % 2 != 0);
     if which < 20 {
-        return MISSING + 2 + units;
+        return MISSING + 3 + units;
     }
     if which == 20 {
         return MISSING;
     }
-    MISSING + 1
+    if which == 21 {
+        return MISSING + 1;
+    }
+    MISSING + 2
 }
 
 // Other rows than a form says that has one number of them.

@@ -29,7 +29,7 @@ ghost use Rattle.ledger.specs.Said.{lineOf, pageLine, reasonLine, totalL
 const LINE_ROOM: usize = 512;
 
 // What the letters stand for, that of A first.
-fn numbers(v: Verdict, b: Ledger) -> [u64; 16]
+pub fn numbers(v: Verdict, b: Ledger) -> [u64; 16]
     ensures { λ r. ⌜ r ≡ Said.numbers v b ⌝ }
 {
     [
@@ -100,7 +100,8 @@ fn put_filled(out: &mut [u8], at: usize, template: &[u8], numbers: &[u64]) -> us
     p
 }
 
-fn put_line_of(out: &mut [u8], at: usize, text: &[u8], k: usize, numbers: &[u64]) -> usize
+// A line of a text that is templates, with its numbers: the one loop behind every phrase.
+pub fn put_line_of(out: &mut [u8], at: usize, text: &[u8], k: usize, numbers: &[u64]) -> usize
     requires { ⌜ Room (now out) at (fill (now numbers) (getD (linesOf (now text)) k [])) ⌝ }
     ensures { λ r. ⌜ Puts (now (out .entry)) at (fill (now (numbers .entry)) (getD (linesOf (now (text .entry))) k [])) r (now (out .exit)) ⌝ }
 {
@@ -124,7 +125,7 @@ fn total_at(b: Ledger) -> usize
 }
 
 // The reason of a page that is to be looked at.
-fn put_words(out: &mut [u8], at: usize, v: Verdict, numbers: &[u64]) -> usize
+pub fn put_words(out: &mut [u8], at: usize, v: Verdict, numbers: &[u64]) -> usize
     requires { ⌜ Room (now out) at (reasonWith v (now numbers)) ⌝ }
     ensures { λ r. ⌜ Puts (now (out .entry)) at (reasonWith v (now (numbers .entry))) r (now (out .exit)) ⌝ }
 {

@@ -32,9 +32,9 @@ use Rattle.ledger_file.proofs.Tabless.{tabless, decimal-tabless, shown-
 
 plain-high : (n : ℕ) → (n ≡ 0 → ⊥) → 8 ≤ plainAt n
 unfolding plainAt
-plain-high n h = by (leb n 24) (leb 32 n) (leb n 48) (leb-true 32 n)
+plain-high n h = by (leb n 25) (leb 32 n) (leb n 48) (leb-true 32 n)
   where
-    by : (r s t : Bool) → (s ≡ true → 32 ≤ n) → 8 ≤ elim r [ true ↦ 7 + n | false ↦ elim (s && t) [ true ↦ n | false ↦ 16 ] ]
+    by : (r s t : Bool) → (s ≡ true → 32 ≤ n) → 8 ≤ elim r [ true ↦ 7 + n | false ↦ elim (s && t) [ true ↦ 1 + n | false ↦ 16 ] ]
     by true s t f = above n h
       where
         above : (k : ℕ) → (k ≡ 0 → ⊥) → 8 ≤ 7 + k
@@ -45,12 +45,13 @@ plain-high n h = by (leb n 24) (leb 32 n) (leb n 48) (leb-true 32 n)
 
 missing-high : (v : Verdict) → 8 ≤ missingAt v
 unfolding missingAt
-missing-high v = by (leb 20 (v .which)) (eqb (v .which) 20)
+missing-high v = by (leb 20 (v .which)) (eqb (v .which) 20) (eqb (v .which) 21)
   where
-    by : (s t : Bool) → 8 ≤ elim s [ true ↦ elim t [ true ↦ 63 | false ↦ 64 ] | false ↦ 65 + one (isUnits v) ]
-    by true true = omega arith
-    by true false = omega arith
-    by false t = omega arith
+    by : (s t u : Bool) → 8 ≤ elim s [ true ↦ elim t [ true ↦ 64 | false ↦ elim u [ true ↦ 65 | false ↦ 66 ] ] | false ↦ 67 + one (isUnits v) ]
+    by true true u = omega arith
+    by true false true = omega arith
+    by true false false = omega arith
+    by false t u = omega arith
 
 either : (t : Bool) (a b : ℕ) → 8 ≤ a → 8 ≤ b → 8 ≤ elim t [ true ↦ a | false ↦ b ]
 either true a b p q = p

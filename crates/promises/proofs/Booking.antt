@@ -2,7 +2,7 @@
 use mathlib.Core.Path.{_≡_, refl, sym, ap, _∙_, subst}
 use mathlib.Core.Bool.{Bool, true, false, not, _&&_}
 use mathlib.Core.Logic.{inl}
-use mathlib.Core.List.{List}
+use mathlib.Core.List.{List, _∷_, _++_}
 use Prim.Native.Nat.{ℕ, _≤_}
 use native.Mathlib.Omega.{arith}
 use lib.ListN.{length, take, replicate, length-take}
@@ -23,18 +23,25 @@ use Rattle.settings.specs.declared.EncodingMode.the-variants.{Group4}
 use Rattle.ccitt.specs.Decode.{Decodes}
 use Rattle.writer.specs.Outcome as Writer
 use Rattle.heads.specs.Form as Heads
+use Rattle.listing_text.specs.Text.{tab, decimal}
 use Rattle.ledger.specs.Books.{booked}
+use Rattle.ledger.specs.Said.{shown}
+use Rattle.ledger.specs.declared.Ledger.{Ledger}
 use Rattle.ledger.specs.declared.Verdict.{Verdict}
+use Rattle.form_file.specs.Heard.{hasShift}
 use Rattle.form_file.specs.FormFile.{boxAt}
 use Rattle.form_file.specs.declared.Form.{Form}
 use Rattle.booking.specs.Tests.{onPage}
+use Rattle.booking.specs.Means.{Counts}
 use Rattle.booking.specs.Verdict.{verdictOf, verdictOn}
-use Rattle.booking.specs.Booked.{Given, formRead, boxesAfter, placesAfter, pageSettings, pageRead, pageGaveUp, unsound, isSound, verdictFrom}
+use Rattle.booking.specs.Booked.{Given, formRead, boxesAfter, placesAfter, pageSettings, pageRead, pageGaveUp, unsound, isSound, verdictFrom, Books}
+use Rattle.booking.specs.declared.Booked.{Booked}
 use Rattle.booking.proofs.Findings.{rows-fit, is-whole}
 use Rattle.booking.proofs.Means as Means
+use Rattle.booking.proofs.Findable as Findable
 use Rattle.rules.proofs.Stored.{decode-modest}
 use Rattle.promises.specs.Rooms.{Call}
-use Rattle.promises.specs.Booking.{formOf, Ticked, Counted, CountedLine, CountedMeans, Arrived, WrittenFormIsCounted}
+use Rattle.promises.specs.Booking.{formOf, Ticked, CountedAt, Counted, CountedLine, CountedMeans, boxesThere, placesThere, FoundLine, FoundMeans, Arrived, WrittenFormIsCounted}
 use Rattle.promises.proofs.Demand3.{page-is-whole, written-page-reads-back}
 use Rattle.promises.proofs.NeverBack.{sure-gives-none-up}
 use Rattle.promises.proofs.Proper.{written-page-is-proper}
@@ -70,43 +77,87 @@ module _ (g : Given) where
   places = placesIn (g .ends) (g .marks)
 
   -- the ticks of the form's numbers are those of the statement
-  ticked-alone : (column digit : ℕ) → Alone (pageSettings g) (g .src) (length (g .changes)) places (boxesAfter g) (formOf g .tick) column digit → Ticked g column digit
-  ticked-alone column digit t = record { of-ten = t .of-ten; each = t .each }
+  ticked-alone : (boxes : List ℕ) (column digit : ℕ) → Alone (pageSettings g) (g .src) (length (g .changes)) places boxes (formOf g .tick) column digit → Ticked g boxes column digit
+  ticked-alone boxes column digit t = record { of-ten = t .of-ten; each = t .each }
 
-  counted : onForm .number ≡ 0 → Counted g onForm
-  counted z =
-      let c = Means.counted-means (formOf g) (boxesAfter g) (placesAfter g) (pageSettings g) (g .src) (pageGaveUp g) (pageRead g) z in
-      let t = ticks (pageSettings g) (g .src) (length (g .changes)) places (boxesAfter g) (formOf g .tick) (c .answer) in
+  -- wherever the form lies
+  counted-at : (boxes lies : List ℕ) → Counts (formOf g) boxes lies (pageSettings g) (g .src) (pageGaveUp g) (pageRead g) (onForm .heads) → CountedAt g boxes lies onForm
+  counted-at boxes lies c =
+      let t = ticks (pageSettings g) (g .src) (length (g .changes)) places boxes (formOf g .tick) (c .answer) in
       record {
         tens = t .tens;
         units = t .units;
-        of-tens = ticked-alone 0 (t .tens) (t .of-tens);
-        of-units = ticked-alone 1 (t .units) (t .of-units);
+        of-tens = ticked-alone boxes 0 (t .tens) (t .of-tens);
+        of-units = ticked-alone boxes 1 (t .units) (t .of-units);
         heads-are = c .heads-are ∙ t .heads-are;
         box-rows = λ k y h u.
             read-row (pageSettings g) (g .src) (length (g .changes)) places y (u .row)
-            (clean-boxes (pageSettings g) (g .src) (length (g .changes)) places (boxesAfter g) (formOf g .tick) (c .answer) k y h
-            (boxAt (boxesAfter g) k) refl (u .top) (u .bottom) (u .wide) (u .left) (u .row));
+            (clean-boxes (pageSettings g) (g .src) (length (g .changes)) places boxes (formOf g .tick) (c .answer) k y h
+            (boxAt boxes k) refl (u .top) (u .bottom) (u .wide) (u .left) (u .row));
         place-rows = λ k y h u.
             read-row (pageSettings g) (g .src) (length (g .changes)) places y (u .row)
-            (clean-place (formOf g) (boxesAfter g) (placesAfter g) (pageSettings g) (g .src) (pageGaveUp g) (pageRead g) (onForm .heads) c k y h
+            (clean-place (formOf g) boxes lies (pageSettings g) (g .src) (pageGaveUp g) (pageRead g) (onForm .heads) c k y h
             (u .top) (u .bottom) (u .wide) (u .left) (u .row));
         counts = c;
       }
 
+module _ (name : List ℕ) (b : Ledger) (g : Given) (out : List ℕ) (r : Booked) (boxes places changes ends marks out′ : List ℕ)
+    (books : Books name b g out r boxes places changes ends marks out′) (z : r .verdict .number ≡ 0) (some : r .text ≡ 0 → ⊥) where
+  number : verdictFrom g .number ≡ 0
+  number = sym (ap (λ (v : Verdict). v .number) (books .found .verdict)) ∙ z
+
+  sound : isSound (formRead g .formed) ≡ true
+  sound = counted-sound g number
+
+  -- the verdict is that on the form,
+  on : r .verdict ≡ onForm g
+  on = books .found .verdict ∙ sound-verdict g sound
+
+  on-number : onForm g .number ≡ 0
+  on-number = sym (ap (λ (v : Verdict). v .number) on) ∙ z
+
+  -- and the line is written by it
+  said : (rest : List ℕ) × (take (r .text) out′ ≡ shown name ++ tab ∷ (decimal 0 ++ tab ∷ (decimal (r .verdict .heads) ++ tab ∷ rest)))
+  said =
+      let line =
+      entered name b (verdictFrom g) out (record { ledger = r .ledger; text = r .text }) out′
+      (record { books = books .ledger; length-is = books .length-is; array = books .array }) some .line in
+      let words = counted-line name (verdictFrom g) (booked b (verdictFrom g)) number in (
+        words .0,
+        line ∙ words .1
+            ∙ ap (λ (v : Verdict). shown name ++ tab ∷ (decimal 0 ++ tab ∷ (decimal (v .heads) ++ tab ∷ words .0))) (sym (books .found .verdict)),
+      )
+
+  line-counts : hasShift (formOf g) ≡ false → CountedLine g name r out′
+  line-counts still = record {
+    sound = sound;
+    counted =
+        subst (Counted g) (sym on)
+        (counted-at g (boxesAfter g) (placesAfter g) (Means.counted-means (formOf g) (boxesAfter g) (placesAfter g) (pageSettings g) (g .src) (pageGaveUp g) (pageRead g) still on-number));
+    rest = said .0;
+    line = said .1;
+  }
+
+  line-found : hasShift (formOf g) ≡ true → FoundLine g name r out′
+  line-found shifts =
+      let f = Findable.found-means (formOf g) (boxesAfter g) (placesAfter g) (pageSettings g) (g .src) (pageGaveUp g) (pageRead g) shifts on-number in
+      record {
+        sound = sound;
+        offset = f .offset;
+        near = f .near;
+        fitting = f .fitting;
+        each = λ j h e. subst (CountedAt g (boxesThere g j) (placesThere g j)) (sym on) (counted-at g (boxesThere g j) (placesThere g j) (f .each j h e));
+        rest = said .0;
+        line = said .1;
+      }
+
 pub counted-means : CountedMeans
-counted-means name b g out r boxes places changes ends marks out′ books z some =
-    let is = books .found .verdict in
-    let number : verdictFrom g .number ≡ 0 = sym (ap (λ (v : Verdict). v .number) is) ∙ z in
-    let sound = counted-sound g number in
-    let on = sound-verdict g sound in
-    let c = counted g (sym (ap (λ (v : Verdict). v .number) on) ∙ number) in
-    let line =
-    entered name b (verdictFrom g) out (record { ledger = r .ledger; text = r .text }) out′
-    (record { books = books .ledger; length-is = books .length-is; array = books .array }) some .line in
-    let said = counted-line name (verdictFrom g) (booked b (verdictFrom g)) number in
-    subst (λ (v : Verdict). CountedLine g name (record { verdict = v; ledger = r .ledger; text = r .text }) out′) (sym is)
-    (record { sound = sound; counted = subst (Counted g) (sym on) c; rest = said .0; line = line ∙ said .1 })
+counted-means name b g out r boxes places changes ends marks out′ books still z some =
+    line-counts name b g out r boxes places changes ends marks out′ books z some still
+
+pub found-means : FoundMeans
+found-means name b g out r boxes places changes ends marks out′ books shifts z some =
+    line-found name b g out r boxes places changes ends marks out′ books z some shifts
 
 -- ---- A form that was written
 
@@ -165,12 +216,13 @@ unasked t false e = absurd (let z : _≡_ {A = ℕ} 0 1 = cc in omega arith)
 
 pub written-form-is-counted : WrittenFormIsCounted
 unfolding verdictOn
-written-form-is-counted columns changes ends out w out′ narrow written z g came sound fit wide enough few-rows =
+written-form-is-counted columns changes ends out w out′ narrow written z g came sound still fit wide enough few-rows =
     sound-verdict g sound
     ∙ ap (verdictOf (pageRead g))
     (sym
     (rows-fit form boxes places (s .encoding) proper parts page (a .marks) (length ends) (sym count) enough few-rows (unasked (form .proper) proper is-proper)
     ∙ is-whole form boxes places s (length (g .src)) gave proper parts a fit (b .done) same-width modest all kept)
+    ∙ Means.still form boxes places s (g .src) gave a still
     ∙ found-same form boxes places (s .encoding) (s .columns) (a .rows) (a .marks) Group4 columns (rowsIn 0 changes ends) (replicate (length ends) 0)
     (came .plainly .group-4) (came .plainly .same-columns) (b .rows-are) (b .marks-are))
   where

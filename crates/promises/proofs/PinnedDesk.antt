@@ -1,5 +1,5 @@
 -- The desk's contracts permit one answer each. Assumes nothing.
-use mathlib.Core.Path.{_≡_, sym, ap, _∙_}
+use mathlib.Core.Path.{_≡_, refl, sym, ap, _∙_}
 use mathlib.Core.Bool.{Bool, true, false}
 use mathlib.Core.List.{List, []}
 use Prim.Native.Nat.{ℕ, _-_, _≤_}
@@ -14,7 +14,7 @@ use Rattle.ledger.specs.declared.Ledger.{Ledger}
 use Rattle.ledger.specs.declared.Verdict.{Verdict}
 use Rattle.booking.specs.Booked.{Given, Finds}
 use Rattle.exports.specs.Verdict.{Unread, FindsForC}
-use Rattle.promises.specs.PinnedDesk.{PutsPinned, LineEndPinned, TellsPinned, EnterPinned, AddUpPinned, ReadFormPinned, JudgePinned, One, VerdictPinned, ForCVerdictPinned, BookPagePinned}
+use Rattle.promises.specs.PinnedDesk.{PutsPinned, LineEndPinned, TellsPinned, EnterPinned, AddUpPinned, ReadFormPinned, JudgePinned, MoveFormPinned, One, VerdictPinned, ForCVerdictPinned, BookPagePinned}
 use Rattle.promises.proofs.OneAnswer.{settled-with}
 
 pub puts-pinned : PutsPinned
@@ -29,15 +29,15 @@ line-end-pinned text at r s g h =
     long e l = length-take-le (e - at) (drop at text) (omega (arith, length-drop at text, l .inside, l .behind))
 
 -- what is told by a test of Bool
-abbrev Told : List ℕ → List ℕ → Bool → ℕ → List ℕ → Type 0
+abbrev pub Told : List ℕ → List ℕ → Bool → ℕ → List ℕ → Type 0
 Told text before t n out = elim t [ true ↦ Prints before text n out | false ↦ (n ≡ 0) × (out ≡ before) ]
 
+pub told-once : (text before : List ℕ) (t : Bool) (r s : ℕ) (xs ys : List ℕ) → Told text before t r xs → Told text before t s ys → (r ≡ s) × (xs ≡ ys)
+told-once text before true r s xs ys g h = (g .count ∙ sym (h .count), g .array ∙ sym (h .array))
+told-once text before false r s xs ys g h = (g .0 ∙ sym (h .0), g .1 ∙ sym (h .1))
+
 pub tells-pinned : TellsPinned
-tells-pinned name text before r s xs ys = by (lineRoom name (length before))
-  where
-    by : (t : Bool) → Told text before t r xs → Told text before t s ys → (r ≡ s) × (xs ≡ ys)
-    by true g h = (g .count ∙ sym (h .count), g .array ∙ sym (h .array))
-    by false g h = (g .0 ∙ sym (h .0), g .1 ∙ sym (h .1))
+tells-pinned name text before r s xs ys = told-once text before (lineRoom name (length before)) r s xs ys
 
 pub enter-pinned : EnterPinned
 enter-pinned name b v out r s xs ys g h =
@@ -100,3 +100,13 @@ book-page-pinned name b g out r s boxes boxes′ places places′ changes change
       once .5,
       x .array ∙ sym (y .array),
     )
+
+pub move-form-pinned : MoveFormPinned
+move-form-pinned form rows across down boxes places lent lent′ r s xs ys ps qs a b = by r refl
+  where
+    same : r ≡ s
+    same = a .told ∙ sym (b .told)
+
+    by : (t : Bool) → r ≡ t → (r ≡ s) × (xs ≡ ys) × (ps ≡ qs)
+    by true e = (same, a .boxes-are e ∙ sym (b .boxes-are (sym same ∙ e)), a .places-are e ∙ sym (b .places-are (sym same ∙ e)))
+    by false e = (same, a .boxes-kept e ∙ sym (b .boxes-kept (sym same ∙ e)), a .places-kept e ∙ sym (b .places-kept (sym same ∙ e)))

@@ -1,5 +1,6 @@
 -- Pinning the answers down, of the desk: text and its lines, the books, the form file, and the verdict on a page.
 use mathlib.Core.Path.{_≡_}
+use mathlib.Core.Bool.{Bool}
 use mathlib.Core.List.{List}
 use Prim.Native.Nat.{ℕ}
 use lib.IntN.{ℤ}
@@ -14,6 +15,7 @@ use Rattle.ledger_file.specs.Sums.{AddsUp}
 use Rattle.form_file.specs.FormFile.{Forms}
 use Rattle.form_file.specs.declared.Form.{Form}
 use Rattle.form_file.specs.declared.Formed.{Formed}
+use Rattle.booking.specs.Showing.{Moves}
 use Rattle.booking.specs.Verdict.{Judges}
 use Rattle.booking.specs.Booked.{Given, Finds, Books}
 use Rattle.booking.specs.declared.Booked.{Booked}
@@ -48,6 +50,12 @@ ReadFormPinned =
 -- judge
 abbrev pub JudgePinned : Type 0
 JudgePinned = (form : Form) (boxes places : List ℕ) (settings : DecodeSettings) (src changes ends marks : List ℕ) → OneWithThree (Judges form boxes places settings src changes ends marks)
+
+-- move_form, with both arrays
+abbrev pub MoveFormPinned : Type 0
+MoveFormPinned =
+    (form : Form) (rows across down : ℕ) (boxes places lent lent′ : List ℕ) (r s : Bool) (xs ys ps qs : List ℕ)
+    → Moves form rows across down boxes places lent lent′ r xs ps → Moves form rows across down boxes places lent lent′ s ys qs → (r ≡ s) × (xs ≡ ys) × (ps ≡ qs)
 
 -- verdict_on and ccitt_verdict: the verdict, and the five arrays
 abbrev pub One : (Verdict → List ℕ → List ℕ → List ℕ → List ℕ → List ℕ → Type 0) → Type 0

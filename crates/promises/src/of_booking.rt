@@ -1,9 +1,12 @@
 // Calls of the public functions of booking, each with the contract that its promises are about.
 use booking::Booked;
+use booking::Lies;
 use form_file::Form;
 use ledger::Ledger;
 use ledger::Verdict;
 use settings::DecodeSettings;
+ghost use mathlib.Core.Path.{_≡_};
+ghost use Rattle.booking.specs.Showing.{liesAt, Moves};
 ghost use Rattle.booking.specs.Verdict.{Judges};
 ghost use Rattle.booking.specs.Booked.{given, Finds, Books};
 
@@ -77,5 +80,42 @@ pub fn book_page(
         ends,
         marks,
         out,
+    )
+}
+
+pub fn lies_at(
+    columns: u32,
+    changes: &[u32],
+    ends: &[u64],
+    form: Form,
+    boxes: &[u32],
+    places: &[u32],
+) -> Lies
+    ensures { λ r. ⌜ r ≡ liesAt columns (now (changes .entry)) (now (ends .entry)) form (now (boxes .entry)) (now (places .entry)) ⌝ }
+{
+    booking::lies_at(columns, changes, ends, form, boxes, places)
+}
+
+pub fn move_form(
+    form: Form,
+    rows: u32,
+    across: u32,
+    down: u32,
+    boxes: &[u32],
+    places: &[u32],
+    moved_boxes: &mut [u32],
+    moved_places: &mut [u32],
+) -> bool
+    ensures { λ r. ⌜ Moves form rows across down (now (boxes .entry)) (now (places .entry)) (now («moved_boxes» .entry)) (now («moved_places» .entry)) r (now («moved_boxes» .exit)) (now («moved_places» .exit)) ⌝ }
+{
+    booking::move_form(
+        form,
+        rows,
+        across,
+        down,
+        boxes,
+        places,
+        moved_boxes,
+        moved_places,
     )
 }

@@ -37,7 +37,7 @@ pub(crate) fn came(told: Told, may: u32) -> Outcome {
     if number <= ledger::IN_DOUBT {
         return Outcome::ByPixels;
     }
-    if number <= ledger::NOT_PROPER {
+    if number <= ledger::OTHER_TICKS {
         return Outcome::ByPage;
     }
     Outcome::Wrong

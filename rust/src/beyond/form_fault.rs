@@ -57,6 +57,8 @@ pub enum Missing {
     Tick,
     /// Where a box is.
     Box(BoxName),
+    /// A place, where the form has a shift and none to find it by.
+    Place,
 }
 
 /// What is wrong with the text of a form file. Lines are counted from 1.
@@ -121,7 +123,8 @@ impl FormFault {
             VerdictAnswer::MISSING_LINE => Self::MissingLine(match which {
                 0..20 => Missing::Box(BoxName::of(which)),
                 20 => Missing::Page,
-                _ => Missing::Tick,
+                21 => Missing::Tick,
+                _ => Missing::Place,
             }),
             VerdictAnswer::OUTSIDE_PAGE => Self::OutsidePage { line },
             VerdictAnswer::OVERLAPPING => Self::Overlapping { line },
@@ -143,6 +146,7 @@ impl Display for FormFault {
             Self::TooManyPlaces { line } => write!(f, "the form's line {line} is one place too many"),
             Self::MissingLine(Missing::Page) => write!(f, "the form has no line that says its page"),
             Self::MissingLine(Missing::Tick) => write!(f, "the form has no line that says its tick"),
+            Self::MissingLine(Missing::Place) => write!(f, "the form has a shift, and no black or white place to find it by"),
             Self::MissingLine(Missing::Box(name)) => write!(f, "the form has no box of {name}"),
             Self::OutsidePage { line } => write!(f, "the form's line {line} lies outside its page"),
             Self::Overlapping { line } => write!(f, "the form's line {line} overlaps another box"),

@@ -99,6 +99,13 @@ pub enum Reason {
         /// The first bit at which they part.
         place: u64,
     },
+    /// A form with a shift fits at two places of the page, and they read other heads (25).
+    OtherTicks {
+        /// The heads at the first.
+        heads: u64,
+        /// And at the other.
+        other: u64,
+    },
     /// A number that has no case here. It stands beside the reason.
     Other,
 }
@@ -126,6 +133,7 @@ impl Reason {
             VerdictAnswer::IN_DOUBT => Self::InDoubt { tick_box: BoxName::of(which), count, doubt: least, tick: most },
             VerdictAnswer::GAVE_UP => Self::GaveUp,
             VerdictAnswer::NOT_PROPER => Self::NotProper { place: count },
+            VerdictAnswer::OTHER_TICKS => Self::OtherTicks { heads: least, other: most },
             _ => FormFault::of(answer).map_or(Self::Other, Self::Form),
         }
     }
@@ -164,6 +172,9 @@ impl Display for Reason {
             Self::NotProper { place } => {
                 write!(f, "the page's bits are not those that a writer writes for its rows: they part at bit {place}")
             }
+            Self::OtherTicks { heads, other } => {
+                write!(f, "the form fits at two places of the page, and they read other heads: {heads} and {other}")
+            }
             Self::Other => write!(f, "a number that has no words here"),
         }
     }
@@ -185,10 +196,10 @@ mod tests {
     #[test]
     fn no_number_panics() {
         for number in (1..100).chain([u32::MAX]) {
-            for which in [0, 19, 20, 21, u32::MAX] {
+            for which in [0, 19, 20, 21, 22, u32::MAX] {
                 let reason = Reason::of(&VerdictAnswer { number, which, count: u64::MAX, ..VerdictAnswer::default() });
                 assert!(!alloc::format!("{reason}").is_empty());
-                let has_none = matches!(number, 8..=11 | 15 | 25..=31 | 39 | 42..);
+                let has_none = matches!(number, 8..=11 | 15 | 26..=31 | 39 | 42..);
                 assert_eq!(reason == Reason::Other, has_none, "{number}");
             }
         }

@@ -1,13 +1,19 @@
 -- `booking::judging::on_rows` meets its contract: too few rows, too many, a page that is not proper, or what is found on the page in the store. Assumes nothing.
-use mathlib.Core.Path.{_∙_, sym}
-use denote.Ref.{now}
-use lib.Seq.{length-take-le}
-use lib.ListN.{take}
-use borrow.Author.Needs.{needs}
-use Rattle.heads.specs.Form.{pageIn}
 use Rattle.booking.proofs.Findings.{rows-kept, rows-few, rows-many, rows-part, rows-fit}
+use Rattle.heads.specs.Form.{pageIn}
+use lib.ListN.{take}
+use lib.Seq.{length-take-le}
+use denote.Ref.{now}
+use mathlib.Core.Path.{_∙_, sym}
+use borrow.Author.Needs.{needs}
 use Rattle.booking.proofs.judging.on_rows.Statement.{statement}
 use Rattle.booking.proofs.judging.on_rows.Tie as tie
+use Rattle.booking.proofs.judging.on_rows.Reads as reads
+use Rattle.booking.proofs.judging.on_rows.Lts as lts
+use Rattle.booking.proofs.found.on_form.Reads as on-form-reads
+use Rattle.booking.proofs.judging.is_improper.Reads as is-improper-reads
+use Rattle.booking.proofs.judging.other_rows.Reads as other-rows-reads
+use Rattle.booking.proofs.tests.found.Reads as found-reads
 
 cast-if1 : tie.Need-cast-if1
 cast-if1 c = search needs
@@ -48,21 +54,24 @@ returns-3 c =
     ∙ rows-part (s .form) (now (s .boxes)) (now (s .places)) (s .settings .encoding) (s .proper) (s .parts) (pageIn (s .settings .columns) (now (s .changes)) (take (s .rows) (now (s .ends)))) (take (s .rows) (now (s .marks))) (s .rows)
     (rows-kept (s .rows) (s .settings .columns) (now (s .changes)) (now (s .ends)) (now (s .marks)) (c .before .before .before .before .before .before .before .before .before .before .before .before .pre)) (c .before .before .before .before .before .if1 .left) (c .before .before .before .if2 .left) (sym (c .before .before .is-improper .ensures) ∙ c .before .if3 .taken)
 
-slice-aggregate-on-page : tie.Need-slice-aggregate-on-page
-slice-aggregate-on-page c = let s = c .before .before .before .before .before .before .before .before .before .before .before .before in sym (length-take-le (s .args .rows) (now (s .args .ends)) (s .pre .placed))
+cast-on-form : tie.Need-cast-on-form
+cast-on-form c = search needs
 
-slice-aggregate-on-page-2 : tie.Need-slice-aggregate-on-page-2
-slice-aggregate-on-page-2 c = let s = c .before .before .before .before .before .before .before .before .before .before .before .before .before in sym (length-take-le (s .args .rows) (now (s .args .marks)) (s .pre .marked))
+slice-aggregate-on-form : tie.Need-slice-aggregate-on-form
+slice-aggregate-on-form c = sym (length-take-le (c .before .before .before .before .before .before .before .before .before .before .before .before .args .rows) (now (c .before .before .before .before .before .before .before .before .before .before .before .before .args .ends)) (c .before .before .before .before .before .before .before .before .before .before .before .before .pre .placed))
 
-on-page-requires : tie.Need-on-page-requires
-on-page-requires c κs =
-    let s = c .before .before .before .before .before .before .before .before .before .before .before .before .before in
-    (s .pre .sound, length-take-le (s .args .rows) (now (s .args .marks)) (s .pre .marked) ∙ sym (length-take-le (s .args .rows) (now (s .args .ends)) (s .pre .placed)))
+slice-aggregate-on-form-2 : tie.Need-slice-aggregate-on-form-2
+slice-aggregate-on-form-2 c = sym (length-take-le (c .before .before .before .before .before .before .before .before .before .before .before .before .before .args .rows) (now (c .before .before .before .before .before .before .before .before .before .before .before .before .before .args .marks)) (c .before .before .before .before .before .before .before .before .before .before .before .before .before .pre .marked))
+
+on-form-requires : tie.Need-on-form-requires
+on-form-requires c κs =
+    let s = c .before .before .before .before .before .before .before .before .before .before .before .before .before .args in
+    (c .before .before .before .before .before .before .before .before .before .before .before .before .before .pre .sound, length-take-le (s .rows) (now (s .marks)) (c .before .before .before .before .before .before .before .before .before .before .before .before .before .pre .marked) ∙ sym (length-take-le (s .rows) (now (s .ends)) (c .before .before .before .before .before .before .before .before .before .before .before .before .before .pre .placed)), sym (length-take-le (s .rows) (now (s .ends)) (c .before .before .before .before .before .before .before .before .before .before .before .before .before .pre .placed)))
 
 returns-4 : tie.Need-returns-4
 returns-4 c =
     let s = c .before .before .before .before .before .before .before .before .before .before .before .before .before .before .args in
-    c .on-page .ensures
+    c .on-form .ensures
     ∙ rows-fit (s .form) (now (s .boxes)) (now (s .places)) (s .settings .encoding) (s .proper) (s .parts) (pageIn (s .settings .columns) (now (s .changes)) (take (s .rows) (now (s .ends)))) (take (s .rows) (now (s .marks))) (s .rows)
     (rows-kept (s .rows) (s .settings .columns) (now (s .changes)) (now (s .ends)) (now (s .marks)) (c .before .before .before .before .before .before .before .before .before .before .before .before .before .before .pre)) (c .before .before .before .before .before .before .before .if1 .left) (c .before .before .before .before .before .if2 .left) (sym (c .before .before .before .before .is-improper .ensures) ∙ c .before .before .before .if3 .left)
 
@@ -79,7 +88,8 @@ on-rows-spec =
     is-improper-requires
     found-requires
     returns-3
-    slice-aggregate-on-page
-    slice-aggregate-on-page-2
-    on-page-requires
+    cast-on-form
+    slice-aggregate-on-form
+    slice-aggregate-on-form-2
+    on-form-requires
     returns-4)

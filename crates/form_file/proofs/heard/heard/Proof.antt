@@ -49,6 +49,12 @@ heard-proper-requires c κs = search needs
 enum-told-2 : tie.Need-enum-told-2
 enum-told-2 c = search needs
 
+enum-known-said-6 : tie.Need-enum-known-said-6
+enum-known-said-6 c = search needs
+
+heard-shift-requires : tie.Need-heard-shift-requires
+heard-shift-requires c κs = search needs
+
 enum-told-3 : tie.Need-enum-told-3
 enum-told-3 c = search needs
 
@@ -83,7 +89,10 @@ returns-7 : tie.Need-returns-7
 returns-7 c = rw (c .before .enum-told2 .given .1) (c .heard-proper .ensures (c .before .before .before .before .before .before .args .room) (c .before .before .before .before .before .before .args .line) (now (c .before .before .before .before .before .before .args .boxes)) (now (c .before .before .before .before .before .before .args .lines)) (now (c .before .before .before .before .before .before .args .places)) (c .before .before .before .before .before .before .pre .0 .fits))
 
 returns-8 : tie.Need-returns-8
-returns-8 c = rw (c .enum-told3 .given .1) (record { is = refl; boxes-same = refl; places-same = refl })
+returns-8 c = rw (c .before .before .said6 .given .1) (c .heard-shift .ensures (c .before .before .before .before .before .before .before .args .room) (c .before .before .before .before .before .before .before .args .line) (now (c .before .before .before .before .before .before .before .args .boxes)) (now (c .before .before .before .before .before .before .before .args .lines)) (now (c .before .before .before .before .before .before .before .args .places)) (c .before .before .before .before .before .before .before .pre .0 .fits))
+
+returns-9 : tie.Need-returns-9
+returns-9 c = rw (c .enum-told3 .given .1) (record { is = refl; boxes-same = refl; places-same = refl })
 
 pub heard-spec : {M : Type 1} → statement M
 heard-spec =
@@ -102,6 +111,8 @@ heard-spec =
     heard-place-requires
     enum-told-2
     heard-proper-requires
+    enum-known-said-6
+    heard-shift-requires
     enum-told-3
     returns
     same-length
@@ -113,4 +124,5 @@ heard-spec =
     same-length-3
     returns-6
     returns-7
-    returns-8)
+    returns-8
+    returns-9)

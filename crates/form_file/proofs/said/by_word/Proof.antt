@@ -4,7 +4,7 @@ use mathlib.Core.List.{List}
 use Prim.Native.Nat.{ℕ}
 use denote.Ref.{now}
 use Rattle.listing_text.specs.Text.{ascii}
-use Rattle.form_file.proofs.Saying.{Not1, Not2, Not3, Not4, Not5, Not6, Not7, Not8, by-tens, by-units, by-page, by-tick, by-doubt, by-black, by-white, by-proper, by-none}
+use Rattle.form_file.proofs.Saying.{Not1, Not2, Not3, Not4, Not5, Not6, Not7, Not8, Not9, by-tens, by-units, by-page, by-tick, by-doubt, by-black, by-white, by-proper, by-shift, by-none}
 use borrow.Author.Needs.{needs}
 use Rattle.form_file.proofs.said.by_word.Statement.{statement}
 use Rattle.form_file.proofs.said.by_word.Tie as tie
@@ -33,6 +33,9 @@ word7 c = word6 (c .before .before .before)
 
 abbrev word8 : tie.Else8 → List ℕ
 word8 c = word7 (c .before .before .before)
+
+abbrev word9 : tie.Else9 → List ℕ
+word9 c = word8 (c .before .before .before)
 
 -- and which words it is not
 not1 : (c : tie.Else1) → Not1 (word1 c)
@@ -66,6 +69,10 @@ not7 c = (not6 (c .before .before .before), sym (c .before .same7 .ensures) ∙ 
 not8 : (c : tie.Else8) → Not8 (word8 c)
 unfolding ascii
 not8 c = (not7 (c .before .before .before), sym (c .before .same8 .ensures) ∙ c .if8 .left)
+
+not9 : (c : tie.Else9) → Not9 (word9 c)
+unfolding ascii
+not9 c = (not8 (c .before .before .before), sym (c .before .same9 .ensures) ∙ c .if9 .left)
 
 slice-aggregate-same : tie.Need-slice-aggregate-same
 slice-aggregate-same c = search needs
@@ -171,8 +178,21 @@ returns-8 : tie.Need-returns-8
 unfolding ascii
 returns-8 c = λ ns h. by-proper (word7 (c .before .before .before .before)) ns _ (not7 (c .before .before .before .before)) (sym (c .before .before .same8 .ensures) ∙ c .before .if8 .taken) (c .proper-in .ensures ns h)
 
+slice-aggregate-same-9 : tie.Need-slice-aggregate-same-9
+slice-aggregate-same-9 c = search needs
+
+same-requires-9 : tie.Need-same-requires-9
+same-requires-9 c κs = search needs
+
+shift-in-requires : tie.Need-shift-in-requires
+shift-in-requires c κs = search needs
+
 returns-9 : tie.Need-returns-9
-returns-9 c = λ ns h. by-none (word8 c) ns _ (not8 c) refl
+unfolding ascii
+returns-9 c = λ ns h. by-shift (word8 (c .before .before .before .before)) ns _ (not8 (c .before .before .before .before)) (sym (c .before .before .same9 .ensures) ∙ c .before .if9 .taken) (c .shift-in .ensures ns h)
+
+returns-10 : tie.Need-returns-10
+returns-10 c = λ ns h. by-none (word9 c) ns _ (not9 c) refl
 
 pub by-word-spec : {M : Type 1} → statement M
 by-word-spec =
@@ -210,4 +230,8 @@ by-word-spec =
     same-requires-8
     proper-in-requires
     returns-8
-    returns-9)
+    slice-aggregate-same-9
+    same-requires-9
+    shift-in-requires
+    returns-9
+    returns-10)

@@ -17,8 +17,11 @@ returns-2 c = plain-between _ (omega arith) (omega arith)
 returns-3 : tie.Need-returns-3
 returns-3 c = plain-above _ (omega arith)
 
+add-result-2 : tie.Need-add-result-2
+add-result-2 c = search needs
+
 returns-4 : tie.Need-returns-4
 returns-4 c = plain-form _ (omega arith) (omega arith)
 
 pub plain-at-spec : {M : Type 1} → statement M
-plain-at-spec = tie.close (tie.spec add-result returns returns-2 returns-3 returns-4)
+plain-at-spec = tie.close (tie.spec add-result returns returns-2 returns-3 add-result-2 returns-4)

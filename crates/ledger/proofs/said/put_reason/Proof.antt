@@ -29,7 +29,7 @@ same-length : tie.Need-same-length
 same-length c = search needs
 
 returns : tie.Need-returns
-returns c = let a = c .before .before .before .before .before .before .before .before .before .before .args in rw (sym (reason-parts (a .v) (c .before .before .before .before .before .before .before .before .reason-numbers .ensures) (ap (λ (n : ℕ). 67 + n) (c .before .before .before .before .before .before .one .ensures .0)))) (c .before .before .put-known .ensures)
+returns c = let a = c .before .before .before .before .before .before .before .before .before .before .args in rw (sym (reason-parts (a .v) (c .before .before .before .before .before .before .before .before .reason-numbers .ensures) (ap (λ (n : ℕ). 69 + n) (c .before .before .before .before .before .before .one .ensures .0)))) (c .before .before .put-known .ensures)
 
 pub put-reason-spec : {M : Type 1} → statement M
 put-reason-spec =
