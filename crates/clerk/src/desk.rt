@@ -15,7 +15,7 @@ use ledger::Ledger;
 use ledger::Verdict;
 
 // How the form's pages are read: as the desk does, or as the options ask.
-fn how(o: Options) -> u32 {
+pub(crate) fn how(o: Options) -> u32 {
     if o.lenient {
         return booking::reading::LENIENTLY;
     }
@@ -459,26 +459,28 @@ fn as_form(fault: u32) -> u32 {
     }
 }
 
+// The bytes of the form's text, or a message and 0.
+pub(crate) fn read_form(o: Options, name: &[u8], form: &mut [u8]) -> usize {
+    let got = files::read(name, form, 0);
+    if got.fault != 0 {
+        say::complain_of_file(name, as_form(got.fault));
+        return 0;
+    }
+    if !is_form(o, name, lines::front(form, got.bytes)) {
+        return 0;
+    }
+    got.bytes
+}
+
 fn with_form(o: Options, count: usize, first: usize, input: &mut [u8], changes: &mut [u32]) -> u32 {
     let mut name = io::buffer();
     let n = os::arg(o.form, &mut name);
     let mut form = room::form();
-    let got = files::read(&name[..n], &mut form, 0);
-    if got.fault != 0 {
-        say::complain_of_file(&name[..n], as_form(got.fault));
+    let bytes = read_form(o, &name[..n], &mut form);
+    if bytes == 0 {
         return say::FAILED;
     }
-    if !is_form(o, &name[..n], lines::front(&form, got.bytes)) {
-        return say::FAILED;
-    }
-    with_lists(
-        o,
-        lines::front(&form, got.bytes),
-        count,
-        first,
-        input,
-        changes,
-    )
+    with_lists(o, lines::front(&form, bytes), count, first, input, changes)
 }
 
 // The options that a call needs, and those that do not go together.
@@ -506,7 +508,7 @@ fn is_whole(o: Options) -> bool {
     is_one_reading(o)
 }
 
-fn is_one_reading(o: Options) -> bool {
+pub(crate) fn is_one_reading(o: Options) -> bool {
     if !o.lenient {
         return true;
     }

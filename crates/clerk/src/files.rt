@@ -63,7 +63,7 @@ pub(crate) fn missing() -> u32 {
     ledger::UNREADABLE_FILE
 }
 
-fn sum(at: usize, n: usize, most: usize) -> usize {
+pub(crate) fn sum(at: usize, n: usize, most: usize) -> usize {
     if most < at {
         return most;
     }

@@ -5,6 +5,7 @@
 mod check;
 mod desk;
 mod done;
+mod drawing;
 mod feed;
 mod files;
 mod lines;
@@ -19,6 +20,7 @@ mod room;
 mod say;
 mod text;
 mod total;
+mod view;
 mod walk;
 mod write;
 
@@ -49,6 +51,9 @@ fn large(chosen: u32, o: Options, word: &[u8], count: usize) -> u32 {
     if chosen == options::TOTAL {
         return total::command(o, count, FIRST, &mut input, &mut starts);
     }
+    if chosen == options::LOOK {
+        return view::command(o, count, FIRST, &mut input, &mut changes, &mut out);
+    }
     if chosen == options::WRITE {
         return one::bitmap(o, word, &mut input, &mut changes, &mut out);
     }
@@ -65,6 +70,9 @@ fn small(chosen: u32, o: Options, word: &[u8], count: usize) -> u32 {
     }
     if chosen == options::TOTAL {
         return total::command(o, count, FIRST, &mut input, &mut starts);
+    }
+    if chosen == options::LOOK {
+        return view::command(o, count, FIRST, &mut input, &mut changes, &mut out);
     }
     if chosen == options::WRITE {
         return one::bitmap(o, word, &mut input, &mut changes, &mut out);

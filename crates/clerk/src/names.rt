@@ -22,7 +22,7 @@ pub(crate) fn mark(null: bool) -> u8 {
     if null { 0 } else { b'\n' }
 }
 
-fn argument(at: usize, name: &mut [u8]) -> usize {
+pub(crate) fn argument(at: usize, name: &mut [u8]) -> usize {
     let n = os::arg(at, name);
     if os::errno() == libc::ENAMETOOLONG {
         return name.len();
@@ -30,7 +30,7 @@ fn argument(at: usize, name: &mut [u8]) -> usize {
     n
 }
 
-fn next_word(at: usize) -> usize {
+pub(crate) fn next_word(at: usize) -> usize {
     if at < 4294967296 { at + 1 } else { at }
 }
 

@@ -15,7 +15,9 @@ pub(crate) const CHECK: u32 = 4;
 
 pub(crate) const TOTAL: u32 = 5;
 
-pub(crate) const NO_COMMAND: u32 = 6;
+pub(crate) const LOOK: u32 = 6;
+
+pub(crate) const NO_COMMAND: u32 = 7;
 
 // The options, each by the number of its line in `options`; the first nine are followed by a value.
 const FORM: usize = 0;
@@ -66,8 +68,8 @@ fn option_words() -> [u8; 180] {
         --marks\n--no-eols\n--least\n"
 }
 
-fn commands() -> [u8; 37] {
-    *b"list\nheads\npicture\nwrite\ncheck\ntotal\n"
+fn commands() -> [u8; 42] {
+    *b"list\nheads\npicture\nwrite\ncheck\ntotal\nlook\n"
 }
 
 // The encodings: none was named, and the three.
@@ -176,8 +178,8 @@ fn line_of(text: &[u8], word: &[u8], none: usize) -> usize {
 
 pub(crate) fn command(word: &[u8]) -> u32 {
     let all = commands();
-    let k = line_of(&all, word, 6);
-    if k < 6 { k as u32 } else { NO_COMMAND }
+    let k = line_of(&all, word, 7);
+    if k < 7 { k as u32 } else { NO_COMMAND }
 }
 
 // What a word is: a file, the two dashes behind which all are files, or an option.
@@ -241,6 +243,13 @@ fn is_of_heads(id: usize) -> bool {
     id == LENIENT
 }
 
+fn is_of_look(id: usize) -> bool {
+    if id <= QUOTA {
+        return true;
+    }
+    id == LENIENT
+}
+
 // Whether a command has an option.
 fn is_allowed(command: u32, id: usize) -> bool {
     if command == TOTAL {
@@ -257,6 +266,9 @@ fn is_allowed(command: u32, id: usize) -> bool {
     }
     if command == HEADS {
         return is_of_heads(id);
+    }
+    if command == LOOK {
+        return is_of_look(id);
     }
     false
 }

@@ -43,6 +43,7 @@ pub mod HeadRuns
 pub mod HeadsOfPage
 pub mod Called
 pub mod Ledgers
+pub mod Looks
 pub mod LedgerFiles
 pub mod CountedTicks
 pub mod CountedRows

@@ -35,6 +35,7 @@ pub mod Heads
 pub mod HeadsOfPage
 pub mod Called
 pub mod Ledgers
+pub mod Looks
 pub mod LedgerFiles
 pub mod Booking
 pub mod Bitmaps

@@ -35,6 +35,7 @@ pub mod of_listing_text_lines;
 pub mod of_listing_text_put;
 pub mod of_listing_text_settings_line;
 pub mod of_listing_text_text_lines;
+pub mod of_look;
 pub mod of_one_line_line_1d;
 pub mod of_one_line_line_2d;
 pub mod of_one_line_one_code;

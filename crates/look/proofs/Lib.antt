@@ -1,0 +1,7 @@
+-- Laws.
+pub mod Spoken
+pub mod Escaping
+pub mod Naming
+pub mod Coding
+pub mod Decoding
+pub mod Stating

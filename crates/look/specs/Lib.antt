@@ -1,0 +1,6 @@
+-- What the contracts cite.
+pub mod Phrases
+pub mod Escaped
+pub mod Pieces
+pub mod Base64
+pub mod Bitmap
