@@ -10,6 +10,8 @@ pub enum Mode {
     Huge,
     /// Judges at least so many damaged copies of booking forms.
     Forms(u64),
+    /// Judges so many booking forms, turned and stretched in each of some ways.
+    Skew(u64),
     /// Reads at least so many damaged copies of pages in each layout, and counts rows.
     Marks(u64),
     /// Says of each page in a folder whether it is proper.
@@ -30,7 +32,7 @@ pub struct Arguments {
     pub mode: Mode,
 }
 
-pub const USAGE: &str = "usage: compare/run [--seed N] [--more N] [--only TEXT] [bench | huge | forms N | marks N | proper DIR | sample DIR | pages DIR | test]";
+pub const USAGE: &str = "usage: compare/run [--seed N] [--more N] [--only TEXT] [bench | huge | forms N | skew N | marks N | proper DIR | sample DIR | pages DIR | test]";
 
 /// Reads the words; without a seed, the clock gives one.
 pub fn parse(mut words: impl Iterator<Item = String>) -> Option<Arguments> {
@@ -44,6 +46,9 @@ pub fn parse(mut words: impl Iterator<Item = String>) -> Option<Arguments> {
             "huge" if arguments.mode == Mode::Compare => arguments.mode = Mode::Huge,
             "forms" if arguments.mode == Mode::Compare => {
                 arguments.mode = Mode::Forms(words.next()?.parse().ok().filter(|&count| count > 0)?);
+            }
+            "skew" if arguments.mode == Mode::Compare => {
+                arguments.mode = Mode::Skew(words.next()?.parse().ok().filter(|&count| count > 0)?);
             }
             "marks" if arguments.mode == Mode::Compare => {
                 arguments.mode = Mode::Marks(words.next()?.parse().ok().filter(|&count| count > 0)?);

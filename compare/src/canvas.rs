@@ -20,6 +20,13 @@ impl Canvas {
         self.0.len() / WIDTH
     }
 
+    /// The colour at a place; off the page it is white.
+    #[cfg(any(feature = "linked", test))]
+    pub fn is_black(&self, x: i64, y: i64) -> bool {
+        let inside = (0..WIDTH as i64).contains(&x) && (0..self.height() as i64).contains(&y);
+        inside && self.0[y as usize * WIDTH + x as usize]
+    }
+
     /// A box of black pixels; what lies off the page is left out.
     pub fn fill(&mut self, x: usize, y: usize, width: usize, height: usize) {
         for row in y.min(self.height())..(y + height).min(self.height()) {

@@ -9,6 +9,7 @@ use crate::settings::{Encoding, Settings};
 use repeated::Repeated;
 use std::io;
 
+pub mod bitmap;
 pub mod heads;
 #[cfg(feature = "libtiff")]
 pub mod libtiff;

@@ -89,11 +89,13 @@ fn main() -> ExitCode {
         #[cfg(feature = "linked")]
         Mode::Forms(count) => forms::run(&linked::verdict::LinkedDesk, arguments.seed, *count, &made()),
         #[cfg(feature = "linked")]
+        Mode::Skew(count) => Ok(forms::skewed::run(&linked::verdict::LinkedDesk, arguments.seed, *count)),
+        #[cfg(feature = "linked")]
         Mode::Marks(count) => run_marks(arguments.seed, *count),
         #[cfg(feature = "linked")]
         Mode::Proper(folder) => proper::run(&linked::marks::LinkedPages, folder),
         #[cfg(not(feature = "linked"))]
-        Mode::Bench | Mode::Huge | Mode::Forms(_) | Mode::Marks(_) | Mode::Proper(_) => {
+        Mode::Bench | Mode::Huge | Mode::Forms(_) | Mode::Skew(_) | Mode::Marks(_) | Mode::Proper(_) => {
             println!("only for a library that is linked in: under an emulator a time says nothing, and what is huge takes hours");
             Ok(true)
         }
@@ -183,17 +185,18 @@ fn run_heads(arguments: &Arguments) -> Vec<Tally> {
 
 /// Damaged copies of booking forms, none of which may be counted wrong.
 #[cfg(feature = "linked")]
-fn run_forms(arguments: &Arguments) -> Option<Tally> {
-    let asked = forms::NAME.contains(&arguments.only);
-    asked.then(|| told(forms::NAME, Instant::now(), forms::check(&linked::verdict::LinkedDesk, arguments.seed, 20_000 * arguments.more)))
+fn run_forms(arguments: &Arguments) -> Vec<Tally> {
+    let asked = forms::CHECKS.into_iter().filter(|(name, _)| name.contains(&arguments.only));
+    let check = |lying| forms::check(&linked::verdict::LinkedDesk, arguments.seed, 20_000 * arguments.more, lying);
+    asked.map(|(name, lying)| told(name, Instant::now(), check(lying))).collect()
 }
 
 #[cfg(not(feature = "linked"))]
-fn run_forms(arguments: &Arguments) -> Option<Tally> {
+fn run_forms(arguments: &Arguments) -> Vec<Tally> {
     if "damaged forms".contains(&arguments.only) {
         println!("damaged forms: skipped, the library is not linked in");
     }
-    None
+    Vec::new()
 }
 
 fn told(name: &str, began: Instant, tally: Tally) -> Tally {

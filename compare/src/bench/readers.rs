@@ -65,6 +65,13 @@ impl drop_in::Decoder for Sink<'_> {
     }
 }
 
+/// The pages of rendered text, and blank ones in each encoding.
+pub fn named(texts: &[Text]) -> Vec<Named> {
+    let own = texts.iter().map(|text| (text.name.to_string(), Page::of(text.settings, text.src.clone())));
+    let blank: Vec<Drawn> = drawn::odd_pages().into_iter().filter(|(name, _)| *name == "blank").collect();
+    own.chain(in_each(&blank)).collect()
+}
+
 pub fn run(texts: &[Text]) {
     let mut store = Store { changes: vec![0; CHANGES], ends: vec![0; ENDS], marks: vec![0; ENDS] };
     println!("median of {RUNS} runs, release builds, arrays cleared before each; the crate's sink copies rows into one array");

@@ -25,6 +25,7 @@ pub const READINGS: [&str; 4] = ["as the desk", "leniently", "strictly", "exactl
 pub const OLD_READINGS: [(usize, bool); 2] = [(1, false), (2, true)];
 
 /// A form, as a form file and as `ccitt_heads` takes it, and a page.
+#[derive(Clone, Copy)]
 pub struct Ask<'a> {
     pub text: &'a str,
     pub boxes: &'a [u32],

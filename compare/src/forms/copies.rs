@@ -2,6 +2,7 @@
 
 use super::damages::{DAMAGES, Damage, damaged, pictured};
 use super::filled::Filled;
+use super::lying::Lying;
 use crate::call::Layout;
 use crate::canvas::WIDTH;
 use crate::layouts::encoded;
@@ -44,11 +45,12 @@ pub fn settings_of(layout: Option<Layout>) -> Settings {
     Settings { encoding, end_of_block: true, end_of_line: layout.is_some(), ..Settings::of_line(WIDTH as u32, false) }
 }
 
-/// All copies of the form of a number. Each is made of the seed, that number and what it is alone.
-pub fn copies_of(seed: u64, form: u64) -> Vec<FormCopy> {
+/// All copies of the form of a number. Each is made of the seed, that number, where the form lies and what it is alone.
+pub fn copies_of(seed: u64, form: u64, lying: Lying) -> Vec<FormCopy> {
     let filled = Filled::random(&mut Random::of(seed, "form", form), (form % 100) as u32);
-    let whole = filled.rows();
-    let (pages, seconds) = (in_layouts(&whole), in_layouts(&second_page(seed, form)));
+    let lies = lying.drawn(&mut Random::of(seed, "where a form lies", form));
+    let whole = lies.rows(&filled.rows());
+    let (pages, seconds) = (in_layouts(&whole), in_layouts(&lies.rows(&second_page(seed, form))));
     let mut copies = Vec::new();
     for (damage, &(kind, name)) in DAMAGES.iter().enumerate() {
         let draw = |place: usize| Random::of(seed, name, form * count() + place as u64);
@@ -64,7 +66,7 @@ pub fn copies_of(seed: u64, form: u64) -> Vec<FormCopy> {
                 put(Some(filled.heads), (0..TIMES * LAYOUTS.len()).map(copy).collect());
             }
             Damage::Picture(damage) => {
-                let (rows, may) = pictured(&mut draw(0), damage, &filled, &whole);
+                let (rows, may) = pictured(&mut draw(0), damage, &filled, lies);
                 put(may, in_layouts(&rows));
             }
             Damage::TwoPages => put(None, pages.iter().zip(&seconds).map(|(page, second)| [&page[..], second].concat()).collect()),

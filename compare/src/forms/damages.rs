@@ -1,6 +1,7 @@
 //! What happens to a form on its way: to its bytes, or to its picture before it is encoded.
 
 use super::filled::{Filled, Tick};
+use super::lying::Move;
 use super::sheet::PITCH;
 use crate::bits::flip_bit;
 use crate::random::Random;
@@ -52,7 +53,7 @@ pub const DAMAGES: [(Damage, &str); 16] = [
     (Damage::Picture(ToPicture::RowDoubled), "a row doubled"),
     (Damage::Picture(ToPicture::RowsMoved), "a row lost, one doubled"),
     (Damage::Picture(ToPicture::OnTop), "31 white rows on top"),
-    (Damage::Picture(ToPicture::Shifted), "the same, cut to 400 rows"),
+    (Damage::Picture(ToPicture::Shifted), "the same, cut to the rows before"),
     (Damage::Picture(ToPicture::SecondTick), "a second tick"),
     (Damage::Picture(ToPicture::NoTick), "no tick"),
     (Damage::TwoPages, "two pages in one file"),
@@ -83,15 +84,15 @@ pub fn damaged(random: &mut Random, damage: ToBytes, src: &[u8]) -> Vec<u8> {
     src
 }
 
-/// The rows of a damaged picture, and the heads that it may be counted with: none, where its ticks say none. `whole` are the form's rows.
-pub fn pictured(random: &mut Random, damage: ToPicture, form: &Filled, whole: &[Vec<u32>]) -> (Vec<Vec<u32>>, Option<u32>) {
+/// The rows of a damaged picture, and the heads that it may be counted with: none, where its ticks say none. The form lies where it lies.
+pub fn pictured(random: &mut Random, damage: ToPicture, form: &Filled, lies: Move) -> (Vec<Vec<u32>>, Option<u32>) {
     match damage {
-        ToPicture::SecondTick => (with_second_tick(random, form), None),
+        ToPicture::SecondTick => (lies.rows(&with_second_tick(random, form)), None),
         ToPicture::NoTick => {
             let columns = random.pick(&[[false, true], [true, false], [false, false]]);
-            (form.rows_with(columns, None), None)
+            (lies.rows(&form.rows_with(columns, None)), None)
         }
-        _ => (moved(random, damage, whole.to_vec()), Some(form.heads)),
+        _ => (moved(random, damage, lies.rows(&form.rows())), Some(form.heads)),
     }
 }
 

@@ -33,12 +33,12 @@ impl Tick {
         Tick { digit, down: random.index(HIGH - TALL + 1), strokes }
     }
 
-    fn draw(self, page: &mut Canvas, column: usize) {
+    fn draw(self, page: &mut Canvas, column: usize, pen: usize) {
         let (left, top) = corner(column, self.digit);
         for [from, to] in self.strokes {
             for row in 0..TALL {
                 let across = (from * (TALL - 1 - row) + to * row) / (TALL - 1);
-                page.fill(left + across, top + self.down + row, PEN, 1);
+                page.fill(left + across, top + self.down + row, pen, 1);
             }
         }
     }
@@ -68,8 +68,16 @@ impl Filled {
     pub fn rows_with(&self, columns: [bool; 2], more: Option<(usize, Tick)>) -> Vec<Vec<u32>> {
         let mut page = self.unticked.clone();
         let own = self.ticks.into_iter().enumerate().filter(|&(column, _)| columns[column]);
-        own.chain(more).for_each(|(column, tick)| tick.draw(&mut page, column));
+        own.chain(more).for_each(|(column, tick)| tick.draw(&mut page, column, PEN));
         page.rows()
+    }
+
+    /// The page, ticked by a pen of so many pixels.
+    #[cfg(any(feature = "linked", test))]
+    pub fn drawn_by(&self, pen: usize) -> Canvas {
+        let mut page = self.unticked.clone();
+        self.ticks.into_iter().enumerate().for_each(|(column, tick)| tick.draw(&mut page, column, pen));
+        page
     }
 }
 

@@ -1,6 +1,6 @@
 //! The booking form of examples/, as it is printed and as a form file has it.
 
-use crate::canvas::Canvas;
+use crate::canvas::{Canvas, WIDTH};
 use std::fmt::Write as _;
 
 pub const ROWS: usize = 400;
@@ -14,10 +14,14 @@ pub const HIGH: usize = 20;
 const LEFTS: [usize; 2] = [202, 702];
 const TOP: usize = 78;
 pub const PITCH: usize = 31;
-/// How thick a frame is, how many black pixels its upper side has at least above an inside, and how many the gap below a box at most.
+/// How thick a frame is, how many black pixels its upper side has at least above an inside, its left side beside one, and how many the
+/// gap below a box has at most.
 const FRAME: usize = 2;
 const FRAME_LEAST: u64 = 40;
+const SIDE_LEAST: u64 = 36;
 const GAP_MOST: u64 = 2;
+/// By how many pixels a frame may lie aside where that is allowed.
+const SLACK: usize = 3;
 
 /// The left and the top edge of a box's inside.
 pub fn corner(column: usize, digit: usize) -> (usize, usize) {
@@ -33,8 +37,46 @@ pub fn boxes() -> Vec<u32> {
     (0..10).flat_map(|digit| [edges(digit, 0), edges(digit, 1)].concat()).collect()
 }
 
-/// The desk's form file: the boxes, the page, the marks, and of each box the upper frame and the gap below it.
+/// How far a form may lie from its place, to either side and up or down, and how many rows more its page may have: a header's, and some.
+pub const SHIFT: [usize; 2] = [32, 48];
+pub const MORE_ROWS: usize = 48;
+
+/// The desk's form file for a form that lies at its place.
 pub fn text() -> String {
+    text_with(&format!("page {WIDTH} {ROWS}"))
+}
+
+/// And for one that is looked for. The upper frames say how high it lies; the left sides of four frames say how far aside.
+pub fn text_with_shift() -> String {
+    let [across, down] = SHIFT;
+    let mut out = text_with(&format!("page {WIDTH} {ROWS} {}\nshift {across} {down}", ROWS + MORE_ROWS));
+    for (column, digit) in [(0, 0), (0, 9), (1, 0), (1, 9)] {
+        let (left, top) = corner(column, digit);
+        let _ = writeln!(out, "black {} {left} {top} {} {SIDE_LEAST}", left - FRAME, top + HIGH);
+    }
+    out
+}
+
+/// And for one that may be turned a little too: only the middle of each box is looked at, and a frame's sides may lie up to SLACK
+/// pixels beside their places.
+pub fn text_with_slack() -> String {
+    let [across, down] = SHIFT;
+    let mut out = format!("page {WIDTH} {ROWS} {}\nshift {across} {down}\ntick 14\ndoubt 5\n", ROWS + MORE_ROWS);
+    for (column, name) in ["tens", "units"].into_iter().enumerate() {
+        for digit in 0..10 {
+            let (left, top) = corner(column, digit);
+            let (right, bottom) = (left + WIDE, top + HIGH);
+            let (inner_left, inner_right) = (left + SLACK, right - SLACK);
+            let _ = writeln!(out, "{name} {digit} {inner_left} {inner_right} {} {}", top + SLACK, bottom - SLACK);
+            let _ = writeln!(out, "black {inner_left} {inner_right} {} {} 28", top - FRAME - SLACK, top + SLACK);
+            let _ = writeln!(out, "black {} {} {} {} 24", left - FRAME - SLACK, left + SLACK, top + SLACK, bottom - SLACK);
+        }
+    }
+    out
+}
+
+/// The boxes, the page, the marks, and of each box the upper frame and the gap below it.
+fn text_with(page: &str) -> String {
     let mut out = String::new();
     for (column, name) in ["tens", "units"].into_iter().enumerate() {
         for digit in 0..10 {
@@ -42,7 +84,7 @@ pub fn text() -> String {
             let _ = writeln!(out, "{name} {digit} {left} {} {top} {}", left + WIDE, top + HIGH);
         }
     }
-    let _ = writeln!(out, "page {} {ROWS}\ntick {TICK}\ndoubt {DOUBT}", crate::canvas::WIDTH);
+    let _ = writeln!(out, "{page}\ntick {TICK}\ndoubt {DOUBT}");
     for (digit, column) in (0..10).flat_map(|digit| [(digit, 0), (digit, 1)]) {
         let (left, top) = corner(column, digit);
         let (right, below) = (left + WIDE, top + HIGH + FRAME);
@@ -64,6 +106,15 @@ pub fn printed() -> Canvas {
         print(&mut page, &digit.to_string(), (left - 42, top + 3), 2);
     }
     page
+}
+
+/// A sender's line, as machines put one above the page: so many rows, with letters where there is room for them.
+pub fn header(rows: usize) -> Vec<Vec<u32>> {
+    let mut page = Canvas::white(rows);
+    if rows >= 16 {
+        print(&mut page, "BOOKINGTENS0123456789", (80, 1), 2);
+    }
+    page.rows()
 }
 
 /// Puts letters from a place on, each dot of them so many pixels wide.

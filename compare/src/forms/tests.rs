@@ -2,6 +2,7 @@
 
 use super::copies::{LAYOUTS, copies_of, count, settings_of};
 use super::filled::Filled;
+use super::lying::Lying;
 use super::standin::{FAULTS, Fault, Standin};
 use super::{judged, sheet};
 use crate::canvas::WIDTH;
@@ -14,6 +15,7 @@ use crate::truth::Outcome;
 use std::collections::HashSet;
 
 const SEED: u64 = 7;
+const LYING: [Lying; 2] = [Lying::AtItsPlace, Lying::Elsewhere];
 
 fn read_strictly(layout: usize, src: &[u8]) -> Outcome {
     Outcome::of_page(&Settings { strict: true, ..settings_of(LAYOUTS[layout].1) }, src, 0)
@@ -76,21 +78,53 @@ fn every_number_of_heads_is_drawn_and_read_again() {
 
 #[test]
 fn copies_are_made_again() {
-    let [one, other] = [(), ()].map(|()| copies_of(SEED, 3));
-    assert_eq!(one.len() as u64, count());
-    assert!(one.iter().zip(&other).all(|(one, other)| one.bytes == other.bytes));
+    for lying in LYING {
+        let [one, other] = [(), ()].map(|()| copies_of(SEED, 3, lying));
+        assert_eq!(one.len() as u64, count());
+        assert!(one.iter().zip(&other).all(|(one, other)| one.bytes == other.bytes));
+    }
+}
+
+/// A row that is moved has the pixels that it had, so many columns aside.
+#[test]
+fn a_form_that_is_moved_has_the_same_pixels() {
+    let rows = Filled::random(&mut Random::of(SEED, "form", 5), 5).rows();
+    let black = |row: &[u32], x: i64| row.iter().filter(|&&change| i64::from(change) <= x).count() % 2 == 1;
+    for index in 0..20 {
+        let lies = Lying::Elsewhere.drawn(&mut Random::of(SEED, "where", index));
+        let moved = lies.rows(&rows);
+        assert!((sheet::ROWS..=sheet::ROWS + sheet::MORE_ROWS).contains(&moved.len()), "{lies:?}");
+        for (y, row) in rows.iter().enumerate().skip(60) {
+            let there = &moved[(y as i64 + lies.down) as usize];
+            assert!(there.is_sorted_by(|one, next| one < next) && there.iter().all(|&change| change < WIDTH as u32));
+            let inside = (0..WIDTH as i64).filter(|x| (0..WIDTH as i64).contains(&(x + lies.across)));
+            assert!(inside.into_iter().all(|x| black(row, x) == black(there, x + lies.across)), "row {y}, {lies:?}");
+        }
+    }
 }
 
 #[test]
 fn a_plain_desk_counts_none_wrong() {
-    let found = judged(&Standin(Fault::None), SEED, 4);
+    let found = judged(&Standin(Fault::None), SEED, 4, Lying::AtItsPlace);
     assert!(found.passed(), "{:?}", found.wrong);
     assert!(found.counts.old.iter().flatten().any(|cell| cell.wrong > 0), "the old tests count two pages as one");
 }
 
 #[test]
 fn every_fault_of_a_desk_is_caught() {
-    for &fault in FAULTS {
-        assert!(!judged(&Standin(fault), SEED, 2).passed(), "{fault:?} is not caught");
+    for &fault in FAULTS.iter().filter(|&&fault| fault != Fault::LooksNowhere) {
+        assert!(!judged(&Standin(fault), SEED, 2, Lying::AtItsPlace).passed(), "{fault:?} is not caught");
     }
+}
+
+#[test]
+fn a_plain_desk_that_looks_for_forms_counts_none_wrong() {
+    let found = judged(&Standin(Fault::None), SEED, 1, Lying::Elsewhere);
+    assert!(found.passed(), "{:?}", found.wrong);
+}
+
+/// One that looks for no form does not count those that lie elsewhere.
+#[test]
+fn a_desk_that_does_not_look_is_caught() {
+    assert!(!judged(&Standin(Fault::LooksNowhere), SEED, 1, Lying::Elsewhere).passed());
 }

@@ -42,18 +42,44 @@ unsafe extern "C" {
     fn libtiff_head() -> usize;
 }
 
-/// Reads a strip: the packed rows that it gave, and of each whether libtiff said a word.
-pub fn read_page(scheme: Scheme, columns: u32, rows: u32, src: &[u8]) -> (Vec<u8>, Vec<bool>) {
-    let wide = columns.div_ceil(8) as usize;
+/// What libtiff reads into: the file that it sees, the packed rows, and of each whether a word was said.
+pub struct Room {
+    file: Vec<u8>,
+    pub packed: Vec<u8>,
+    told: Vec<u8>,
+}
+
+impl Room {
+    pub fn of(columns: u32, rows: u32, bytes: usize) -> Self {
+        let (wide, rows) = (columns.div_ceil(8) as usize, rows as usize);
+        // SAFETY: it only gives a number.
+        let head = unsafe { libtiff_head() };
+        Room { file: vec![0; head + bytes], packed: vec![0; rows * wide], told: vec![0; rows] }
+    }
+}
+
+/// Reads a strip into a room that was made for it; how many rows were given.
+pub fn read_into(scheme: Scheme, columns: u32, src: &[u8], room: &mut Room) -> usize {
+    let Room { file, packed, told } = room;
     // SAFETY: it only gives a number.
-    let mut file = vec![0; unsafe { libtiff_head() } + src.len()];
-    let (mut packed, mut told) = (vec![0; rows as usize * wide], vec![0; rows as usize]);
+    assert!(
+        unsafe { libtiff_head() } + src.len() <= file.len() && told.len() * columns.div_ceil(8) as usize <= packed.len(),
+        "there is room"
+    );
     // SAFETY: each pointer stands with the length that is told, and the file has room for the strip and its head.
     let given = unsafe {
-        let (file, packed, told) = (file.as_mut_ptr(), packed.as_mut_ptr(), told.as_mut_ptr());
+        let (rows, file, packed, told) = (told.len() as u32, file.as_mut_ptr(), packed.as_mut_ptr(), told.as_mut_ptr());
         libtiff_read_page(scheme as u32, columns, rows, src.as_ptr(), src.len(), file, packed, told)
-    } as usize;
-    packed.truncate(given * wide);
+    };
+    given as usize
+}
+
+/// Reads a strip: the packed rows that it gave, and of each whether libtiff said a word.
+pub fn read_page(scheme: Scheme, columns: u32, rows: u32, src: &[u8]) -> (Vec<u8>, Vec<bool>) {
+    let mut room = Room::of(columns, rows, src.len());
+    let given = read_into(scheme, columns, src, &mut room);
+    let Room { mut packed, told, .. } = room;
+    packed.truncate(given * columns.div_ceil(8) as usize);
     (packed, told[..given].iter().map(|&word| word != 0).collect())
 }
 
