@@ -118,7 +118,7 @@ typedef struct {
 
 /* The numbers of a verdict on a faxed form. Up to 15 they are those of the list above: the reading's own answer, 10 for
    an encoding that is none, and 11, 13 and 12 as for the heads. They are tested in the order 32 to 40, 41, the
-   reading's, 16, 17, 23, 18, 24, 11, 13, 19, 20 and 21, 22, 12. */
+   reading's, 16, 17, 23, 18, 24, 11, 13, 19, 20 and 21, 22, 12, 25. */
 enum {
     CCITT_COUNTED = 0,
     CCITT_OTHER_COLUMNS = 16, /* the page is read with other columns than the form's */
@@ -130,12 +130,13 @@ enum {
     CCITT_IN_DOUBT = 22,      /* a box with too many black pixels for none and too few for a tick */
     CCITT_GAVE_UP = 23,       /* end-of-line marks were expected, and none was left before the page's end */
     CCITT_NOT_PROPER = 24,    /* the form asks for proper pages, and the page's bits part from a writer's at bit `count` */
+    CCITT_OTHER_TICKS = 25,   /* the form has a shift, and fits at two places, which read `least` and `most` heads */
     /* of the form file's text */
     CCITT_NO_FORM_LINE = 32,      /* a line that is none of a form's */
     CCITT_SAID_TWICE = 33,        /* a line that says what a line above it says */
     CCITT_BAD_NUMBERS = 34,       /* numbers out of order; without a line, a doubt above the tick */
     CCITT_TOO_MANY_PLACES = 35,   /* a place more than 256, or than there is room for */
-    CCITT_MISSING_LINE = 36,      /* which: a box, 20 for the page, 21 for the tick */
+    CCITT_MISSING_LINE = 36,      /* which: a box, 20 for the page, 21 for the tick, 22 for a place to find it by */
     CCITT_OUTSIDE_PAGE = 37,      /* a box or place outside the page */
     CCITT_OVERLAPPING = 38,       /* a box on another */
     CCITT_NO_ROOM_FOR_BOXES = 39, /* boxes_len is not 80 */
@@ -170,14 +171,22 @@ typedef struct {
 
 /* ---- What is lent */
 
-/* How a page is read. rows 0: to the end of block or of the data. end_of_line: of Group 3 alone.
-   exact: stricter than strict, which it implies. A vertical move to the position that it starts from, other than the
-   line's first code moving to 0, and a horizontal code with two zero runs answer 1, at their mode code; a page that
-   ends with fewer rows than `rows`, if that is not 0, answers 14 and keeps its rows.
-   plain: runs are read by the plain engine, which compares one bit after another with the code tables and has no
-   lookup. It is slower, and every answer and every entry is the same. */
+/* How a page is read.
+   encoding:     CCITT_GROUP4, CCITT_GROUP3_1D or CCITT_GROUP3_2D.
+   columns:      the width in pixels.
+   rows:         stop after so many rows; 0: at the end of block or of the data.
+   end_of_block: the data may have an end-of-block mark.
+   end_of_line:  the data has end-of-line marks; of Group 3 alone.
+   rows_are_byte_aligned: each row starts at a byte.
+   strict:       refuse what breaks the standard, instead of reading on.
+   exact:        stricter still, so that it implies strict: refuse codes that move nothing, and answer 14 where rows are
+                 missing. Such codes are a vertical move to the position that it starts from, other than the line's first
+                 code moving to 0, and a horizontal code with two zero runs; they answer 1, at their mode code. Rows are
+                 missing where a page ends with fewer than `rows`, if that is not 0; it keeps those that it has.
+   plain:        read runs bit by bit from the code tables, without the lookup: slower, and every answer and every entry
+                 is the same. */
 typedef struct {
-    uint32_t encoding; /* CCITT_GROUP4, CCITT_GROUP3_1D or CCITT_GROUP3_2D */
+    uint32_t encoding;
     uint32_t columns;
     uint32_t rows;
     bool end_of_block;

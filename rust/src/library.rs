@@ -106,6 +106,7 @@ impl VerdictAnswer {
     pub(crate) const IN_DOUBT: u32 = 22;
     pub(crate) const GAVE_UP: u32 = 23;
     pub(crate) const NOT_PROPER: u32 = 24;
+    pub(crate) const OTHER_TICKS: u32 = 25;
     pub(crate) const NO_FORM_LINE: u32 = 32;
     pub(crate) const SAID_TWICE: u32 = 33;
     pub(crate) const BAD_NUMBERS: u32 = 34;

@@ -46,14 +46,13 @@ pub enum EncodingMode {
 pub struct Settings {
     /// The crate's settings.
     pub settings: DecodeSettings,
-    /// Whether to reject codes that move nothing, and a page with fewer rows than it is to have. It is stricter than `strict`, which it implies.
+    /// Stricter still than `strict`, which it implies: refuse codes that move nothing, and a page where rows are missing.
     ///
-    /// A vertical move to the position that it starts from, other than the line's first code moving to 0, and a horizontal code with two zero runs are
-    /// [`InvalidCode`](crate::DecodeError::InvalidCode). A page that ends with fewer rows than `rows`, if that is not 0, is
+    /// Such codes are a vertical move to the position that it starts from, other than the line's first code moving to 0, and a horizontal code with two
+    /// zero runs; they are [`InvalidCode`](crate::DecodeError::InvalidCode). A page that ends with fewer rows than `rows`, if that is not 0, is
     /// [`Fault::TooFewRows`](crate::beyond::Fault::TooFewRows); its rows are handed over all the same.
     pub exact: bool,
-    /// Whether to read runs by an engine without a lookup, which compares one bit after another with the code tables. It is slower, and by proof
-    /// everything that it gives is the same.
+    /// Read runs bit by bit from the code tables, without the lookup: slower, and by proof everything that it gives is the same.
     pub plain: bool,
 }
 
