@@ -139,6 +139,12 @@ module _ (across down count : ℕ) (boxes places : List ℕ) (page : Page) (rows
     outside : (boxed && placed) ≡ false → Failed (isInside across down count boxes places page i) limit (failing across down count boxes places page i) limit
     outside e = record { outside = λ z. refl; within = λ z. absurd (true≢false (sym z ∙ sym inside ∙ e)) }
 
+    pub failed-many : {n : ℕ} → Upto limit (countOf fails count 0) n → limit ≤ n → Failed (isInside across down count boxes places page i) limit (failing across down count boxes places page i) limit
+    failed-many {n = n} m l = record {
+      outside = λ z. refl;
+      within = λ z. let f = m .few in let s = total in record { few = omega arith; small = omega arith; all = λ h. omega arith };
+    }
+
     pub failed-boxes : {t : Bool} → t ≡ boxed → t ≡ false → Failed (isInside across down count boxes places page i) limit (failing across down count boxes places page i) limit
     failed-boxes e f = outside (ap (λ (s : Bool). s && placed) (sym e ∙ f))
 

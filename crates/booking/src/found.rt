@@ -204,7 +204,8 @@ pub(crate) fn first_fit(
     i
 }
 
-// How many places fail at an offset that lies inside the page, up to a limit; the limit, where it does not.
+// How many places fail at an offset that lies inside the page, up to a limit; the limit, where it does not. Most offsets come to the limit by a
+// few places, so whether all of the form lies inside is asked last.
 fn failing_at(
     columns: u32,
     rows: u32,
@@ -224,12 +225,6 @@ fn failing_at(
     let wide = 2 * across + 1;
     let u = i % wide;
     let v = i / wide;
-    if !boxes_inside(columns, rows, across, down, u, v, boxes) {
-        return limit;
-    }
-    if !places_inside(columns, rows, across, down, u, v, places, count) {
-        return limit;
-    }
     let f = failing(
         columns,
         rows,
@@ -243,6 +238,15 @@ fn failing_at(
         count,
         limit,
     );
+    if limit <= f.count {
+        return limit;
+    }
+    if !boxes_inside(columns, rows, across, down, u, v, boxes) {
+        return limit;
+    }
+    if !places_inside(columns, rows, across, down, u, v, places, count) {
+        return limit;
+    }
     f.count
 }
 
