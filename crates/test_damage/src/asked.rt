@@ -40,15 +40,16 @@ fn settings(encoding: EncodingMode, columns: u32) -> DecodeSettings {
 }
 
 // As the desk reads: the form says how wide the page is. A box has four numbers, and a place seven.
-pub(crate) fn by_desk(src: &[u8], encoding: EncodingMode) -> Told {
-    let text = form::text();
+pub(crate) fn by_desk(src: &[u8], encoding: EncodingMode, aside: bool) -> Told {
+    let mut text = [0u8; 2048];
+    let size = form::text(aside, &mut text);
     let mut boxes = [0u32; 80];
-    let mut places = [0u32; 280];
+    let mut places = [0u32; 308];
     let mut changes = [0u32; 32768];
     let mut ends = [0u64; 4096];
     let mut marks = [0u8; 4096];
     let verdict = booking::verdict_on(
-        &text,
+        copies::front(&text, size),
         src,
         booking::reading::AS_THE_DESK,
         settings(encoding, 0),

@@ -105,7 +105,7 @@ fn byte(src: &[u8], from: usize, k: usize) -> u8 {
 }
 
 // All that stands from one place on goes to another, with zeros behind it.
-fn shift(src: &[u8], from: usize, out: &mut [u8], to: usize) {
+pub(crate) fn shift(src: &[u8], from: usize, out: &mut [u8], to: usize) {
     let mut left = src.len();
     while 0 < left {
         left -= 1;

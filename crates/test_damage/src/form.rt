@@ -1,6 +1,7 @@
 // The form, as the old tests take it and as the desk does. The insides of the twenty boxes (examples/README.md): for each digit its
 // tens box and its units box. They stand in test_sheets too: a library that both use would have a public function of which nothing is
 // to be promised.
+use crate::copies;
 use heads::Box;
 
 fn boxes_of(top: u32, bottom: u32) -> [Box; 2] {
@@ -35,8 +36,9 @@ pub(crate) fn form() -> [[Box; 2]; 10] {
     ]
 }
 
-// The form file of the desk: the boxes, the page, and the frames and the gaps between them as places that must be black and white.
-pub(crate) fn text() -> [u8; 1472] {
+// The form file of the desk: the boxes, from how many pixels on one is ticked, and the frames and the gaps between them as places that must
+// be black and white.
+fn boxes_and_places() -> [u8; 1458] {
     *b"tens 0 202 224 78 98\n\
         tens 1 202 224 109 129\n\
         tens 2 202 224 140 160\n\
@@ -57,7 +59,6 @@ pub(crate) fn text() -> [u8; 1472] {
         units 7 702 724 295 315\n\
         units 8 702 724 326 346\n\
         units 9 702 724 357 377\n\
-        page 1728 400\n\
         tick 20\n\
         doubt 6\n\
         black 202 224 76 78 40\n\
@@ -100,4 +101,32 @@ pub(crate) fn text() -> [u8; 1472] {
         white 202 224 379 386 2\n\
         black 702 724 355 357 40\n\
         white 702 724 379 386 2\n"
+}
+
+fn page() -> [u8; 14] {
+    *b"page 1728 400\n"
+}
+
+// A form that is looked for has the left sides of four frames for places too, so that it fits at one offset alone.
+fn page_aside() -> [u8; 124] {
+    *b"page 1728 400 406\n\
+        shift 4 6\n\
+        black 200 202 78 98 36\n\
+        black 200 202 357 377 36\n\
+        black 700 702 78 98 36\n\
+        black 700 702 357 377 36\n"
+}
+
+// The form file: behind the boxes and the places the page. How many bytes it has.
+pub(crate) fn text(aside: bool, out: &mut [u8]) -> usize {
+    let first = boxes_and_places();
+    copies::shift(&first, 0, out, 0);
+    if aside {
+        let last = page_aside();
+        copies::shift(&last, 0, out, first.len());
+        return first.len() + last.len();
+    }
+    let last = page();
+    copies::shift(&last, 0, out, first.len());
+    first.len() + last.len()
 }

@@ -2,7 +2,8 @@
 // that came before it. A line has the encoding, the damage, how many copies there were, and by the desk how many were counted with the
 // heads that were ticked, how many are to be looked at by what the reading answers, by what the page is (16 to 19), by what its
 // pixels are (20 to 22) and by its ticks (11 to 13), and how many were counted with other heads; last, how many were by the old tests.
-// A copy that the desk counts with other heads has a line of its own, with its seed.
+// A copy that the desk counts with other heads has a line of its own, with its seed. Behind the forms that lie at their places come
+// those that lie aside of them and are looked for.
 mod asked;
 mod copies;
 mod damage;
@@ -31,13 +32,16 @@ fn field(n: u64) {
     io::print_decimal(STDOUT_FILENO, n);
 }
 
-fn name(encoding: EncodingMode) {
+fn name(encoding: EncodingMode, aside: bool) {
     match encoding {
         EncodingMode::Group4 => io::write_all(STDOUT_FILENO, b"Group 4"),
         EncodingMode::Group3_1D => io::write_all(STDOUT_FILENO, b"Group 3 1D"),
         EncodingMode::Group3_2D => io::write_all(STDOUT_FILENO, b"Group 3 2D"),
     }
     ;
+    if aside {
+        io::write_all(STDOUT_FILENO, b", looked for");
+    }
 }
 
 // Writes a page; how many bytes it has.
@@ -71,54 +75,55 @@ fn may(damage: Damage, heads: u32) -> u32 {
 }
 
 // A form is drawn and written, and a copy damaged; how many bytes the copy has.
-fn copy(encoding: EncodingMode, damage: Damage, seed: u64, out: &mut [u8]) -> usize {
+fn copy(encoding: EncodingMode, aside: bool, damage: Damage, seed: u64, out: &mut [u8]) -> usize {
     let mut changes = [0u32; 2048];
     let mut ends = [0u64; 512];
     let mut page = [0u8; 8192];
     let lot = (copies::start(damage, seed) / 64 % LOTS) as u32;
-    let form = sheet::drawn_for(damage, heads_of(seed), (seed % LOTS) as u32, lot);
-    sheet::draw(form, form.rows, &mut changes, &mut ends);
-    let kept = copies::front_ends(&ends, form.rows as usize);
+    let form = sheet::drawn_for(damage, aside, heads_of(seed), (seed % LOTS) as u32, lot);
+    let rows = sheet::height(form);
+    sheet::draw(form, rows, &mut changes, &mut ends);
+    let kept = copies::front_ends(&ends, rows as usize);
     let size = written(encoding, &changes, kept, &mut page);
     copies::damaged(copies::front(&page, size), damage, seed, out)
 }
 
-fn tell_wrong(encoding: EncodingMode, damage: Damage, seed: u64) {
+fn tell_wrong(encoding: EncodingMode, aside: bool, damage: Damage, seed: u64) {
     io::write_all(STDOUT_FILENO, b"wrong\t");
-    name(encoding);
+    name(encoding, aside);
     damage::print(damage);
     field(seed);
     io::write_all(STDOUT_FILENO, b"\n");
 }
 
 // What came of one copy, by the desk and by the old tests.
-fn tried(tally: Tally, encoding: EncodingMode, damage: Damage, seed: u64) -> Tally {
+fn tried(tally: Tally, encoding: EncodingMode, aside: bool, damage: Damage, seed: u64) -> Tally {
     let mut out = [0u8; 8224];
-    let size = copy(encoding, damage, seed, &mut out);
+    let size = copy(encoding, aside, damage, seed, &mut out);
     let src = copies::front(&out, size);
     let heads = may(damage, heads_of(seed));
-    let came = tally::came(asked::by_desk(src, encoding), heads);
+    let came = tally::came(asked::by_desk(src, encoding, aside), heads);
     match came {
-        Outcome::Wrong => tell_wrong(encoding, damage, seed),
+        Outcome::Wrong => tell_wrong(encoding, aside, damage, seed),
         _ => {}
     }
     let old = asked::by_old_tests(src, encoding);
     tally::counted_old(tally::counted(tally, came), old, heads)
 }
 
-fn all(encoding: EncodingMode, damage: Damage, copies: u64) -> Tally {
+fn all(encoding: EncodingMode, aside: bool, damage: Damage, copies: u64) -> Tally {
     let mut tally = tally::none();
     let mut seed: u64 = 0;
     while seed < copies {
-        tally = tried(tally, encoding, damage, seed);
+        tally = tried(tally, encoding, aside, damage, seed);
         seed += 1;
     }
     tally
 }
 
-fn line(encoding: EncodingMode, damage: Damage, copies: u64) {
-    let tally = all(encoding, damage, copies);
-    name(encoding);
+fn line(encoding: EncodingMode, aside: bool, damage: Damage, copies: u64) {
+    let tally = all(encoding, aside, damage, copies);
+    name(encoding, aside);
     damage::print(damage);
     field(copies);
     field(tally.right);
@@ -131,24 +136,27 @@ fn line(encoding: EncodingMode, damage: Damage, copies: u64) {
     io::write_all(STDOUT_FILENO, b"\n");
 }
 
-fn lines(encoding: EncodingMode) {
-    line(encoding, Damage::Nothing, OF_PICTURES);
-    line(encoding, Damage::RowLost, OF_PICTURES);
-    line(encoding, Damage::RowDoubled, OF_PICTURES);
-    line(encoding, Damage::Slid, OF_PICTURES);
-    line(encoding, Damage::SecondTick, OF_PICTURES);
-    line(encoding, Damage::NoTick, OF_PICTURES);
-    line(encoding, Damage::Bit, OF_BYTES);
-    line(encoding, Damage::Byte, OF_BYTES);
-    line(encoding, Damage::Bytes, OF_BYTES);
-    line(encoding, Damage::Zeros, OF_BYTES);
-    line(encoding, Damage::Cut, OF_BYTES);
-    line(encoding, Damage::Lost, OF_BYTES);
-    line(encoding, Damage::PutIn, OF_BYTES);
+fn lines(encoding: EncodingMode, aside: bool) {
+    line(encoding, aside, Damage::Nothing, OF_PICTURES);
+    line(encoding, aside, Damage::RowLost, OF_PICTURES);
+    line(encoding, aside, Damage::RowDoubled, OF_PICTURES);
+    line(encoding, aside, Damage::Slid, OF_PICTURES);
+    line(encoding, aside, Damage::SecondTick, OF_PICTURES);
+    line(encoding, aside, Damage::NoTick, OF_PICTURES);
+    line(encoding, aside, Damage::Bit, OF_BYTES);
+    line(encoding, aside, Damage::Byte, OF_BYTES);
+    line(encoding, aside, Damage::Bytes, OF_BYTES);
+    line(encoding, aside, Damage::Zeros, OF_BYTES);
+    line(encoding, aside, Damage::Cut, OF_BYTES);
+    line(encoding, aside, Damage::Lost, OF_BYTES);
+    line(encoding, aside, Damage::PutIn, OF_BYTES);
 }
 
 fn main() {
-    lines(EncodingMode::Group4);
-    lines(EncodingMode::Group3_1D);
-    lines(EncodingMode::Group3_2D);
+    lines(EncodingMode::Group4, false);
+    lines(EncodingMode::Group3_1D, false);
+    lines(EncodingMode::Group3_2D, false);
+    lines(EncodingMode::Group4, true);
+    lines(EncodingMode::Group3_1D, true);
+    lines(EncodingMode::Group3_2D, true);
 }

@@ -7,6 +7,9 @@ pub(crate) const COLUMNS: u32 = 1728;
 
 const ROWS: u32 = 400;
 
+// No page here has as many rows.
+const LINES: u32 = 1000;
+
 // No box of the column is ticked, or no second one.
 const NO_DIGIT: u32 = 10;
 
@@ -38,9 +41,14 @@ const TICK_LEFT: u32 = 3;
 // How many places a tick may have.
 const PLACES: u32 = 8;
 
+// How far a form that is looked for may lie from its place: to either side, and up or down. Its page has as many rows more at the most.
+const ACROSS: u32 = 4;
+
+const DOWN: u32 = 6;
+
 // A form: the digits that are ticked, and those that are ticked beside them; where the ticks stand, and whether they lean to the left;
-// how many rows it has, and the first of them that is another than it was, where a row was lost or doubled; and whether all of them
-// lie lower by as much as one box lies below another.
+// how many rows it has, and the first of them that is another than it was, where a row was lost or doubled; how many rows it lies lower
+// or higher than its place, how many columns right of the leftmost that it may have, and how many white rows its page has below.
 pub(crate) struct Filled {
     pub(crate) tens: u32,
     pub(crate) units: u32,
@@ -50,7 +58,10 @@ pub(crate) struct Filled {
     pub(crate) leans: bool,
     pub(crate) rows: u32,
     pub(crate) turn: u32,
-    pub(crate) slid: bool,
+    pub(crate) lower: u32,
+    pub(crate) higher: u32,
+    pub(crate) aside: u32,
+    pub(crate) below: u32,
 }
 
 // One change more, where there is room for it; where the next one goes.
@@ -121,8 +132,25 @@ fn is_one(digit: u32, one: u32, other: u32) -> bool {
 fn boxes_row(form: Filled, digit: u32, k: u32, changes: &mut [u32], at: usize) -> usize {
     let tens = is_one(digit, form.tens, form.tens_too);
     let units = is_one(digit, form.units, form.units_too);
-    let behind = box_row(TENS, k, tens, form.across, form.leans, changes, at);
-    box_row(UNITS, k, units, form.across, form.leans, changes, behind)
+    let aside = form.aside % (2 * ACROSS + 1);
+    let behind = box_row(
+        TENS - ACROSS + aside,
+        k,
+        tens,
+        form.across,
+        form.leans,
+        changes,
+        at,
+    );
+    box_row(
+        UNITS - ACROSS + aside,
+        k,
+        units,
+        form.across,
+        form.leans,
+        changes,
+        behind,
+    )
 }
 
 // A row of a form on which nothing was lost: boxes, or white.
@@ -141,33 +169,36 @@ fn row(form: Filled, y: u32, changes: &mut [u32], at: usize) -> usize {
     boxes_row(form, digit, k, changes, at)
 }
 
-// Which row stands in a place of a form that lies lower: above it the page is white, as the first row is.
-fn row_lower(y: u32) -> u32 {
-    if y < PITCH {
+// Which row of a form stands in a row of its page: above and below it the page is white, as the form's first row is.
+fn row_there(form: Filled, y: u32) -> u32 {
+    if y < form.lower {
         return 0;
     }
-    y - PITCH
+    let k = y - form.lower;
+    if ROWS < k {
+        return 0;
+    }
+    k + form.higher % PITCH
 }
 
-// Which row stands in a place: from the turn on the next one, where a row was lost, and the one before, where one was doubled.
+// Which row that is of the form before its turn: from there on the next one, where a row was lost, and the one before, where one was
+// doubled.
 fn row_for(form: Filled, y: u32) -> u32 {
-    if form.slid {
-        return row_lower(y);
-    }
-    if y < form.turn {
-        return y;
+    let there = row_there(form, y);
+    if there < form.turn {
+        return there;
     }
     if form.rows < ROWS {
-        if y < ROWS {
-            return y + 1;
+        if there < ROWS {
+            return there + 1;
         }
     }
     if ROWS < form.rows {
-        if 0 < y {
-            return y - 1;
+        if 0 < there {
+            return there - 1;
         }
     }
-    y
+    there
 }
 
 fn put_end(ends: &mut [u64], y: usize, at: usize) {
@@ -203,13 +234,39 @@ fn sheet_for(heads: u32, number: u32) -> Filled {
         leans: number % 3 == 0,
         rows: ROWS,
         turn: 0,
-        slid: false,
+        lower: 0,
+        higher: 0,
+        aside: ACROSS,
+        below: 0,
     }
 }
 
-// The same, as it is drawn for a damage; a second number, drawn for it, says where.
-pub(crate) fn drawn_for(damage: Damage, heads: u32, number: u32, lot: u32) -> Filled {
+// The same, away from its place; the number says where.
+fn sheet_aside(heads: u32, number: u32) -> Filled {
     let mut form = sheet_for(heads, number);
+    let down = number / 9 % (2 * DOWN + 1);
+    if down < DOWN {
+        form.higher = DOWN - down;
+    } else {
+        form.lower = down - DOWN;
+    }
+    form.aside = number % (2 * ACROSS + 1);
+    form.below = number / 5 % (DOWN + 1);
+    form
+}
+
+// How many rows its page has.
+pub(crate) fn height(form: Filled) -> u32 {
+    form.rows % LINES + form.below % LINES
+}
+
+// A form as it is drawn for a damage; a second number, drawn for it, says where.
+pub(crate) fn drawn_for(damage: Damage, aside: bool, heads: u32, number: u32, lot: u32) -> Filled {
+    let mut form = if aside {
+        sheet_aside(heads, number)
+    } else {
+        sheet_for(heads, number)
+    };
     match damage {
         Damage::RowLost => {
             form.rows = ROWS - 1;
@@ -220,7 +277,7 @@ pub(crate) fn drawn_for(damage: Damage, heads: u32, number: u32, lot: u32) -> Fi
             form.turn = 1 + lot % ROWS;
         }
         Damage::Slid => {
-            form.slid = true;
+            form.lower = form.lower % PITCH + PITCH;
         }
         Damage::SecondTick => {
             if lot % 2 == 0 {

@@ -6,10 +6,10 @@ use Rattle.test_damage.proofs.all.Statement.{statement}
 use Rattle.test_damage.proofs.all.Tie as tie
 
 abbrev Inv-loop : tie.InvT-loop
-Inv-loop encoding damage copies tally₀ seed₀ tally seed = seed₀ ≤ seed
+Inv-loop encoding aside damage copies tally₀ seed₀ tally seed = seed₀ ≤ seed
 
 abbrev μ-loop : tie.MeasureT-loop
-μ-loop encoding damage copies tally₀ seed₀ tally seed = copies - seed
+μ-loop encoding aside damage copies tally₀ seed₀ tally seed = copies - seed
 
 none-requires : tie.Need-none-requires Inv-loop μ-loop
 none-requires c κs = search needs
