@@ -48,7 +48,7 @@ pub fn settings_of(layout: Option<Layout>) -> Settings {
 /// All copies of the form of a number. Each is made of the seed, that number, where the form lies and what it is alone.
 pub fn copies_of(seed: u64, form: u64, lying: Lying) -> Vec<FormCopy> {
     let filled = Filled::random(&mut Random::of(seed, "form", form), (form % 100) as u32);
-    let lies = lying.drawn(&mut Random::of(seed, "where a form lies", form));
+    let lies = lying.drawn(form, &mut Random::of(seed, "where a form lies", form));
     let whole = lies.rows(&filled.rows());
     let (pages, seconds) = (in_layouts(&whole), in_layouts(&lies.rows(&second_page(seed, form))));
     let mut copies = Vec::new();

@@ -1,6 +1,6 @@
 //! Where a form lies on its page: at its place, or elsewhere, as a sending machine leaves it.
 
-use super::sheet::{MORE_ROWS, ROWS, SHIFT, header, text, text_with_shift};
+use super::sheet::{ASIDE, FAR, NEAR, ROWS, Shift, header, text, text_with_shift};
 use crate::canvas::WIDTH;
 use crate::random::Random;
 
@@ -27,24 +27,34 @@ impl Lying {
         }
     }
 
-    /// The form file that such forms are judged by.
-    pub fn text(self) -> String {
+    /// The form file that the form of a number is judged by.
+    pub fn text(self, form: u64) -> String {
         match self {
             Lying::AtItsPlace => text(),
-            Lying::Elsewhere => text_with_shift(),
+            Lying::Elsewhere => text_with_shift(shift_of(form)),
         }
     }
 
-    /// Where one form lies.
-    pub fn drawn(self, random: &mut Random) -> Move {
+    /// Where the form of a number lies.
+    pub fn drawn(self, form: u64, random: &mut Random) -> Move {
         if self == Lying::AtItsPlace {
             return Move { across: 0, down: 0, below: 0 };
         }
+        let shift = shift_of(form);
         let mut up_to = |most: usize| random.below(2 * most as u64 + 1) as i64 - most as i64;
-        let [across, down] = SHIFT.map(&mut up_to);
+        let [across, down] = shift.map(&mut up_to);
         let least = (-down).max(0) as usize;
-        let most = (MORE_ROWS as i64 - down).max(0) as usize;
+        let most = (shift[1] as i64 - down).max(0) as usize;
         Move { across, down, below: random.range(least as u64, most.max(least) as u64) as usize }
+    }
+}
+
+/// The shift in the form file of the form of a number. The time of a search grows with it, so one form in sixteen has the widest.
+fn shift_of(form: u64) -> Shift {
+    match form % 16 {
+        0 => FAR,
+        1..=3 => ASIDE,
+        _ => NEAR,
     }
 }
 

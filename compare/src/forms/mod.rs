@@ -140,7 +140,7 @@ fn judged(desk: &dyn Desk, seed: u64, forms: u64, lying: Lying) -> Found {
 }
 
 fn of_form(desk: &dyn Desk, seed: u64, form: u64, lying: Lying) -> Found {
-    let (text, boxes) = (lying.text(), sheet::boxes());
+    let (text, boxes) = (lying.text(form), sheet::boxes());
     let copies = copies_of(seed, form, lying);
     let asks: Vec<Ask> = copies
         .iter()

@@ -37,9 +37,12 @@ pub fn boxes() -> Vec<u32> {
     (0..10).flat_map(|digit| [edges(digit, 0), edges(digit, 1)].concat()).collect()
 }
 
-/// How far a form may lie from its place, to either side and up or down, and how many rows more its page may have: a header's, and some.
-pub const SHIFT: [usize; 2] = [32, 48];
-pub const MORE_ROWS: usize = 48;
+/// How far a form may lie from its place, to either side and up or down: a sheet that was fed in by hand, and one under a sender's line.
+/// A page may have as many rows more as its form may lie lower.
+pub type Shift = [usize; 2];
+pub const NEAR: Shift = [4, 6];
+pub const ASIDE: Shift = [8, 12];
+pub const FAR: Shift = [32, 48];
 
 /// The desk's form file for a form that lies at its place.
 pub fn text() -> String {
@@ -47,9 +50,8 @@ pub fn text() -> String {
 }
 
 /// And for one that is looked for. The upper frames say how high it lies; the left sides of four frames say how far aside.
-pub fn text_with_shift() -> String {
-    let [across, down] = SHIFT;
-    let mut out = text_with(&format!("page {WIDTH} {ROWS} {}\nshift {across} {down}", ROWS + MORE_ROWS));
+pub fn text_with_shift([across, down]: Shift) -> String {
+    let mut out = text_with(&format!("page {WIDTH} {ROWS} {}\nshift {across} {down}", ROWS + down));
     for (column, digit) in [(0, 0), (0, 9), (1, 0), (1, 9)] {
         let (left, top) = corner(column, digit);
         let _ = writeln!(out, "black {} {left} {top} {} {SIDE_LEAST}", left - FRAME, top + HIGH);
@@ -59,9 +61,8 @@ pub fn text_with_shift() -> String {
 
 /// And for one that may be turned a little too: only the middle of each box is looked at, and a frame's sides may lie up to SLACK
 /// pixels beside their places.
-pub fn text_with_slack() -> String {
-    let [across, down] = SHIFT;
-    let mut out = format!("page {WIDTH} {ROWS} {}\nshift {across} {down}\ntick 14\ndoubt 5\n", ROWS + MORE_ROWS);
+pub fn text_with_slack([across, down]: Shift) -> String {
+    let mut out = format!("page {WIDTH} {ROWS} {}\nshift {across} {down}\ntick 14\ndoubt 5\n", ROWS + down);
     for (column, name) in ["tens", "units"].into_iter().enumerate() {
         for digit in 0..10 {
             let (left, top) = corner(column, digit);

@@ -4,7 +4,7 @@
 use super::ask::{Ask, Desk, Told};
 use super::copies::settings_of;
 use super::filled::Filled;
-use super::sheet::{ROWS, TICK, boxes, text_with_shift, text_with_slack};
+use super::sheet::{FAR, ROWS, TICK, boxes, text_with_shift, text_with_slack};
 use crate::canvas::{Canvas, WIDTH};
 use crate::layouts::encoded;
 use crate::random::Random;
@@ -29,7 +29,7 @@ const NOISES: [u64; 5] = [100, 300, 1_000, 3_000, 10_000];
 pub fn run(desk: &dyn Desk, seed: u64, forms: u64) -> bool {
     println!("seed {seed}: {forms} forms a line; counted right / to be looked at / counted wrong");
     println!("| Pages | By the form as it is printed | With slack |\n|---|---|---|");
-    let texts = [text_with_shift(), text_with_slack()];
+    let texts = [text_with_shift(FAR), text_with_slack(FAR)];
     let mut none_wrong = true;
     let mut line = |name: String, skew: Skew| {
         let counts = texts.each_ref().map(|text| of_skew(desk, seed, forms, text, skew));

@@ -90,10 +90,10 @@ fn copies_are_made_again() {
 fn a_form_that_is_moved_has_the_same_pixels() {
     let rows = Filled::random(&mut Random::of(SEED, "form", 5), 5).rows();
     let black = |row: &[u32], x: i64| row.iter().filter(|&&change| i64::from(change) <= x).count() % 2 == 1;
-    for index in 0..20 {
-        let lies = Lying::Elsewhere.drawn(&mut Random::of(SEED, "where", index));
+    for index in 0..40 {
+        let lies = Lying::Elsewhere.drawn(index, &mut Random::of(SEED, "where", index));
         let moved = lies.rows(&rows);
-        assert!((sheet::ROWS..=sheet::ROWS + sheet::MORE_ROWS).contains(&moved.len()), "{lies:?}");
+        assert!((sheet::ROWS..=sheet::ROWS + sheet::FAR[1]).contains(&moved.len()), "{lies:?}");
         for (y, row) in rows.iter().enumerate().skip(60) {
             let there = &moved[(y as i64 + lies.down) as usize];
             assert!(there.is_sorted_by(|one, next| one < next) && there.iter().all(|&change| change < WIDTH as u32));
