@@ -47,6 +47,7 @@ pub mod of_row_store;
 pub mod of_settings;
 pub mod of_swift_loops;
 pub mod of_swift_loops_lent_2d;
+pub mod of_swift_loops_unlent_1d;
 pub mod of_swift_units;
 pub mod of_tables;
 pub mod of_writer;

@@ -214,7 +214,7 @@ fn pairs_from<'a>(
 }
 
 // The line before its first pair. The white run that opens it records nothing; where it begins with black that is a run of 0.
-fn begun(lent: bool, white: &[u16], width: u32, at: usize, bits: u64) -> AfterPair
+pub(crate) fn begun(lent: bool, white: &[u16], width: u32, at: usize, bits: u64) -> AfterPair
     requires { ⌜ Beginning width at × (lent ≡ true → now white ≡ lookupTable Colour.white) ⌝ }
     ensures { λ r. ⌜ Begins width at bits r ⌝ }
 {
@@ -234,7 +234,7 @@ fn begun(lent: bool, white: &[u16], width: u32, at: usize, bits: u64) -> AfterPa
 }
 
 // Whether pairs are looked for: by the lookup's engine alone (A14), where the row has room for any line, and the data 64 bits.
-fn fit(plain: bool, room: usize, width: u32, len: usize, at: usize) -> bool
+pub(crate) fn fit(plain: bool, room: usize, width: u32, len: usize, at: usize) -> bool
     requires { ⌜ len ≤ mostBytes ⌝ }
     ensures { λ r. ⌜ Fit room width len at r ⌝ }
 {

@@ -2,4 +2,4 @@
 pub mod fast_1d;
 pub mod fast_2d;
 pub mod lent_2d;
-mod unlent_1d;
+pub mod unlent_1d;

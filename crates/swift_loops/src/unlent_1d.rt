@@ -7,7 +7,8 @@ use codes::front;
 ghost use Prim.Native.Nat.{_<_};
 ghost use lib.ListN.{length};
 ghost use Rattle.rules.specs.Bits.{bitsOf};
-ghost use Rattle.swift_loops.specs.Pairs.{paceOf, Paired, Stepping, PacedTo, Pacing, Ran};
+ghost use Rattle.bit_reader.specs.Loaded.{Loading};
+ghost use Rattle.swift_loops.specs.Pairs.{paceOf, Paired, Stepping, PacedTo, Pacing, Ran, Filled};
 
 fn by_codes(top: usize, window: u64) -> Pair
     requires { ⌜ top < 8192 ⌝ }
@@ -66,4 +67,30 @@ pub(crate) fn pairs_from(
         }
     }
     s
+}
+
+// A white line, as `fast_1d::whole_run` sees it, which keeps its one caller so. What is lent for the table of white runs is not looked at.
+pub fn whole_run(
+    white: &[u16],
+    src: &[u8],
+    width: u32,
+    at: usize,
+    room: usize,
+    plain: bool,
+) -> AfterPair
+    requires { ⌜ Loading (now src) at ⌝ }
+    ensures { λ r. ⌜ Filled (now (src .entry)) room width at r ⌝ }
+{
+    if !fast_1d::fit(plain, room, width, src.len(), at) {
+        return AfterPair::Other;
+    }
+    match fast_1d::begun(false, white, width, at, bit_reader::ahead(src, at)) {
+        AfterPair::Other => AfterPair::Other,
+        AfterPair::On(t) => {
+            if t.position != width {
+                return AfterPair::Other;
+            }
+            AfterPair::On(t)
+        }
+    }
 }
