@@ -1,17 +1,20 @@
 -- A row behind one EOL that was expected. Assumes nothing.
 use mathlib.Core.Path.{_≡_, refl, sym, ap, _∙_, subst}
 use mathlib.Core.Bool.{Bool, true, false, not, _&&_}
-use mathlib.Core.List.{List, _++_}
+use mathlib.Core.List.{List, [], _++_}
 use Prim.Native.Nat.{ℕ, zero, suc, _+_, _-_, _*_, _/_, _%_, _^_, _≤_, _<_}
 use native.Mathlib.Omega.{arith}
 use lib.Dec.{eqb, leb}
 use lib.ListN.{length, take, drop, length-drop, take-append-drop}
 use lib.Seq.{drop-drop}
 use borrow.Rule.Slice.PartMut.{midOf, putMid}
-use borrow.Author.Tests.{not-true, eqb-true, eqb-false, lt-leb}
+use borrow.Author.Tests.{not-true, ne-eqb, eqb-true, eqb-false, lt-leb}
 use Rattle.rules.specs.Bits.{bitsOf, firstBit, peek}
 use Rattle.rules.specs.Eols.{eolsTo, allEols}
+use Rattle.rules.specs.Codes.{black}
+use Rattle.rules.specs.Lines.{Went, went, line, two, readLine}
 use Rattle.rules.specs.Rows as Page
+use Rattle.rules.specs.Rows.{rulesOf}
 use Rattle.rules.specs.Group3.{Tagging, betweenTags, eols3, row3}
 use Rattle.rules.proofs.Bits.{both-true, length-bitsOf, peek-add, peek-high, peek-low}
 use Rattle.bit_reader.specs.Loaded.{Loading}
@@ -24,6 +27,9 @@ use Rattle.settings.specs.declared.State.{State}
 use Rattle.settings.specs.declared.Row.{Row}
 use Rattle.settings.specs.Settings.{settingsOf, taggingOf}
 use Rattle.settings.specs.Between.{stateOf, RowFrom, RowGives}
+use Rattle.settings.proofs.Ended.{unchanged}
+use Rattle.one_line.specs.White.{underWhite}
+use Rattle.one_line.proofs.WhiteLine.{white-line, under-white}
 use Rattle.group3.specs.declared.eob.Before.the-variants.{Line}
 use Rattle.group3.specs.Tags.{isTagged}
 use Rattle.group3.specs.Ahead.{alignedFrom, singleAt, usual, beforeOf, beforeIn}
@@ -35,11 +41,11 @@ use Rattle.swift_loops.specs.Pairs.{haltLine, paceOf, Filled}
 use Rattle.swift_loops.proofs.Running.{ran-done}
 use Rattle.settings.specs.declared.Row.the-variants.{Kept}
 use Rattle.group3.specs.declared.line.LineKind.the-variants.{One}
-use Rattle.group3.specs.Lined.{linesBy, LineFrom, lineIn, WhiteAt}
+use Rattle.group3.specs.Lined.{linesBy, LineFrom, lineIn, WhiteAt, white2D}
 use Rattle.group3.specs.Recovery.{afterLineIn}
-use Rattle.group3.proofs.TagBits.{Joined, all-read, joined-first, joined-done, joined-line, eols-untagged, eols-tagged}
+use Rattle.group3.proofs.TagBits.{bit-one, Joined, all-read, joined-first, joined-done, joined-line, eols-untagged, eols-tagged}
 use Rattle.group3.proofs.Judging.{unaligned, lacks-none, judged-on, before-judged}
-use Rattle.group3.proofs.Starts.{kind-untagged, line-one}
+use Rattle.group3.proofs.Starts.{kind-untagged, kind-two, line-one}
 use Rattle.group3.proofs.Outcomes.{line-read, row-line, row-gives}
 
 -- ---- One EOL, in 32 bits
@@ -53,6 +59,9 @@ module _ (bytes : List ℕ) (at w : ℕ) (window : w ≡ peek 32 (drop at (bitsO
       ap (λ (n : ℕ). n % 1024) (rw window (peek-high 23 9 (drop at (bitsOf bytes))))
       ∙ peek-low 13 10 (drop at (bitsOf bytes))
       ∙ ap (peek 10) (drop-drop 13 at (bitsOf bytes))
+
+  pub two-bits : w / 2 ^ 30 ≡ peek 2 (drop at (bitsOf bytes))
+  two-bits = rw window (peek-high 2 30 (drop at (bitsOf bytes)))
 
 module _ {bytes : List ℕ} {at : ℕ} (h : Loading bytes at) (single : singleAt bytes at ≡ true) where
   abbrev bs : List Bool
@@ -117,6 +126,12 @@ pub white-seen : (bytes : List ℕ) (settings : DecodeSettings) (room at : ℕ) 
     → (r : AfterPair) → Filled bytes room (settings .columns) at r → WhiteAt bytes settings room at r
 white-seen bytes settings room at q (On v) f = (q, f)
 white-seen bytes settings room at q Other f = tt
+
+-- ---- A white 2D line
+
+-- a tag bit that is a zero, and a one behind it
+zero-one : (ds : List Bool) → peek 2 ds ≡ 1 → (firstBit ds ≡ false) × (peek 1 (drop 1 ds) ≡ 1)
+zero-one ds e = let s = peek-add 1 1 ds in (sym (bit-one ds) ∙ ne-eqb (peek 1 ds) 1 (λ q. omega arith), omega arith)
 
 -- ---- The row behind it
 
@@ -184,3 +199,24 @@ module _ {bytes lent xs : List ℕ} {settings : DecodeSettings} {st : State} (h 
       let lined = line-one line-seen (One (st .at + 12)) kind (st .at + 12) refl _ part step in
       row-seen _ xs (subst (λ (ys : List ℕ). RowGives (st .base) xs (afterLineIn settings bytes lent xs st (st .at + 12) (st .eols) (lineIn settings bytes lent xs st (st .at + 12))) (Kept (v .count) 0 (v .at) (st .eols)) ys) back
       (line-read line-seen (st .eols) _ _ lined (haltLine (settings .columns) (paceOf v)) (v .at) refl))
+
+  -- a white 2D line under a white row; the store stays
+  pub row-white-2d : white2D settings bytes lent st (st .at + 12) ≡ true
+      → RowGives (st .base) xs (row3 S t (bitsOf bytes) (length xs - st .base) (stateOf lent xs st)) (Kept 0 0 (st .at + 12 + 2) (st .eols)) xs
+  row-white-2d e =
+      let at = st .at + 12 in
+      let R = rulesOf S (length xs - st .base) in
+      let under = underWhite (st .reference) (st .base) lent in
+      let (q, r) = both-true (isTagged t) (under && eqb (peek 2 (drop at (bitsOf bytes))) 1) e in
+      let (u, v) = both-true under (eqb (peek 2 (drop at (bitsOf bytes))) 1) r in
+      let (tag, one) = zero-one (drop at (bitsOf bytes)) (eqb-true (peek 2 (drop at (bitsOf bytes))) 1 v) in
+      let kind = kind-two (line-seen .loading) t q (lt-leb (length (bitsOf bytes)) at (omega (arith, behind-fits, length-bitsOf bytes))) tag in
+      let o = white-line R (h .wide) (omega (arith, h .narrow)) (bitsOf bytes) (at + 1) (ap (peek 1) (sym (drop-drop 1 at (bitsOf bytes))) ∙ one) in
+      let k : lineIn settings bytes lent xs st at ≡ went (line (at + 1 + 1) (settings .columns) black [] false) =
+      sym (kind .same S R (stateOf lent xs st .reference))
+      ∙ ap (λ (l : List ℕ). readLine R (two l) (bitsOf bytes) (at + 1)) (under-white (st .reference) (st .base) lent xs u)
+      ∙ o in
+      let n : at + 2 ≡ at + 1 + 1 = omega arith in
+      row-seen (Kept 0 0 (at + 2) (st .eols)) xs
+      (subst (λ (w : Went). RowGives (st .base) xs (afterLineIn settings bytes lent xs st at (st .eols) w) (Kept 0 0 (at + 2) (st .eols)) xs) (sym k)
+      (record { answer = λ i. Kept 0 0 (n i) (st .eols); store = unchanged (st .base) xs }))

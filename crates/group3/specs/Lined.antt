@@ -1,10 +1,11 @@
 -- The line of a row: where it begins, and what reading it asks and gives.
 use mathlib.Core.Path.{_≡_}
-use mathlib.Core.Bool.{Bool, false}
+use mathlib.Core.Bool.{Bool, false, _&&_}
 use mathlib.Core.List.{List}
 use Prim.Native.Nat.{ℕ, _-_}
-use lib.ListN.{length}
-use Rattle.rules.specs.Bits.{bitsOf}
+use lib.Dec.{eqb}
+use lib.ListN.{length, drop}
+use Rattle.rules.specs.Bits.{bitsOf, peek}
 use Rattle.rules.specs.Lines.{Rules, newLine, Went, failed, one, two, readLine}
 use Rattle.rules.specs.Rows.{Settings, rulesOf}
 use Rattle.rules.specs.Group3.{Tagging, line3}
@@ -13,6 +14,7 @@ use Rattle.context.specs.declared.step.Rules as Line
 use Rattle.swift_loops.specs.declared.fast_1d.AfterPair.{AfterPair}
 use Rattle.swift_loops.specs.declared.fast_1d.AfterPair.the-variants.{On, Other}
 use Rattle.swift_loops.specs.Pairs.{Filled}
+use Rattle.one_line.specs.White.{underWhite}
 use Rattle.settings.specs.declared.DecodeSettings.{DecodeSettings}
 use Rattle.settings.specs.declared.State.{State}
 use Rattle.settings.specs.Settings.{settingsOf, taggingOf}
@@ -55,3 +57,8 @@ lineIn s bytes lent xs st at =
 abbrev pub WhiteAt : List ℕ → DecodeSettings → ℕ → ℕ → AfterPair → Type 0
 WhiteAt bytes s room at (On t) = (isTagged (taggingOf (s .encoding)) ≡ false) × Filled bytes room (s .columns) at (On t)
 WhiteAt bytes s room at Other = Unit {0}
+
+-- a 2D line under a white row, whose tag bit a one follows: the code V(0), so that its row is white
+abbrev pub white2D : DecodeSettings → List ℕ → List ℕ → State → ℕ → Bool
+white2D s bytes lent st at =
+    isTagged (taggingOf (s .encoding)) && (underWhite (st .reference) (st .base) lent && eqb (peek 2 (drop at (bitsOf bytes))) 1)

@@ -8,11 +8,13 @@ use crate::eob::Before;
 use context::reference;
 use context::reference::Reference;
 use context::step::Step;
+use one_line::line_2d;
 use settings::DecodeSettings;
 use settings::Row;
 use settings::State;
 use swift_loops::fast_1d;
 use swift_loops::fast_1d::AfterPair;
+use swift_loops::unlent_1d;
 ghost use mathlib.Core.Path.{_≡_};
 ghost use mathlib.Core.Bool.{true, false};
 ghost use Prim.Native.Nat.{_-_};
@@ -26,7 +28,7 @@ ghost use Rattle.context.specs.Coding.{isKept, PairedFor};
 ghost use Rattle.settings.specs.Settings.{settingsOf, taggingOf};
 ghost use Rattle.settings.specs.Between.{stateOf, RowFrom, RowGives};
 ghost use Rattle.group3.specs.Tags.{isTagged};
-ghost use Rattle.group3.specs.Lined.{LineFrom, lineIn, WhiteAt};
+ghost use Rattle.group3.specs.Lined.{LineFrom, lineIn, WhiteAt, white2D};
 ghost use Rattle.group3.specs.Recovery.{afterLineIn};
 
 // A row whose line begins at a bit.
@@ -145,6 +147,21 @@ fn white_line(
     )
 }
 
+// Whether a white 2D line stands at a bit, under a white row: its tag bit, a zero, and the one bit of V(0).
+fn is_white_2d(src: &[u8], settings: DecodeSettings, lent: &[u32], state: State, at: usize) -> bool
+    requires { ⌜ Loading (now src) at ⌝ }
+    ensures { λ r. ⌜ r ≡ white2D settings (now (src .entry)) (now (lent .entry)) state at ⌝ }
+{
+    if !eols::is_tagged(settings) {
+        return false;
+    }
+    let place = state.reference;
+    if !line_2d::is_under_white(place, state.base, lent) {
+        return false;
+    }
+    bit_reader::peek(src, at) >> 30 == 1
+}
+
 // The same row, with what is usual first. The page loop alone calls it, so that it is compiled in place there.
 pub fn swift_row<'a>(
     white: &'a [u16],
@@ -163,6 +180,9 @@ pub fn swift_row<'a>(
         return any_row(white, black, both, src, settings, lent, changes, state);
     }
     let start = state.at + 12;
+    if is_white_2d(src, settings, lent, state, start) {
+        return Row::Kept(0, 0, start + 2, state.eols);
+    }
     let room = changes.len() - state.base;
     match white_line(white, src, settings, state, start, room) {
         AfterPair::On(line) => Row::Kept(line.count, 0, line.at, state.eols),
@@ -203,7 +223,7 @@ fn lone_white(
         return AfterPair::Other;
     }
     let width = settings.columns;
-    fast_1d::whole_run(false, white, src, width, at, room, settings.plain)
+    unlent_1d::whole_run(white, src, width, at, room, settings.plain)
 }
 
 // The same for a row by itself: a function of its own, so that `swift_row` keeps its one caller.
@@ -224,6 +244,9 @@ pub fn lone_row<'a>(
         return row(white, black, both, src, settings, lent, changes, state);
     }
     let start = state.at + 12;
+    if is_white_2d(src, settings, lent, state, start) {
+        return Row::Kept(0, 0, start + 2, state.eols);
+    }
     let room = changes.len() - state.base;
     match lone_white(white, src, settings, lent, start, room) {
         AfterPair::On(line) => Row::Kept(line.count, 0, line.at, state.eols),

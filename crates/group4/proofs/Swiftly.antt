@@ -1,32 +1,26 @@
 -- A row whose line is seen at once, and a white row under a white one. Assumes nothing.
 use mathlib.Core.Path.{_≡_, refl, sym, ap, _∙_, subst}
 use mathlib.Core.Bool.{Bool, true, false, cond, not, _&&_}
-use mathlib.Core.List.{List, [], _∷_, _++_}
+use mathlib.Core.List.{List, []}
 use Prim.Native.Nat.{ℕ, zero, suc, _+_, _-_, _*_, _≤_, _<_}
 use native.Mathlib.Omega.{arith}
 use lib.Dec.{eqb, leb}
-use lib.ListN.{length, take, drop}
+use lib.ListN.{length, drop}
 use borrow.Author.Tests.{not-true, eqb-true, eqb-false, lt-leb}
-use Rattle.rules.specs.Bits.{bitsOf, peek, leadingZeros}
-use Rattle.rules.specs.Codes.{white, black}
+use Rattle.rules.specs.Bits.{bitsOf, peek}
+use Rattle.rules.specs.Codes.{black}
 use Rattle.rules.specs.Eols as Eol
-use Rattle.rules.specs.Modes.{VR, modeBits, moded, readMode}
-use Rattle.rules.specs.Runs.{ok}
-use Rattle.rules.specs.Lines.{Rules, Line, line, newLine, went, lastColour, recorded, fromB1, code2D, two, readLine}
+use Rattle.rules.specs.Lines.{line, went, two, readLine}
 use Rattle.rules.specs.Rows as Rule
 use Rattle.rules.specs.Rows.{RowOut, rulesOf, alignedIf}
 use Rattle.rules.specs.Group4.{eolsBefore, over, afterLine4, row4}
 use Rattle.rules.proofs.Bits.{both-true, length-bitsOf}
-use Rattle.rules.proofs.Modes.{c-right, read-mode}
-use Rattle.rules.proofs.Lines.{moves, line-more, line-done}
 use Rattle.bit_reader.proofs.Clear.{zeros-few, some-one}
 use Rattle.codes.proofs.Eols.{closing, none-yet, no-eol}
 use Rattle.codes.specs.declared.eol.Eols.{Eols}
 use Rattle.codes.specs.Eols.{eolsOf}
-use Rattle.context.specs.declared.reference.Reference.{Reference}
-use Rattle.context.specs.declared.reference.Reference.the-variants as Place
-use Rattle.context.specs.Coding.{referenceIn}
-use Rattle.context.proofs.Goes.{moves-right, vertical-goes}
+use Rattle.one_line.specs.White.{underWhite}
+use Rattle.one_line.proofs.WhiteLine.{white-line, under-white}
 use Rattle.settings.specs.declared.DecodeSettings.{DecodeSettings}
 use Rattle.settings.specs.declared.State.{State}
 use Rattle.settings.specs.declared.Row.{Row}
@@ -34,45 +28,8 @@ use Rattle.settings.specs.declared.Row.the-variants.{Kept}
 use Rattle.settings.specs.Settings.{settingsOf}
 use Rattle.settings.specs.Between.{stateOf, RowFrom, RowGives}
 use Rattle.settings.proofs.Ended.{unchanged}
-use Rattle.group4.specs.Lined.{LineFrom, rowAt, fullAt, begun, underWhite, whiteAt}
+use Rattle.group4.specs.Lined.{LineFrom, rowAt, fullAt, begun, whiteAt}
 use Rattle.group4.proofs.Outcomes.{over-data, row-lined}
-
--- ---- A white line under a white one
-
-first-one : (ds : List Bool) → peek 1 ds ≡ 1 → ds ≡ true ∷ drop 1 ds
-unfolding peek
-first-one [] e = absurd (omega arith)
-first-one (false ∷ ds) e = absurd (omega arith)
-first-one (true ∷ ds) e = refl
-
-module _ (R : Rules) (wide : 0 < R .width) (narrow : R .width ≤ 4294967295) (bs : List Bool) (at : ℕ) (one : peek 1 (drop at bs) ≡ 1) where
-  white-mode : readMode bs at ≡ ok (moded (at + 1) (VR 0))
-  unfolding modeBits
-  white-mode = read-mode (VR 0) bs (drop 1 (drop at bs)) at (c-right (omega arith)) (first-one (drop at bs) one)
-
-  white-code : code2D R [] bs (newLine at) ≡ went (line (at + 1) (R .width) black [] false)
-  unfolding recorded lastColour fromB1
-  white-code =
-      vertical-goes R [] bs (newLine at) (at + 1) (VR 0) tt white-mode (R .width)
-      (moves-right (R .width) (R .width) 0 0 narrow (omega arith) (omega arith)) wide (omega arith) (omega arith)
-
-  pub white-line : readLine R (two []) bs at ≡ went (line (at + 1) (R .width) black [] false)
-  unfolding readLine
-  white-line =
-      line-more (R .width) (code2D R [] bs) bs (moves R (two []) bs) (newLine at) (line (at + 1) (R .width) black [] false) (λ z. omega arith) white-code
-      ∙ line-done (R .width) (code2D R [] bs) bs (moves R (two []) bs) (line (at + 1) (R .width) black [] false) refl
-
--- ---- A reference without changes
-
-no-changes : (xs : List ℕ) → length xs ≡ 0 → xs ≡ []
-no-changes [] e = refl
-no-changes (x ∷ xs) e = absurd (omega arith)
-
-under-white : (place : Reference) (base : ℕ) (lent xs : List ℕ) → underWhite place base lent ≡ true → referenceIn place base lent xs ≡ []
-under-white Place.Lent base lent xs e = no-changes lent (eqb-true (length lent) 0 e)
-under-white (Place.Kept start) base lent xs e =
-    let n : base - start ≡ 0 = omega (arith, eqb-true start base e) in
-    ap (λ (k : ℕ). take k (drop start xs)) n
 
 -- ---- A row that is seen at once
 

@@ -9,8 +9,7 @@ use Rattle.rules.specs.Lines.{two, readLine}
 use Rattle.rules.specs.Rows.{RowOut, rulesOf}
 use Rattle.rules.specs.Group4.{afterLine4}
 use Rattle.bit_reader.specs.Loaded.{Loading}
-use Rattle.context.specs.declared.reference.Reference.{Reference}
-use Rattle.context.specs.declared.reference.Reference.the-variants.{Lent, Kept}
+use Rattle.one_line.specs.White.{underWhite}
 use Rattle.settings.specs.declared.DecodeSettings.{DecodeSettings}
 use Rattle.settings.specs.declared.State.{State}
 use Rattle.settings.specs.Settings.{settingsOf}
@@ -35,11 +34,6 @@ fullAt s rows = not (eqb (s .rows) 0) && eqb rows (s .rows)
 abbrev pub begun : DecodeSettings → List ℕ → State → Bool
 begun s bytes st = not (fullAt s (st .rows)) && not (eqb (peek 11 (drop (st .at) (bitsOf bytes))) 0)
 
--- the reference has no changes
-abbrev pub underWhite : Reference → ℕ → List ℕ → Bool
-underWhite Lent base lent = eqb (length lent) 0
-underWhite (Kept start) base lent = eqb start base
-
--- and the next bit is a one, which is the code V(0)
+-- the reference has no changes, and the next bit is a one, which is the code V(0)
 abbrev pub whiteAt : List ℕ → List ℕ → State → Bool
 whiteAt bytes lent st = underWhite (st .reference) (st .base) lent && eqb (peek 1 (drop (st .at) (bitsOf bytes))) 1

@@ -1,7 +1,6 @@
 // One row of a Group 4 page: the EOLs before it, the page's end, and the line (group4.rs).
 use codes::eol;
 use codes::eol::Eols;
-use context::reference::Reference;
 use context::step::Rules;
 use context::step::Step;
 use one_line::line_2d;
@@ -21,7 +20,7 @@ ghost use Rattle.codes.specs.Eols.{eolsOf};
 ghost use Rattle.context.specs.Coding.{TabledFor};
 ghost use Rattle.settings.specs.Settings.{settingsOf};
 ghost use Rattle.settings.specs.Between.{stateOf, RowFrom, RowGives};
-ghost use Rattle.group4.specs.Lined.{LineFrom, rowAt, fullAt, begun, underWhite, whiteAt};
+ghost use Rattle.group4.specs.Lined.{LineFrom, rowAt, fullAt, begun, whiteAt};
 
 // EOLs are no part of Group 4, but PDF wants them accepted. Data behind an EOFB may begin like an EOL, so no more than its two are read.
 fn eols_before(src: &[u8], settings: DecodeSettings, state: State) -> Eols
@@ -137,22 +136,13 @@ fn begins(src: &[u8], settings: DecodeSettings, state: State) -> bool
     bit_reader::peek13(src, state.at) >> 2 != 0
 }
 
-fn is_under_white(lent: &[u32], state: State) -> bool
-    ensures { λ r. ⌜ r ≡ underWhite (state .reference) (state .base) (now (lent .entry)) ⌝ }
-{
-    let place = state.reference;
-    match place {
-        Reference::Lent => lent.len() == 0,
-        Reference::Kept(start) => start == state.base,
-    }
-}
-
 // A white row under a white one is the one bit of V(0).
 fn is_white(src: &[u8], lent: &[u32], state: State) -> bool
     requires { ⌜ state .at < 8 * length (now src) ⌝ }
     ensures { λ r. ⌜ r ≡ whiteAt (now (src .entry)) (now (lent .entry)) state ⌝ }
 {
-    if is_under_white(lent, state) {
+    let place = state.reference;
+    if line_2d::is_under_white(place, state.base, lent) {
         return bit_reader::bit(src, state.at) == 1;
     }
     false

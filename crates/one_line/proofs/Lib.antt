@@ -5,3 +5,4 @@ pub mod OneCode
 pub mod LineLoop
 pub mod SwiftLine
 pub mod OneLine
+pub mod WhiteLine

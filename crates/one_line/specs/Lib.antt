@@ -2,3 +2,4 @@
 pub mod OneCode
 pub mod OneLine
 pub mod Kept
+pub mod White

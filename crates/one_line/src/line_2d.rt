@@ -22,6 +22,17 @@ ghost use Rattle.context.specs.Outcome.{Reads};
 ghost use Rattle.context.specs.Reference.{Finds};
 ghost use Rattle.context.specs.Coding.{Coloured, afterPush, unmovedFor, unlessIdleFor, TwoRuns};
 ghost use Rattle.context.specs.Coding.{Coding, Coded, referenceIn, Seeks, Lines, TabledFor, Lined};
+ghost use Rattle.one_line.specs.White.{underWhite};
+
+// Whether the reference is white: it has no changes.
+pub fn is_under_white(place: Reference, base: usize, lent: &[u32]) -> bool
+    ensures { λ r. ⌜ r ≡ underWhite place base (now (lent .entry)) ⌝ }
+{
+    match place {
+        Reference::Lent => lent.len() == 0,
+        Reference::Kept(start) => start == base,
+    }
+}
 
 // What a push makes of the code that began at `at` and ends at `next`; vertical mode turns the colour, pass mode keeps it.
 pub(crate) fn after_push(push: Push, at: usize, next: usize, turns: bool) -> Step

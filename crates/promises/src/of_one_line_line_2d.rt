@@ -2,7 +2,15 @@
 use context::reference::Reference;
 use context::step::Rules;
 use context::step::Step;
+ghost use mathlib.Core.Path.{_≡_};
 ghost use Rattle.context.specs.Coding.{Lines, TabledFor, Lined};
+ghost use Rattle.one_line.specs.White.{underWhite};
+
+pub fn is_under_white(place: Reference, base: usize, lent: &[u32]) -> bool
+    ensures { λ r. ⌜ r ≡ underWhite place base (now (lent .entry)) ⌝ }
+{
+    one_line::line_2d::is_under_white(place, base, lent)
+}
 
 pub fn decode_2d_line<'a>(
     white: &'a [u16],

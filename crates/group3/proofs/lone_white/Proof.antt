@@ -1,7 +1,5 @@
 -- As `white_line`. Assumes nothing.
-use mathlib.Core.Path.{_≡_, sym, _∙_}
-use Prim.Native.Nat.{ℕ}
-use native.Mathlib.Omega.{arith}
+use mathlib.Core.Path.{sym, _∙_}
 use denote.Ref.{now}
 use Rattle.group3.proofs.Swiftly.{white-seen}
 use borrow.Author.Needs.{needs}
@@ -17,9 +15,8 @@ returns c = search needs
 returns-2 : tie.Need-returns-2
 returns-2 c = search needs
 
--- no table is lent
 whole-run-requires : tie.Need-whole-run-requires
-whole-run-requires c κs = (c .before .before .before .before .before .before .pre, λ e. absurd (let z : _≡_ {A = ℕ} 0 1 = cc in omega arith))
+whole-run-requires c κs = search needs
 
 returns-3 : tie.Need-returns-3
 returns-3 c =

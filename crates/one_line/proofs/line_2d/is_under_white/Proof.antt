@@ -1,7 +1,7 @@
--- `group4::is_under_white` meets its contract. Assumes nothing.
+-- `one_line::line_2d::is_under_white` meets its contract. Assumes nothing.
 use borrow.Author.Needs.{needs}
-use Rattle.group4.proofs.is_under_white.Statement.{statement}
-use Rattle.group4.proofs.is_under_white.Tie as tie
+use Rattle.one_line.proofs.line_2d.is_under_white.Statement.{statement}
+use Rattle.one_line.proofs.line_2d.is_under_white.Tie as tie
 
 enum-told : tie.Need-enum-told
 enum-told c = search needs
@@ -13,7 +13,7 @@ returns : tie.Need-returns
 returns c = rw (c .enum-told .given .1)
 
 returns-2 : tie.Need-returns-2
-returns-2 c = rw (c .before .before .place .given .1)
+returns-2 c = rw (c .before .place .given .1)
 
 pub is-under-white-spec : {M : Type 1} → statement M
 is-under-white-spec =
