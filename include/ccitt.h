@@ -560,9 +560,10 @@ static inline ccitt_heads_answer ccitt_count_heads(ccitt_rows rows, const ccitt_
 
 /* The verdict on a faxed form: the text of a form file (examples/README.md) and the bytes of the page in. A page is
    counted where it was read to its end, as wide and with as many rows as the form says, to its last byte, with every
-   row that the form rests on clean, every place as it must be, no box in doubt, and one tick in each column. Of the
-   settings `strict` and `exact` are left aside, since `how` says them; columns 0 are the form's. The page is read into
-   `to`, where the form is sound; a form's places, up to 256, and its boxes take 8 KiB more of stack. */
+   row that the form rests on clean, every place as it must be, no box in doubt, and one tick in each column; by a form
+   with a shift so wherever it fits within that shift, with the same heads. Of the settings `strict` and `exact` are
+   left aside, since `how` says them; columns 0 are the form's. The page is read into `to`, where the form is sound; a
+   form's places, up to 256, and its boxes take 8 KiB more of stack, and as much again where it has a shift. */
 static inline ccitt_verdict_answer ccitt_judge(const uint8_t *form, size_t form_len, const uint8_t *src, size_t src_len,
     uint32_t how, ccitt_settings s, ccitt_room to) {
     ccitt_verdict_answer answer;
