@@ -87,7 +87,7 @@ fn main() -> ExitCode {
         #[cfg(feature = "linked")]
         Mode::Huge => huge::run(),
         #[cfg(feature = "linked")]
-        Mode::Forms(count) => forms::run(&linked::verdict::LinkedDesk, arguments.seed, *count, &made()),
+        Mode::Forms(count) => forms::run(&linked::verdict::LinkedDesk, arguments.seed, *count, &arguments.only, &made()),
         #[cfg(feature = "linked")]
         Mode::Skew(count) => Ok(forms::skewed::run(&linked::verdict::LinkedDesk, arguments.seed, *count)),
         #[cfg(feature = "linked")]
