@@ -1,7 +1,8 @@
 -- The row whose line begins at a bit, and the tests that see it at once.
-use mathlib.Core.Bool.{Bool, not, _&&_}
+use mathlib.Core.Path.{_≡_}
+use mathlib.Core.Bool.{Bool, true, not, _&&_}
 use mathlib.Core.List.{List}
-use Prim.Native.Nat.{ℕ, _-_}
+use Prim.Native.Nat.{ℕ, _+_, _-_, _*_, _≤_}
 use lib.Dec.{eqb}
 use lib.ListN.{length, drop}
 use Rattle.rules.specs.Bits.{bitsOf, peek}
@@ -33,6 +34,10 @@ fullAt s rows = not (eqb (s .rows) 0) && eqb rows (s .rows)
 -- the page is not full, and no EOL begins at the next bit: one of eleven is a one
 abbrev pub begun : DecodeSettings → List ℕ → State → Bool
 begun s bytes st = not (fullAt s (st .rows)) && not (eqb (peek 11 (drop (st .at) (bitsOf bytes))) 0)
+
+-- a test of it, which may miss it where the data has fewer than 64 bits left
+abbrev pub Begun : DecodeSettings → List ℕ → State → Bool → Type 0
+Begun s bytes st r = r ≡ true → (begun s bytes st ≡ true) × (st .at + 64 ≤ 8 * length bytes)
 
 -- the reference has no changes, and the next bit is a one, which is the code V(0)
 abbrev pub whiteAt : List ℕ → List ℕ → State → Bool

@@ -10,7 +10,7 @@ use settings::State;
 ghost use mathlib.Core.Path.{_≡_};
 ghost use mathlib.Core.Bool.{_&&_};
 ghost use mathlib.Core.List.{[]};
-ghost use Prim.Native.Nat.{_-_, _*_, _≤_, _<_};
+ghost use Prim.Native.Nat.{_+_, _-_, _*_, _≤_};
 ghost use lib.Dec.{leb};
 ghost use lib.ListN.{length};
 ghost use Rattle.rules.specs.Bits.{bitsOf};
@@ -20,7 +20,7 @@ ghost use Rattle.codes.specs.Eols.{eolsOf};
 ghost use Rattle.context.specs.Coding.{TabledFor};
 ghost use Rattle.settings.specs.Settings.{settingsOf};
 ghost use Rattle.settings.specs.Between.{stateOf, RowFrom, RowGives};
-ghost use Rattle.group4.specs.Lined.{LineFrom, rowAt, fullAt, begun, whiteAt};
+ghost use Rattle.group4.specs.Lined.{LineFrom, rowAt, fullAt, Begun, whiteAt};
 
 // EOLs are no part of Group 4, but PDF wants them accepted. Data behind an EOFB may begin like an EOL, so no more than its two are read.
 fn eols_before(src: &[u8], settings: DecodeSettings, state: State) -> Eols
@@ -125,25 +125,28 @@ pub fn row<'a>(
     row_at(white, black, src, settings, lent, changes, state, eols.at)
 }
 
-// Whether the next bits are a line's, seen at once: the page goes on, and no EOL begins here.
+// Whether the next bits are a line's, seen at once in a word of the data: the page goes on, and no EOL begins here.
 fn begins(src: &[u8], settings: DecodeSettings, state: State) -> bool
-    requires { ⌜ state .at ≤ 8 * length (now src) ⌝ }
-    ensures { λ r. ⌜ r ≡ begun settings (now (src .entry)) state ⌝ }
+    requires { ⌜ Loading (now src) (state .at) ⌝ }
+    ensures { λ r. ⌜ Begun settings (now (src .entry)) state r ⌝ }
 {
     if is_full(settings, state.rows) {
         return false;
     }
-    bit_reader::peek13(src, state.at) >> 2 != 0
+    if 8 * src.len() < state.at + 64 {
+        return false;
+    }
+    bit_reader::ahead(src, state.at) >> 53 != 0
 }
 
 // A white row under a white one is the one bit of V(0).
 fn is_white(src: &[u8], lent: &[u32], state: State) -> bool
-    requires { ⌜ state .at < 8 * length (now src) ⌝ }
+    requires { ⌜ state .at + 64 ≤ 8 * length (now src) ⌝ }
     ensures { λ r. ⌜ r ≡ whiteAt (now (src .entry)) (now (lent .entry)) state ⌝ }
 {
     let place = state.reference;
     if line_2d::is_under_white(place, state.base, lent) {
-        return bit_reader::bit(src, state.at) == 1;
+        return bit_reader::ahead(src, state.at) >> 63 == 1;
     }
     false
 }
