@@ -17,7 +17,8 @@ use Rattle.rules.specs.Rows as Page
 use Rattle.rules.specs.Rows.{rulesOf}
 use Rattle.rules.specs.Group3.{Tagging, betweenTags, eols3, row3}
 use Rattle.rules.proofs.Bits.{both-true, length-bitsOf, peek-add, peek-high, peek-low}
-use Rattle.bit_reader.specs.Loaded.{Loading}
+use Rattle.bit_reader.specs.Loaded.{Loading, Ahead}
+use Rattle.bit_reader.proofs.Window.{ahead-first}
 use Rattle.bit_reader.proofs.Clear.{zeros-few, some-one}
 use Rattle.codes.specs.declared.eol.Eols.{Eols}
 use Rattle.codes.specs.Eols.{eolsOf}
@@ -48,20 +49,23 @@ use Rattle.group3.proofs.Judging.{unaligned, lacks-none, judged-on, bef
 use Rattle.group3.proofs.Starts.{kind-untagged, kind-two, line-one}
 use Rattle.group3.proofs.Outcomes.{line-read, row-line, row-gives}
 
--- ---- One EOL, in 32 bits
+-- ---- One EOL, in a word of the data
 
-module _ (bytes : List ℕ) (at w : ℕ) (window : w ≡ peek 32 (drop at (bitsOf bytes))) where
-  pub twelve : w / 2 ^ 20 ≡ peek 12 (drop at (bitsOf bytes))
-  twelve = rw window (peek-high 12 20 (drop at (bitsOf bytes)))
+module _ {bytes : List ℕ} {at live w : ℕ} (h : Ahead bytes at live w) (enough : 57 ≤ live) where
+  pub twelve : w / 2 ^ 52 ≡ peek 12 (drop at (bitsOf bytes))
+  twelve = ahead-first h 12 (omega arith)
 
-  pub ten-behind : w / 2 ^ 9 % 1024 ≡ peek 10 (drop (at + 13) (bitsOf bytes))
+  pub ten-behind : w / 2 ^ 41 % 1024 ≡ peek 10 (drop (at + 13) (bitsOf bytes))
   ten-behind =
-      ap (λ (n : ℕ). n % 1024) (rw window (peek-high 23 9 (drop at (bitsOf bytes))))
+      ap (λ (n : ℕ). n % 1024) (ahead-first h 23 (omega arith))
       ∙ peek-low 13 10 (drop at (bitsOf bytes))
       ∙ ap (peek 10) (drop-drop 13 at (bitsOf bytes))
 
-  pub two-bits : w / 2 ^ 30 ≡ peek 2 (drop at (bitsOf bytes))
-  two-bits = rw window (peek-high 2 30 (drop at (bitsOf bytes)))
+  pub two-behind : w / 2 ^ 50 % 4 ≡ peek 2 (drop (at + 12) (bitsOf bytes))
+  two-behind =
+      ap (λ (n : ℕ). n % 4) (ahead-first h 14 (omega arith))
+      ∙ peek-low 12 2 (drop at (bitsOf bytes))
+      ∙ ap (peek 2) (drop-drop 12 at (bitsOf bytes))
 
 module _ {bytes : List ℕ} {at : ℕ} (h : Loading bytes at) (single : singleAt bytes at ≡ true) where
   abbrev bs : List Bool

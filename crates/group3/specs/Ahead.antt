@@ -1,11 +1,11 @@
 -- What comes before a row of a page, under settings and in bytes, and the answers that stand for it.
 use mathlib.Core.Path.{_≡_}
-use mathlib.Core.Bool.{Bool, not, _&&_}
+use mathlib.Core.Bool.{Bool, true, not, _&&_}
 use mathlib.Core.List.{List, []}
 use mathlib.Core.Option.{none}
-use Prim.Native.Nat.{ℕ, _+_}
+use Prim.Native.Nat.{ℕ, _+_, _*_, _≤_}
 use lib.Dec.{eqb}
-use lib.ListN.{drop}
+use lib.ListN.{length, drop}
 use Rattle.rules.specs.Bits.{bitsOf, peek}
 use Rattle.rules.specs.Eols.{zeroRun, eolAfter}
 use Rattle.rules.specs.Rows.{Settings, alignedIf}
@@ -34,11 +34,19 @@ pub record NoEolAt (bytes : List ℕ) (at : ℕ) : Type 0 where
 abbrev pub singleAt : List ℕ → ℕ → Bool
 singleAt bytes at = eqb (peek 12 (drop at (bitsOf bytes))) 1 && not (eqb (peek 10 (drop (at + 13) (bitsOf bytes))) 0)
 
+-- a test of it, which may miss it where the data has fewer than 64 bits left
+abbrev pub Single : List ℕ → ℕ → Bool → Type 0
+Single bytes at r = r ≡ true → (singleAt bytes at ≡ true) × (at + 64 ≤ 8 * length bytes)
+
 -- another row, behind an EOL that is expected
 abbrev pub usual : DecodeSettings → List ℕ → State → Bool
 usual s bytes st =
     not (eqb (st .rows) 0)
     && (st .eols && (not (eqb (st .rows) (s .rows)) && singleAt bytes (st .at)))
+
+-- and a test of that
+abbrev pub Usual : DecodeSettings → List ℕ → State → Bool → Type 0
+Usual s bytes st r = r ≡ true → (usual s bytes st ≡ true) × (st .at + 64 ≤ 8 * length bytes)
 
 -- an EOL is lacking after the row, whatever the settings
 abbrev pub Lacks : List ℕ → Bool → State → Eols → Bool → Type 0

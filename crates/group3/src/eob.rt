@@ -14,7 +14,7 @@ ghost use Rattle.rules.specs.Eols.{skipToEol};
 ghost use Rattle.bit_reader.specs.Cursor.{mostBits};
 ghost use Rattle.bit_reader.specs.Loaded.{Loading};
 ghost use Rattle.codes.specs.Eols.{skipOf};
-ghost use Rattle.group3.specs.Ahead.{alignedFrom, NoEolAt, Lacks, usual, beforeOf, judgedIn, missingIn, beforeIn};
+ghost use Rattle.group3.specs.Ahead.{alignedFrom, NoEolAt, Lacks, Usual, beforeOf, judgedIn, missingIn, beforeIn};
 
 // A line at a bit, with EOLs expected or not; the page's end, at a bit; or an EOL that is missing, at a bit.
 pub enum Before {
@@ -140,7 +140,7 @@ pub(crate) fn between(src: &[u8], settings: DecodeSettings, state: State) -> Bef
 // Whether what is usual comes before the row: one EOL, which was expected.
 pub(crate) fn is_usual(src: &[u8], settings: DecodeSettings, state: State) -> bool
     requires { ⌜ Loading (now src) (state .at) ⌝ }
-    ensures { λ r. ⌜ r ≡ usual settings (now (src .entry)) state ⌝ }
+    ensures { λ r. ⌜ Usual settings (now (src .entry)) state r ⌝ }
 {
     if state.rows == 0 {
         return false;

@@ -11,7 +11,7 @@ ghost use Rattle.bit_reader.specs.Loaded.{Loading};
 ghost use Rattle.codes.specs.Eols.{eolsOf};
 ghost use Rattle.settings.specs.Settings.{taggingOf};
 ghost use Rattle.group3.specs.Tags.{isTagged, EolsRead};
-ghost use Rattle.group3.specs.Ahead.{singleAt};
+ghost use Rattle.group3.specs.Ahead.{Single};
 
 pub(crate) fn is_tagged(settings: DecodeSettings) -> bool
     ensures { λ r. ⌜ r ≡ isTagged (taggingOf (settings .encoding)) ⌝ }
@@ -70,15 +70,18 @@ pub(crate) fn read_eols(src: &[u8], settings: DecodeSettings, at: usize) -> Eols
     between_tags(src, first)
 }
 
-// Whether exactly one EOL begins here, without fill: seen at once, in 32 bits. The bit behind it may be a tag, which another EOL may
-// follow, so a one is looked for behind that bit.
+// Whether exactly one EOL begins here, without fill: seen at once in a word, and not looked for where the data has fewer bits left. The bit
+// behind it may be a tag, which another EOL may follow, so a one is looked for behind that bit.
 pub(crate) fn is_single(src: &[u8], at: usize) -> bool
     requires { ⌜ Loading (now src) at ⌝ }
-    ensures { λ r. ⌜ r ≡ singleAt (now (src .entry)) at ⌝ }
+    ensures { λ r. ⌜ Single (now (src .entry)) at r ⌝ }
 {
-    let ahead = bit_reader::peek(src, at);
-    if ahead >> 20 != 1 {
+    if 8 * src.len() < at + 64 {
         return false;
     }
-    (ahead >> 9) % 1024 != 0
+    let ahead = bit_reader::ahead(src, at);
+    if ahead >> 52 != 1 {
+        return false;
+    }
+    (ahead >> 41) % 1024 != 0
 }

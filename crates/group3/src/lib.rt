@@ -17,7 +17,7 @@ use swift_loops::fast_1d::AfterPair;
 use swift_loops::unlent_1d;
 ghost use mathlib.Core.Path.{_≡_};
 ghost use mathlib.Core.Bool.{true, false};
-ghost use Prim.Native.Nat.{_-_};
+ghost use Prim.Native.Nat.{_+_, _-_, _*_, _≤_};
 ghost use lib.ListN.{length};
 ghost use Rattle.rules.specs.Bits.{bitsOf};
 ghost use Rattle.rules.specs.Codes as Colour;
@@ -147,10 +147,10 @@ fn white_line(
     )
 }
 
-// Whether a white 2D line stands at a bit, under a white row: its tag bit, a zero, and the one bit of V(0).
-fn is_white_2d(src: &[u8], settings: DecodeSettings, lent: &[u32], state: State, at: usize) -> bool
-    requires { ⌜ Loading (now src) at ⌝ }
-    ensures { λ r. ⌜ r ≡ white2D settings (now (src .entry)) (now (lent .entry)) state at ⌝ }
+// Whether a white 2D line stands behind an EOL, under a white row: its tag bit, a zero, and the one bit of V(0).
+fn is_white_2d(src: &[u8], settings: DecodeSettings, lent: &[u32], state: State) -> bool
+    requires { ⌜ state .at + 64 ≤ 8 * length (now src) ⌝ }
+    ensures { λ r. ⌜ r ≡ white2D settings (now (src .entry)) (now (lent .entry)) state (state .at + 12) ⌝ }
 {
     if !eols::is_tagged(settings) {
         return false;
@@ -159,7 +159,7 @@ fn is_white_2d(src: &[u8], settings: DecodeSettings, lent: &[u32], state: State,
     if !line_2d::is_under_white(place, state.base, lent) {
         return false;
     }
-    bit_reader::peek(src, at) >> 30 == 1
+    (bit_reader::ahead(src, state.at) >> 50) % 4 == 1
 }
 
 // The same row, with what is usual first. The page loop alone calls it, so that it is compiled in place there.
@@ -180,7 +180,7 @@ pub fn swift_row<'a>(
         return any_row(white, black, both, src, settings, lent, changes, state);
     }
     let start = state.at + 12;
-    if is_white_2d(src, settings, lent, state, start) {
+    if is_white_2d(src, settings, lent, state) {
         return Row::Kept(0, 0, start + 2, state.eols);
     }
     let room = changes.len() - state.base;
@@ -244,7 +244,7 @@ pub fn lone_row<'a>(
         return row(white, black, both, src, settings, lent, changes, state);
     }
     let start = state.at + 12;
-    if is_white_2d(src, settings, lent, state, start) {
+    if is_white_2d(src, settings, lent, state) {
         return Row::Kept(0, 0, start + 2, state.eols);
     }
     let room = changes.len() - state.base;
