@@ -106,6 +106,34 @@ fn any_row<'a>(
     row(white, black, both, src, settings, lent, changes, state)
 }
 
+// A row whose line begins behind one EOL: a function of its own for the same reason.
+fn line_row<'a>(
+    white: &'a [u16],
+    black: &'a [u16],
+    both: &'a [u16],
+    src: &[u8],
+    settings: DecodeSettings,
+    lent: &[u32],
+    changes: &mut [u32],
+    state: State,
+) -> Row
+    requires { ⌜ LineFrom (now src) (now lent) (now changes) settings state (state .at + 12) × PairedFor (state .reference) (now white) (now black) (now both) ⌝ }
+    ensures { λ r. ⌜ RowGives (state .base) (now (changes .entry)) (afterLineIn settings (now (src .entry)) (now (lent .entry)) (now (changes .entry)) state (state .at + 12) (state .eols) (lineIn settings (now (src .entry)) (now (lent .entry)) (now (changes .entry)) state (state .at + 12))) r (now (changes .exit)) ⌝ }
+{
+    row_at(
+        white,
+        black,
+        both,
+        src,
+        settings,
+        lent,
+        changes,
+        state,
+        state.at + 12,
+        state.eols,
+    )
+}
+
 // Whether the row before it is white, and lines have no tag bits: then a white row is looked for first.
 fn follows_white(settings: DecodeSettings, state: State) -> bool
     ensures { λ r. ⌜ (r ≡ true → isTagged (taggingOf (settings .encoding)) ≡ false) ⌝ }
@@ -186,20 +214,7 @@ pub fn swift_row<'a>(
     let room = changes.len() - state.base;
     match white_line(white, src, settings, state, start, room) {
         AfterPair::On(line) => Row::Kept(line.count, 0, line.at, state.eols),
-        AfterPair::Other => {
-            row_at(
-                white,
-                black,
-                both,
-                src,
-                settings,
-                lent,
-                changes,
-                state,
-                start,
-                state.eols,
-            )
-        }
+        AfterPair::Other => { line_row(white, black, both, src, settings, lent, changes, state) }
     }
 }
 

@@ -53,8 +53,8 @@ enum-known-line c = search needs
 enum-told : tie.Need-enum-told
 enum-told c = search needs
 
-row-at-requires : tie.Need-row-at-requires
-row-at-requires c κs =
+line-row-requires : tie.Need-line-row-requires
+line-row-requires c κs =
     let pre = c .before .before .before .before .before .before .before .before .before .before .before .before .before .before .before .before .pre in
     (line-seen (pre .0) (c .before .before .before .before .before .before .before .before .before .is-usual .ensures (not-false _ (c .before .before .before .before .before .before .before .before .if1 .left)) .0), pre .1)
 
@@ -71,7 +71,7 @@ same-length-2 c = search needs
 
 returns-4 : tie.Need-returns-4
 returns-4 c =
-    row-seen (c .before .before .before .before .before .before .before .before .before .before .before .before .before .before .before .before .before .before .before .pre .0) (c .before .before .before .before .before .before .before .before .before .before .before .before .is-usual .ensures (not-false _ (c .before .before .before .before .before .before .before .before .before .before .before .if1 .left)) .0) _ _ (c .before .before .row-at .ensures)
+    row-seen (c .before .before .before .before .before .before .before .before .before .before .before .before .before .before .before .before .before .before .before .pre .0) (c .before .before .before .before .before .before .before .before .before .before .before .before .is-usual .ensures (not-false _ (c .before .before .before .before .before .before .before .before .before .before .before .if1 .left)) .0) _ _ (c .before .before .line-row .ensures)
 
 pub swift-row-spec : {M : Type 1} → statement M
 swift-row-spec =
@@ -89,7 +89,7 @@ swift-row-spec =
     white-line-requires
     enum-known-line
     enum-told
-    row-at-requires
+    line-row-requires
     returns-3
     same-length-2
     returns-4)
