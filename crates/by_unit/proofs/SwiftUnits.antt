@@ -29,7 +29,7 @@ use Rattle.context.specs.declared.step.Step.the-variants as Step
 use Rattle.context.specs.State.{lineAt, lineFor, flagOf, Holds}
 use Rattle.context.specs.Coding.{referenceIn}
 use Rattle.context.specs.Places.{B1At}
-use Rattle.context.specs.Reference.{Passed, Searches}
+use Rattle.context.specs.Reference.{Passed}
 use Rattle.context.proofs.Placing.{before-at}
 use Rattle.context.proofs.Search.{right-more, head-at}
 use Rattle.context.proofs.State.{line-for}
@@ -51,14 +51,14 @@ use Rattle.by_unit.proofs.Units.{L, R, code-comes}
 -- ---- The line before them
 
 -- where the change before a guess is passed, so are those before it
-pub guess-passed : {reference : List ℕ} {seen width position colour guess : ℕ} → Searches reference seen width position colour → seen < guess → guess ≤ length reference
+pub guess-passed : {reference : List ℕ} {width position guess : ℕ} → Rising width 0 reference → 0 < guess → guess ≤ length reference
     → (position ≡ 0 → ⊥) → getD reference (guess - 1) 0 ≤ position → Passed (rightOfA0 position) guess reference
-guess-passed {reference} {width = width} {position = position} {guess = guess} s more′ inside begun left = record {
+guess-passed {reference} {width = width} {position = position} {guess = guess} rising more′ inside begun left = record {
   inside = inside;
   each = λ i h.
       omega (
         arith,
-        before-at (s .rising) i (guess - 1) 0 (omega arith) (omega arith) (omega arith),
+        before-at rising i (guess - 1) 0 (omega arith) (omega arith) (omega arith),
         head-at width reference (guess - 1) (omega arith),
         right-more position begun,
         left,

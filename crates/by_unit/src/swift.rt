@@ -3,30 +3,61 @@ use context::line::Line;
 use context::reference;
 use swift_loops::fast_2d::BetweenCodes;
 use swift_units::UnitsLeft;
+ghost use mathlib.Core.Path.{_≡_};
+ghost use mathlib.Core.Bool.{true};
 ghost use Rattle.rules.specs.Lines.{rightOfA0};
+ghost use Rattle.rules.specs.Rising.{Rising};
 ghost use Rattle.context.specs.Reference.{Passed, Searches};
 ghost use Rattle.by_unit.specs.Swift.{SwiftFrom, SwiftTook};
 
+// Whether so many changes of the reference lie left of the line, and more than were seen to: the last of them is looked at.
+fn is_passed(reference: &[u32], seen: usize, width: u32, position: u32, guess: usize) -> bool
+    requires { ⌜ Rising width 0 (now reference) ⌝ }
+    ensures { λ r. ⌜ (r ≡ true → Passed (rightOfA0 position) guess (now (reference .entry))) ⌝ }
+{
+    if guess <= seen {
+        return false;
+    }
+    if reference.len() < guess {
+        return false;
+    }
+    if position == 0 {
+        return false;
+    }
+    reference[guess - 1] <= position
+}
+
+// By how much less is guessed where as many changes as the line has are too many.
+const LESS: usize = 8;
+
+const MUCH_LESS: usize = 32;
+
 // From where on b1 is searched at a call's start. A row has about as many changes as the one before it, so as many as the line has are
-// passed over, if the last of them lies left of the line.
+// passed over, or somewhat fewer of them.
 fn search_from(reference: &[u32], seen: usize, line: Line) -> usize
     requires { ⌜ Searches (now reference) seen (line .width) (line .position) (line .colour) ⌝ }
     ensures { λ r. ⌜ Passed (rightOfA0 (line .position)) r (now (reference .entry)) ⌝ }
 {
     let guess = line.changes;
-    if guess <= seen {
-        return seen;
+    let width = line.width;
+    let position = line.position;
+    if is_passed(reference, seen, width, position, guess) {
+        return guess;
     }
-    if reference.len() < guess {
-        return seen;
+    if LESS <= guess {
+        if is_passed(reference, seen, width, position, guess - LESS) {
+            return guess - LESS;
+        }
     }
-    if line.position == 0 {
-        return seen;
+    if MUCH_LESS <= guess {
+        if is_passed(reference, seen, width, position, guess - MUCH_LESS) {
+            return guess - MUCH_LESS;
+        }
     }
-    if line.position < reference[guess - 1] {
-        return seen;
+    if is_passed(reference, seen, width, position, guess / 2) {
+        return guess / 2;
     }
-    guess
+    seen
 }
 
 // As many of those that are left as come.
