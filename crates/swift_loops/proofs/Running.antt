@@ -27,9 +27,11 @@ use Rattle.context.specs.declared.step.Step.the-variants.{On}
 use Rattle.swift_loops.specs.declared.fast_1d.BetweenRuns.{BetweenRuns}
 use Rattle.swift_loops.specs.declared.fast_1d.BeforePair.{BeforePair}
 use Rattle.swift_loops.specs.declared.fast_1d.Pair.{Pair}
+use Rattle.swift_loops.specs.declared.fast_1d.AfterPair.{AfterPair}
+use Rattle.swift_loops.specs.declared.fast_1d.AfterPair.the-variants as AfterPair
 use Rattle.context.specs.State.{rulesFor, ruling, turns, Holds}
 use Rattle.context.specs.Outcome.{Steps, Reads, Runs}
-use Rattle.swift_loops.specs.Pairs.{PairRun, Known, KnownIn, halting, haltLine, startAt, paceOf, Halts, Ran, Paces}
+use Rattle.swift_loops.specs.Pairs.{PairRun, Known, KnownIn, halting, haltLine, startAt, paceOf, Halts, Ran, Paces, BegunTo, Begins, Filled}
 use Rattle.context.proofs.State.{line-for, turns-is, overlaid-same, overlaid-set}
 use Rattle.context.proofs.Carried.{Carries, carries-step, front-of, overlaid-over}
 use Rattle.context.proofs.Goes.{recorded-by, run-goes, run-none}
@@ -261,3 +263,9 @@ module _ (bytes xs : List ℕ) (width at : ℕ) (rules : Code.Rules) (narrow : w
   ran-rest {r} {zs} u =
       rw whole
       (carries-step carried rules (λ R s. lineEnd (R .width) (codeOf R one (bitsOf bytes)) (bitsOf bytes) s) (rest-grows R-of (bitsOf bytes) (halting ys t)) r zs u)
+
+-- a line that begins so, and whose first run comes to the width, is filled by it
+pub begun-fills : {bytes : List ℕ} {width at room live bits : ℕ} {r : AfterPair} → Begins width at bits r → Ahead bytes at live bits → 57 ≤ live → width ≤ room
+    → (t : BeforePair) → r ≡ AfterPair.On t → t .position ≡ width → Filled bytes room width at (AfterPair.On t)
+begun-fills {bytes} {width} {at} {live = live} b h enough fits t e z =
+    (z, λ xs l. subst (λ (r : AfterPair). BegunTo bytes xs width at r) e (b bytes xs live h enough (omega arith)) .0)

@@ -1,10 +1,7 @@
 -- The run that fills a line, by what is known of a line that begins.
-use mathlib.Core.Path.{subst}
 use native.Mathlib.Omega.{arith}
 use borrow.Author.Tests.{not-false}
-use denote.Ref.{now}
-use Rattle.swift_loops.specs.declared.fast_1d.AfterPair.{AfterPair}
-use Rattle.swift_loops.specs.Pairs.{BegunTo}
+use Rattle.swift_loops.proofs.Running.{begun-fills}
 use borrow.Author.Needs.{needs}
 use Rattle.swift_loops.proofs.fast_1d.whole_run.Statement.{statement}
 use Rattle.swift_loops.proofs.fast_1d.whole_run.Tie as tie
@@ -39,15 +36,9 @@ returns-3 c = search needs
 returns-4 : tie.Need-returns-4
 returns-4 c =
     let fits = c .before .before .before .before .before .before .before .before in
-    let a = fits .before .before .before .args in
     let f = fits .fit .ensures (not-false _ (c .before .before .before .before .before .before .before .if1 .left)) in
-    let begun = c .before .before .before .before .before .begun in
-    let ahead = c .before .before .before .before .before .before .ahead in (
-      omega (arith, c .if2 .left),
-      λ xs e.
-          subst (λ (r : AfterPair). BegunTo (now (a .src)) xs (a .width) (a .at) r) (c .before .before .before .t .given .1)
-          (begun .ensures (now (a .src)) xs _ (ahead .ensures) (omega arith) (omega (arith, f .1, e))) .0,
-    )
+    begun-fills (c .before .before .before .before .before .begun .ensures) (c .before .before .before .before .before .before .ahead .ensures) (omega arith) (f .1) _
+    (c .before .before .before .t .given .1) (omega (arith, c .if2 .left))
 
 pub whole-run-spec : {M : Type 1} → statement M
 whole-run-spec =
