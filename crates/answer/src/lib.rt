@@ -1,4 +1,5 @@
 // The errors of a reading (error.rs), and the answer that the public functions give, with its number of the list of answers.
+#![tactic(auto)]
 ghost use Rattle.std.specs.Prelude.{◌≡◌};
 ghost use Rattle.rules.specs.Pages as Page;
 ghost use Rattle.answer.specs.Answer.{number_of, answer_of};

@@ -1,6 +1,7 @@
 // A Group 4 page a little at a time (02, A9): at most so many units a call. A unit is one mode code, one make-up code, one
 // terminating code or one EOL, and a code that fails is one too. The same arrays are lent at each call, and they and the state are
 // handed back as left.
+#![tactic(auto)]
 mod stand;
 mod state;
 mod swift;

@@ -2,6 +2,7 @@
 // say. The words are the room that there is (`large`: a stack of 64 MiB, `small`: that of any process), the command, its options and
 // its files. A program has no exit status: once all was written, the status is written to descriptor 3, so that a run that ended in any
 // other way has none.
+#![tactic(auto)]
 mod check;
 mod desk;
 mod done;

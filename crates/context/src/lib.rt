@@ -1,4 +1,5 @@
 // One line: its state, what codes do to it, and where its reference changes (context.rs).
+#![tactic(auto)]
 pub mod line;
 pub mod offset;
 pub mod reference;

@@ -1,4 +1,5 @@
 // Ledgers that runs wrote, read again.
+#![tactic(auto)]
 mod fields;
 mod namesakes;
 mod onward;

@@ -1,4 +1,5 @@
 // Lists a page of standard input: a line of settings, and then the data.
+#![tactic(auto)]
 ghost use Rattle.std.specs.Prelude.{◌≤◌, length, take};
 ghost use Rattle.io.specs.Counts.{IsPrefixLen};
 ghost use Rattle.settings.specs.Settings.{settings_of};

@@ -1,6 +1,7 @@
 // What the order demands, as statements over the contracts of the public functions: see specs/. The functions here tie these
 // statements to the source: each calls a public function and ensures the predicate that the promises are about. A function whose
 // contract is weakened, or asks more, is refused here.
+#![tactic(auto)]
 pub mod of_answer;
 pub mod of_bit_reader;
 pub mod of_bit_reader_buffer;

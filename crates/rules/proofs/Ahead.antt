@@ -20,10 +20,10 @@ above h (some k l r) = some h l r
 -- ---- b1 and b2
 
 -- the changes from b1 on rise from its least place
-found-rises : (colour : Colour) (least : ℕ) (turns : Colour) {width low : ℕ} {xs : List ℕ} → Rising width low xs → Rising width least (from_b1 colour least turns xs)
+found-rises : {width : ℕ} (colour : Colour) (least : ℕ) (turns : Colour) {low : ℕ} {xs : List ℕ} → Rising width low xs → Rising width least (from_b1 colour least turns xs)
 unfolding from_b1
 found-rises colour least turns none = none
-found-rises colour least turns {width} (some {x = x} {xs = xs} k l r) = tests (leb least x) refl (differ turns colour) (found-rises colour least (opposite turns) r)
+found-rises {width} colour least turns (some {x = x} {xs = xs} k l r) = tests (leb least x) refl (differ turns colour) (found-rises colour least (opposite turns) r)
   where
     tests : (b : Bool) → leb least x ≡ b → (d : Bool) → Rising width least (from_b1 colour least (opposite turns) xs)
         → Rising width least (elim (b && d) as (λ _. List ℕ) [ true ↦ x ∷ xs | false ↦ from_b1 colour least (opposite turns) xs ])

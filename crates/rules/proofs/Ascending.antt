@@ -61,6 +61,7 @@ tail-rises (some k l r) = r
 
 -- each change lies between the bound and the width
 pub change-within : {width low i : ℕ} {xs : List ℕ} → Rising width low xs → Memᴰ i xs → (low ≤ i) × (i < width)
+change-within {width = width} {i = i} (none {low = low}) x4 = elim x4 [ ]
 change-within (some k l r) (Memᴰ.head e) = omega arith
 change-within (some k l r) (Memᴰ.tail m) = let h = change-within r m in omega arith
 

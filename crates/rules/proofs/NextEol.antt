@@ -41,7 +41,7 @@ module _ (bs : List Bool) where
   unfolding skip
   skip-towards t h zero k = absurd (omega arith)
   skip-towards {at} here h (suc n) k = skip-here n bs at h
-  skip-towards {at} (past_one {z = z} e l t) h (suc n) k = rw (e, lt-ltb z 11 (omega arith), skip) (skip-towards t h n (omega (arith, towards-ahead t)))
+  skip-towards {at} (past_one {z = z} e l t) h (suc n) k = rw (e, lt-ltb z 11 (omega arith), skip) (skip-towards {at = at + suc z} t h n (omega (arith, towards-ahead t)))
 
   pub skips-to : {at p : ℕ} → Towards at p → EolAt bs p → skip_to_eol bs at ≡ some p
   skips-to {at} {p} t h = skip-towards t h (length bs) (omega (arith, eol-inside bs p h))

@@ -64,7 +64,7 @@ module _ (bs : List Bool) where
   unfolding skip
   bare-on t e zero = refl
   bare-on here e (suc n) = rw (e, skip)
-  bare-on (past_one {z = z} f h t) e (suc n) = rw (f, lt-ltb z 11 (omega arith), skip) (bare-on t e n)
+  bare-on {at = at} {q = q} (past_one {z = z} f h t) e (suc n) = rw (f, lt-ltb z 11 (omega arith), skip) (bare-on {at = at + suc z} t e n)
 
   pub bare-skip : (at : ℕ) → Bare at → skip_to_eol bs at ≡ none
   bare-skip at (q, t, e) = bare-on t e (length bs)

@@ -116,7 +116,7 @@ abbrev any : Colour → Bool
 any c = true
 
 -- what turns is one of the changes
-turns-change : (c : Colour) (i : ℕ) {width low : ℕ} {xs : List ℕ} → Rising width low xs → turns any c xs i ≡ true → Memᴰ i xs
+turns-change : {width : ℕ} (c : Colour) (i : ℕ) {low : ℕ} {xs : List ℕ} → Rising width low xs → turns any c xs i ≡ true → Memᴰ i xs
 turns-change c i none e = absurd (true≢false (sym e ∙ turns-before any c i {width = 0} (le_refl (suc i)) none))
 turns-change c i (some {x = x} {xs = xs} k l r) e =
     elim (placed i x) [
@@ -126,7 +126,8 @@ turns-change c i (some {x = x} {xs = xs} k l r) e =
     ]
 
 -- and each change turns
-change-turns : (c : Colour) (i : ℕ) {width low : ℕ} {xs : List ℕ} → Rising width low xs → Memᴰ i xs → turns any c xs i ≡ true
+change-turns : {width : ℕ} (c : Colour) (i : ℕ) {low : ℕ} {xs : List ℕ} → Rising width low xs → Memᴰ i xs → turns any c xs i ≡ true
+change-turns {width = width} c i (none {low = low}) x4 = elim x4 [ ]
 change-turns c i (some k l r) (Memᴰ.head e) = rw e (turns_at any c l r)
 change-turns c i (some {x = x} {xs = xs} k l r) (Memᴰ.tail m) =
     turns-behind any c x i xs (change-within r m).0 ∙ change-turns (opposite c) i r m

@@ -70,15 +70,15 @@ module _ (enc : Encoding) (S : Settings) (wide : 0 < S.columns) (bs : List Bool)
   pub row-ahead : (room : ℕ) (st : State) (r : List ℕ) (mark : ℕ) (next : State) → row_of enc S bs room st ≡ row r mark next → st.at ≤ next.at
   row-ahead room st r mark next e = (subst (Goes bs st) e (row_goes S wide bs bytes room st enc)).forward
 
-  pub stands-ahead : {k j : Kept} {Ends : ℕ → State → Type 0} → Stands Ends (row_of enc S bs) store places k j → k.state.at ≤ j.state.at
-  stands-ahead {k} (last_row {r = r} {mark = mark} {next = next} e h q w) = row-ahead (store - entries k.rows) k.state r mark next e
-  stands-ahead {k} (one_more {r = r} {mark = mark} {next = next} e h q s) = omega (arith, row-ahead (store - entries k.rows) k.state r mark next e, stands-ahead s)
+  pub stands-ahead : {Ends : ℕ → State → Type 0} {k j : Kept} → Stands Ends (row_of enc S bs) store places k j → k.state.at ≤ j.state.at
+  stands-ahead {k = k} (last_row {r = r} {mark = mark} {next = next} e h q w) = row-ahead (store - entries k.rows) k.state r mark next e
+  stands-ahead {k = k} (one_more {r = r} {mark = mark} {next = next} e h q s) = omega (arith, row-ahead (store - entries k.rows) k.state r mark next e, stands-ahead s)
 
   -- they are the first of the page's
-  pub stands-ends : {k j : Kept} {Ends : ℕ → State → Type 0} → Stands Ends (row_of enc S bs) store places k j → ends (page_step (row_of enc S bs) store places) (rows_left bs) k ≡ ends (page_step (row_of enc S bs) store places) (rows_left bs) j
-  stands-ends {k} (last_row {r = r} {mark = mark} {next = next} e h q w) =
+  pub stands-ends : {Ends : ℕ → State → Type 0} {k j : Kept} → Stands Ends (row_of enc S bs) store places k j → ends (page_step (row_of enc S bs) store places) (rows_left bs) k ≡ ends (page_step (row_of enc S bs) store places) (rows_left bs) j
+  stands-ends {k = k} (last_row {r = r} {mark = mark} {next = next} e h q w) =
       ends_more (page_step (row_of enc S bs) store places) (rows_left bs) (page-falls enc S wide bs bytes store places) k (with_row k r mark next) (page-kept enc S wide bs bytes store places k r mark next e h)
-  stands-ends {k} (one_more {r = r} {mark = mark} {next = next} e h q s) =
+  stands-ends {k = k} (one_more {r = r} {mark = mark} {next = next} e h q s) =
       ends_more (page_step (row_of enc S bs) store places) (rows_left bs) (page-falls enc S wide bs bytes store places) k (with_row k r mark next) (page-kept enc S wide bs bytes store places k r mark next e h)
       ∙ stands-ends s
 

@@ -1,6 +1,7 @@
 // The code tables of T.4 and T.6, the table of pairs made of them, and the readers of all tables (tables.rs). The two lookup tables
 // have a crate of their own, `lookups`. A constant is built anew on the stack wherever it is used, so a decoder or a writer makes
 // each table once, and lends it.
+#![tactic(auto)]
 ghost use Rattle.std.specs.Prelude.{◌≡◌, ◌-◌, ◌≤◌, ◌<◌};
 ghost use Rattle.rules.specs.Bits.{bits_for};
 ghost use Rattle.rules.specs.Codes.{white, black, white_terminating, white_makeup, black_terminating};

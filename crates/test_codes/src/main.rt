@@ -1,5 +1,6 @@
 // Prints every code of the five tables, for the gate to hold to the tables that T.4 prints (docs/DECISIONS.md, 91). A line has the
 // colour, the run and the bits.
+#![tactic(auto)]
 use libc::STDOUT_FILENO;
 
 fn put_bit(word: u16, place: u16) {

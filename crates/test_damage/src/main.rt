@@ -4,6 +4,7 @@
 // pixels are (20 to 22) and by its ticks (11 to 13), and how many were counted with other heads; last, how many were by the old tests.
 // A copy that the desk counts with other heads has a line of its own, with its seed. Behind the forms that lie at their places come
 // those that lie aside of them and are looked for.
+#![tactic(auto)]
 mod asked;
 mod copies;
 mod damage;

@@ -1,5 +1,6 @@
 // Replays a sample of the crate's answers: reads what was asked, and prints what reading it answers here. `stdout` has what the crate
 // answered; compare/README.md says how both files were made, and what a line of each has.
+#![tactic(auto)]
 mod asked;
 mod told;
 

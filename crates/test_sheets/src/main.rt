@@ -4,6 +4,7 @@
 // answers. A line has the sheet's name; number, rows, entries, loose entries, bytes and place; the mark of the first row, or 3
 // where none was stored; and the changes, those of kept rows first. Behind them the booking forms of examples/ (parties.rt), the
 // forms that take a reference (lent_forms.rt), and packed rows (bitmaps.rt).
+#![tactic(auto)]
 mod bad_lines;
 mod bitmaps;
 mod engines;
