@@ -1,5 +1,6 @@
 // The errors of a reading (error.rs), and the answer that the public functions give, with its number of the list of answers.
 #![tactic(auto)]
+
 ghost use Rattle.std.specs.Prelude.{◌≡◌};
 ghost use Rattle.rules.specs.Pages as Page;
 ghost use Rattle.answer.specs.Answer.{number_of, answer_of};
@@ -43,7 +44,7 @@ pub const MOST_PIXELS: u32 = 4294967295;
 // Data and output have no more bytes (A4).
 pub const MOST_BYTES: usize = 4294967296;
 
-#[derive(Drop)]
+#[derive(Clone, Copy)]
 pub enum DecodeError {
     UnexpectedEof,
     InvalidCode,
@@ -64,7 +65,7 @@ pub fn number(e: DecodeError) -> u32
 // The mark of the row, for a form that gives one row, and else 0; rows kept, entries in kept rows, loose entries, bytes (for one line: the
 // bit after it), and for 1, 2 and 3 the bit at fault.
 #[repr(C)]
-#[derive(Drop)]
+#[derive(Clone, Copy)]
 pub struct Answer {
     pub number: u32,
     pub mark: u32,

@@ -5,7 +5,7 @@ ghost use Rattle.bit_reader.specs.Loaded.{LoadedAt, Loading, Feeding, fed_at, To
 use crate::word;
 
 // `bits` has the bits from `at` on, the next one on top. Up to `limit`, which is inside the data, at least 13 of them are there.
-#[derive(Drop)]
+#[derive(Clone, Copy)]
 pub struct Buffer {
     pub at: usize,
     pub limit: usize,
@@ -35,7 +35,7 @@ pub fn load(src: &[u8], at: usize) -> Buffer
 }
 
 // `End` stands for the crate's `UnexpectedEof`.
-#[derive(Drop)]
+#[derive(Clone, Copy)]
 pub enum Fed {
     On(Buffer),
     End,

@@ -6,7 +6,7 @@ ghost use Rattle.bitmap.specs.Steps.{ones_from, Turnable, Standing, Has};
 pub(crate) const ALL: u64 = 18446744073709551615;
 
 // `next` changes of the row lie left of where these 64 pixels end, and behind them it goes on in black or not.
-#[derive(Drop)]
+#[derive(Clone, Copy)]
 pub(crate) struct Span {
     pub(crate) next: usize,
     pub(crate) black: bool,

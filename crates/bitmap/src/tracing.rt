@@ -7,7 +7,7 @@ ghost use Rattle.bitmap.specs.Turning.{bit_in, recorded, up_to, Roomy, Traced, T
 use crate::{painting, pixels};
 
 // Which change comes next, and whether the pixel before it is black.
-#[derive(Drop)]
+#[derive(Clone, Copy)]
 pub(crate) struct Turn {
     pub(crate) next: usize,
     pub(crate) black: bool,

@@ -18,14 +18,14 @@ use heads::count::in_box;
 use settings::EncodingMode;
 
 // How many places fail, up to a limit, and the last of those.
-#[derive(Drop)]
+#[derive(Clone, Copy)]
 struct Missed {
     count: u32,
     last: usize,
 }
 
 // Whether an offset is one that is looked for, and a place that failed at it or before.
-#[derive(Drop)]
+#[derive(Clone, Copy)]
 struct Tried {
     hit: bool,
     last: usize,

@@ -17,7 +17,7 @@ use settings::DecodeSettings;
 pub use showing::{lies_at, move_form};
 
 // What the tests on a page find: the number of a verdict, the heads where it is 0, and what its words need.
-#[derive(Drop)]
+#[derive(Clone, Copy)]
 pub(crate) struct Finding {
     number: u32,
     heads: u32,
@@ -30,7 +30,7 @@ pub(crate) struct Finding {
 }
 
 // Where a form lies on a page: how far to the right of the first offset and below it, and whether it fits there.
-#[derive(Drop)]
+#[derive(Clone, Copy)]
 pub struct Lies {
     pub fits: bool,
     pub across: u32,
@@ -40,7 +40,7 @@ pub struct Lies {
 // What one page came to: the verdict, the books behind it, and how many bytes of text its line has; 0 where it has no room, and the
 // page is then in no books.
 #[repr(C)]
-#[derive(Drop)]
+#[derive(Clone, Copy)]
 pub struct Booked {
     pub verdict: Verdict,
     pub ledger: Ledger,

@@ -16,7 +16,7 @@ use context::reference::Reference;
 use settings::{DecodeSettings, Row, State};
 
 // One of the two line arrays.
-#[derive(Drop)]
+#[derive(Clone, Copy)]
 pub enum Side {
     First,
     Second,
@@ -24,7 +24,7 @@ pub enum Side {
 
 // The page goes on; or it has ended with a number of the list, 0 to 4 or 14, and with what that number may have beside it, so that no other
 // end can be repeated: 0 its bytes; 1, 2 and 3 the bit at fault and the loose entries; 4 the loose entries; 14 nothing.
-#[derive(Drop)]
+#[derive(Clone, Copy)]
 pub enum End {
     Unended,
     Done(usize),
@@ -37,7 +37,7 @@ pub enum End {
 
 // What a call hands back and the next one takes: the next bit, the rows given and the entries in them, whether EOLs are expected, and the
 // reference, which is the first `held` entries of the array `side`.
-#[derive(Drop)]
+#[derive(Clone, Copy)]
 pub struct RowState {
     pub at: usize,
     pub rows: usize,
@@ -50,7 +50,7 @@ pub struct RowState {
 
 // What a call says. The changes that it speaks of are the first `count` entries of `array`: with 15 the row, of the answer's mark; at the
 // page's end the loose entries.
-#[derive(Drop)]
+#[derive(Clone, Copy)]
 pub struct RowStep {
     pub answer: Answer,
     pub array: Side,

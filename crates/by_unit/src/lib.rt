@@ -21,7 +21,7 @@ use answer::Answer;
 use settings::{DecodeSettings, EncodingMode};
 
 // What comes next: an EOL or a line; a mode code; a code of a horizontal code's first run, or of its second.
-#[derive(Drop)]
+#[derive(Clone, Copy)]
 pub enum Phase {
     Eols,
     Mode,
@@ -32,7 +32,7 @@ pub enum Phase {
 // An open page's state: what comes next and its bit; the EOLs read before the next line; the rows kept, whose entries the last row
 // end counts; the line's position, colour, changes so far and cut flag; the run's sum so far and its first bit; the mode code's
 // bit; and whether the first run moved nothing. What a phase does not need is 0.
-#[derive(Drop)]
+#[derive(Clone, Copy)]
 pub struct Saved {
     pub phase: Phase,
     pub at: usize,
@@ -50,7 +50,7 @@ pub struct Saved {
 
 // How a page ended: with a number of the list, 0 to 5 or 14, and with what that number may have beside it, so that no other end can
 // be repeated: 0 its bytes; 1, 2 and 3 the bit at fault and the loose entries; 4 and 5 the loose entries; 14 nothing.
-#[derive(Drop)]
+#[derive(Clone, Copy)]
 pub enum PageEnd {
     Done(u64),
     InvalidCode(u64, u64),
@@ -62,21 +62,21 @@ pub enum PageEnd {
 }
 
 // The rows kept, and the entries in them.
-#[derive(Drop)]
+#[derive(Clone, Copy)]
 pub struct EndCounts {
     pub rows: u64,
     pub entries: u64,
 }
 
 // What a call hands back and the next one takes.
-#[derive(Drop)]
+#[derive(Clone, Copy)]
 pub enum Reading {
     Open(Saved),
     Ended(PageEnd, EndCounts),
 }
 
 // A call's answer, and the units it took.
-#[derive(Drop)]
+#[derive(Clone, Copy)]
 pub struct Turn {
     pub answer: Answer,
     pub units: usize,

@@ -14,7 +14,7 @@ use context::reference::Reference;
 use settings::{DecodeSettings, State};
 
 // Which run of a horizontal code: the first, or the second. Both know the mode code's bit, and the second whether the first moved nothing.
-#[derive(Drop)]
+#[derive(Clone, Copy)]
 pub(crate) enum Half {
     First(usize),
     Second(usize, bool),
@@ -22,7 +22,7 @@ pub(crate) enum Half {
 
 // Between rows, with the EOLs read so far; in a line, before the mode code at a bit; or in a run, with the line as it was before
 // it, the run's first bit, its sum so far, and its next bit.
-#[derive(Drop)]
+#[derive(Clone, Copy)]
 pub(crate) enum Stand {
     Between(Eols),
     InLine(Line, usize),
@@ -30,7 +30,7 @@ pub(crate) enum Stand {
 }
 
 // The rows kept. The reference lies in the store from `start` to `base`, and the unfinished row from `base` on.
-#[derive(Drop)]
+#[derive(Clone, Copy)]
 pub(crate) struct Kept {
     pub rows: usize,
     pub start: usize,
@@ -38,7 +38,7 @@ pub(crate) struct Kept {
 }
 
 // The page goes on, with the place in the reference where the next search goes on; or it has ended.
-#[derive(Drop)]
+#[derive(Clone, Copy)]
 pub(crate) enum Out {
     More(Kept, Stand, usize),
     Done(Answer),
@@ -59,7 +59,7 @@ pub(crate) fn said(number: u32, place: usize, bytes: usize, kept: Kept, loose: u
 }
 
 // The bit after the next EOL, where one is still to be read before the line.
-#[derive(Drop)]
+#[derive(Clone, Copy)]
 pub(crate) enum NextEol {
     After(usize),
     Nothing,

@@ -6,7 +6,7 @@ use crate::{stand, unit};
 use settings::DecodeSettings;
 
 // Where they have come to, and how many they are.
-#[derive(Drop)]
+#[derive(Clone, Copy)]
 pub(crate) struct TakenUnits {
     pub out: Out,
     pub units: usize,

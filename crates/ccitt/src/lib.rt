@@ -13,7 +13,7 @@ use settings::{DecodeSettings, Row, State};
 
 // A page's answer, and whether EOLs were given up in one of the rows that it keeps. From there on its rows hang on all of the data.
 #[repr(C)]
-#[derive(Drop)]
+#[derive(Clone, Copy)]
 pub struct Watched {
     pub answer: Answer,
     pub gave_up: bool,

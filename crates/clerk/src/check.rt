@@ -8,7 +8,7 @@ use proper::Checked;
 use settings::DecodeSettings;
 
 // Two readings after one call each: whether they said the same and go on, or said the same and ended, or parted.
-#[derive(Drop)]
+#[derive(Clone, Copy)]
 struct Both {
     go_on: bool,
     same: bool,
@@ -97,7 +97,7 @@ fn ended(good: bool, answer: Answer) -> bool {
 }
 
 // A part of the answer: whether it could be written, whether all is well so far, and how the reading ended.
-#[derive(Drop)]
+#[derive(Clone, Copy)]
 struct Part {
     good: bool,
     well: bool,

@@ -107,7 +107,7 @@ fn page(
 }
 
 // A page's line is written, or the run ends here.
-#[derive(Drop)]
+#[derive(Clone, Copy)]
 struct Outcome {
     good: bool,
     ledger: Ledger,

@@ -6,7 +6,7 @@ use crate::{desk, feed, lines, names, say, text};
 use ledger::Ledger;
 
 // A run: the names that are left, the books, how many pages there were, and whether more may come. One that is not good has said why.
-#[derive(Drop)]
+#[derive(Clone, Copy)]
 pub(crate) struct Run {
     pub(crate) names: Names,
     pub(crate) ledger: Ledger,
@@ -127,7 +127,7 @@ fn is_done(what: u32, line: &[u8]) -> bool {
 }
 
 // A turn: the run behind a line, and the ledger behind it; `more` is false where the ledger has no further line.
-#[derive(Drop)]
+#[derive(Clone, Copy)]
 struct Pass {
     run: Run,
     feed: Feed,

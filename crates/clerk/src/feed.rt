@@ -1,7 +1,7 @@
 // The lines of a file that may be long: names of pages, and the lines of a ledger, one at a time.
 
 // Where the next bytes are: read already, from `from` to `to` in the lent memory, or still in the file.
-#[derive(Drop)]
+#[derive(Clone, Copy)]
 pub(crate) struct Feed {
     pub(crate) fd: i32,
     pub(crate) from: usize,
@@ -19,7 +19,7 @@ pub(crate) const LONG: u32 = 3;
 
 pub(crate) const FAILED: u32 = 4;
 
-#[derive(Drop)]
+#[derive(Clone, Copy)]
 pub(crate) struct Fed {
     pub(crate) feed: Feed,
     pub(crate) what: u32,

@@ -2,14 +2,14 @@
 use crate::text;
 
 // How many bytes there are, or the number of what is wrong.
-#[derive(Drop)]
+#[derive(Clone, Copy)]
 pub(crate) struct Got {
     pub(crate) fault: u32,
     pub(crate) bytes: usize,
 }
 
 // A read that gave bytes, the end, or a failure.
-#[derive(Drop)]
+#[derive(Clone, Copy)]
 enum Moved {
     Bytes(usize),
     End,

@@ -41,7 +41,7 @@ fn head(columns: u32) -> bool {
 }
 
 // The page's status, and how its reading ended.
-#[derive(Drop)]
+#[derive(Clone, Copy)]
 pub(crate) struct Listed {
     pub(crate) status: u32,
     pub(crate) end: Answer,

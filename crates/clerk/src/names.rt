@@ -2,7 +2,7 @@
 use crate::feed::Feed;
 use crate::{feed, options};
 
-#[derive(Drop)]
+#[derive(Clone, Copy)]
 pub(crate) struct Names {
     pub(crate) at: usize,
     pub(crate) after: bool,
@@ -11,7 +11,7 @@ pub(crate) struct Names {
 }
 
 // A name of so many bytes, or that there is none (feed.rt has the numbers).
-#[derive(Drop)]
+#[derive(Clone, Copy)]
 pub(crate) struct Named {
     pub(crate) names: Names,
     pub(crate) what: u32,

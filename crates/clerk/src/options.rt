@@ -81,7 +81,7 @@ pub(crate) const G31D: u32 = 2;
 pub(crate) const G32D: u32 = 3;
 
 // What the options say. Words are told by their place among the arguments, 0 where there is none.
-#[derive(Drop)]
+#[derive(Clone, Copy)]
 pub(crate) struct Options {
     pub(crate) good: bool,
     pub(crate) given: u32,
@@ -183,7 +183,7 @@ pub(crate) fn command(word: &[u8]) -> u32 {
 }
 
 // What a word is: a file, the two dashes behind which all are files, or an option.
-#[derive(Drop)]
+#[derive(Clone, Copy)]
 enum Word {
     File,
     Dashes,
@@ -552,7 +552,7 @@ fn further(at: usize, words: usize) -> usize {
 }
 
 // The options behind a word, and where the next word is; `after` says that the two dashes stand before it.
-#[derive(Drop)]
+#[derive(Clone, Copy)]
 struct Past {
     options: Options,
     at: usize,
@@ -632,7 +632,7 @@ pub(crate) fn read(command: u32, name: &[u8], first: usize, count: usize) -> Opt
 }
 
 // Where the next file stands among the words, if there is one.
-#[derive(Drop)]
+#[derive(Clone, Copy)]
 pub(crate) struct Place {
     pub(crate) found: bool,
     pub(crate) at: usize,

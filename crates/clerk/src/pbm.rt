@@ -2,7 +2,7 @@
 use crate::text;
 
 // What the file begins with, and where its first row does.
-#[derive(Drop)]
+#[derive(Clone, Copy)]
 pub(crate) struct Bitmap {
     pub(crate) good: bool,
     pub(crate) plain: bool,
@@ -69,7 +69,7 @@ pub(crate) fn head(data: &[u8]) -> Bitmap {
 }
 
 // A pixel of P1, 0 or 1, or 2 where there is none; and where the next one is looked for.
-#[derive(Drop)]
+#[derive(Clone, Copy)]
 struct Shade {
     shade: u8,
     next: usize,
@@ -94,7 +94,7 @@ fn pixel(data: &[u8], at: usize) -> Shade {
 }
 
 // A row that was taken into the store: where its changes end, and where the next row begins.
-#[derive(Drop)]
+#[derive(Clone, Copy)]
 pub(crate) enum Taken {
     Row(usize, usize),
     NoPixel,

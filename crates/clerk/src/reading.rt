@@ -4,7 +4,7 @@ use crate::{options, say, text};
 use settings::{DecodeSettings, EncodingMode};
 
 // The settings of a page; `known` says whether its encoding is.
-#[derive(Drop)]
+#[derive(Clone, Copy)]
 pub(crate) struct Settled {
     pub(crate) known: bool,
     pub(crate) settings: DecodeSettings,

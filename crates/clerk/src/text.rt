@@ -1,7 +1,7 @@
 // Text that people write: numbers, and the blanks and comments between them.
 
 // A number, which is 4294967296 where it has more than 32 bits, and the place behind its digits.
-#[derive(Drop)]
+#[derive(Clone, Copy)]
 pub(crate) struct Read {
     pub(crate) value: u64,
     pub(crate) next: usize,

@@ -4,7 +4,7 @@ use crate::{files, lines, options, room, say, text};
 use ledger_file::AddedUp;
 
 // The ledgers one behind the other: how many bytes and how many ledgers there are. Where one cannot be used, that was said.
-#[derive(Drop)]
+#[derive(Clone, Copy)]
 struct Ledgers {
     good: bool,
     bytes: usize,
@@ -144,7 +144,7 @@ fn all(
 }
 
 // Which ledger a place lies in, and where that begins.
-#[derive(Drop)]
+#[derive(Clone, Copy)]
 struct Site {
     ledger: usize,
     begin: usize,

@@ -17,7 +17,7 @@ const BARS: u32 = 3;
 const PICTURES: u32 = 4;
 
 // A pass over the names among the words: where the next one may stand, the books, and whether more may come.
-#[derive(Drop)]
+#[derive(Clone, Copy)]
 struct Pass {
     at: usize,
     after: bool,
@@ -27,7 +27,7 @@ struct Pass {
 }
 
 // What a page came to.
-#[derive(Drop)]
+#[derive(Clone, Copy)]
 struct Step {
     good: bool,
     ledger: Ledger,

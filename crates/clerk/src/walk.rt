@@ -5,7 +5,7 @@ use by_row::{RowState, RowStep, Side};
 use settings::DecodeSettings;
 
 // How a row is shown: not at all, as a line of the listing, or as pixels behind so many bytes of margin.
-#[derive(Drop)]
+#[derive(Clone, Copy)]
 pub(crate) enum Show {
     Nothing,
     Line,
@@ -13,7 +13,7 @@ pub(crate) enum Show {
 }
 
 // How a page ends, how many rows of each mark come before, and whether all that was shown could be written.
-#[derive(Drop)]
+#[derive(Clone, Copy)]
 pub(crate) struct Counts {
     pub(crate) end: Answer,
     pub(crate) clean: u64,
@@ -51,7 +51,7 @@ fn shown(
 }
 
 // One call of the row form, whose row is shown.
-#[derive(Drop)]
+#[derive(Clone, Copy)]
 struct Given {
     answer: Answer,
     state: RowState,
@@ -123,7 +123,7 @@ fn none() -> Counts {
 }
 
 // A page so far; `more` says whether another call is to be made.
-#[derive(Drop)]
+#[derive(Clone, Copy)]
 struct Walk {
     counts: Counts,
     state: RowState,

@@ -70,7 +70,7 @@ fn is_row(changes: &[u32], base: usize, end: usize, row: &[u32], count: usize) -
 }
 
 // A row that was read back: whether it is the store's, where that one ends, and the state behind it.
-#[derive(Drop)]
+#[derive(Clone, Copy)]
 struct Back {
     good: bool,
     end: usize,

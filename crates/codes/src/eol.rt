@@ -6,7 +6,7 @@ ghost use Rattle.bit_reader.specs.Loaded.{Loading};
 ghost use Rattle.codes.specs.Eols.{eols_of, skip_of};
 
 // How many were read, and the bit after them.
-#[derive(Drop)]
+#[derive(Clone, Copy)]
 pub struct Eols {
     pub count: usize,
     pub at: usize,
@@ -51,7 +51,7 @@ pub fn read_all_eols(src: &[u8], from: usize) -> Eols
     read_eols(src, from, 8 * src.len())
 }
 
-#[derive(Drop)]
+#[derive(Clone, Copy)]
 pub enum Skip {
     To(usize),
     Nowhere,

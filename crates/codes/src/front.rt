@@ -7,7 +7,7 @@ ghost use Rattle.codes.specs.Fronts.{Fronted, Joined, behind_code};
 use crate::run;
 
 // A run and the bits of its codes; no pixels and no bits where it is no such run.
-#[derive(Drop)]
+#[derive(Clone, Copy)]
 pub struct Front {
     pub pixels: u32,
     pub size: usize,

@@ -11,7 +11,7 @@ use bit_reader::Moved;
 
 // Each mode with the bit after its code, or the error with the bit at which the failing code began. The offset of a vertical mode
 // is positive to the right.
-#[derive(Drop)]
+#[derive(Clone, Copy)]
 pub enum Mode {
     Pass(usize),
     Horizontal(usize),
@@ -20,7 +20,7 @@ pub enum Mode {
 }
 
 // A mode by itself, without the place of its code.
-#[derive(Drop)]
+#[derive(Clone, Copy)]
 enum ModeKind {
     Pass,
     Horizontal,

@@ -18,7 +18,7 @@ use bit_reader::buffer::{Buffer, Fed};
 pub(crate) const MOST_SUM: usize = answer::MOST_PIXELS as usize;
 
 // A run and the buffer behind it; or the error, and the bit at which the failing code began.
-#[derive(Drop)]
+#[derive(Clone, Copy)]
 pub enum Run {
     Length(u32, Buffer),
     Bad(DecodeError, usize),
@@ -70,7 +70,7 @@ pub fn read_run(colour: usize, src: &[u8], start: Buffer) -> Run
 
 // One code of a run, with the sum so far: the last code, or a make-up code, each with the bit after it; or the error, and the
 // code's first bit.
-#[derive(Drop)]
+#[derive(Clone, Copy)]
 pub enum RunCode {
     Last(u32, usize),
     More(u32, usize),

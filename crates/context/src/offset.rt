@@ -6,7 +6,7 @@ ghost use Rattle.codes.specs.Modes.{offset_mode};
 const MOST_PLACE: i64 = answer::MOST_PIXELS as i64;
 
 // By so many pixels to a1; or a1 is no place to which the line can go.
-#[derive(Drop)]
+#[derive(Clone, Copy)]
 pub enum Move {
     By(u32),
     Over,

@@ -8,7 +8,7 @@ ghost use Rattle.context.specs.Places.{B1At};
 ghost use Rattle.context.specs.Coding.{is_kept};
 
 // Where the next search goes on, and the two changes, each the width where it is absent.
-#[derive(Drop)]
+#[derive(Clone, Copy)]
 pub struct FoundChanges {
     pub seen: usize,
     pub b1: u32,
@@ -16,7 +16,7 @@ pub struct FoundChanges {
 }
 
 // Where the reference lies: in a slice of its own, or in the row's array, from a place to the row's first.
-#[derive(Drop)]
+#[derive(Clone, Copy)]
 pub enum Reference {
     Lent,
     Kept(usize),

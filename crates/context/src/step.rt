@@ -5,7 +5,7 @@ ghost use Rattle.context.specs.Outcome.{place_for};
 use crate::line::Line;
 
 // `exact` comes with `strict` alone (A12). `plain` says which engine reads the runs (A14).
-#[derive(Drop)]
+#[derive(Clone, Copy)]
 pub struct Rules {
     pub strict: bool,
     pub exact: bool,
@@ -14,7 +14,7 @@ pub struct Rules {
 
 // The line and the bit after; or the number of the fault, the line so far, whose `changes` says how many it has recorded, and the fault's
 // bit. The line stands at one place in both, which the line loops feel.
-#[derive(Drop)]
+#[derive(Clone, Copy)]
 pub enum Step {
     On(Line, usize),
     Stop(u32, Line, usize),

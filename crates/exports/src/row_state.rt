@@ -6,21 +6,21 @@ ghost use Rattle.exports.specs.RowState.{end_from, numbers_of, Same, EndTold, St
 use by_row::{End, RowState, Side};
 
 // The end that numbers are, or that no end has them.
-#[derive(Drop)]
+#[derive(Clone, Copy)]
 enum EndIn {
     End(End),
     NoEnd,
 }
 
 // The state that numbers are, or that no state has them.
-#[derive(Drop)]
+#[derive(Clone, Copy)]
 pub(crate) enum StateIn {
     State(RowState),
     NoState,
 }
 
 // An end's numbers: 0 while the page goes on, and else one more than the number it ended with; its place, bytes and loose entries.
-#[derive(Drop)]
+#[derive(Clone, Copy)]
 pub(crate) struct EndNumbers {
     pub number: u64,
     pub place: u64,

@@ -13,7 +13,7 @@ use by_unit::{EndCounts, PageEnd, Phase, Reading, Saved};
 const MOST_WORD: u64 = answer::MOST_PIXELS as u64;
 
 // The reading that numbers are, or that none has them.
-#[derive(Drop)]
+#[derive(Clone, Copy)]
 pub(crate) enum ReadingIn {
     Held(Reading),
     NoReading,
@@ -102,7 +102,7 @@ fn open_in(state: &[u64]) -> ReadingIn
 }
 
 // The end that numbers are, or that no end has them.
-#[derive(Drop)]
+#[derive(Clone, Copy)]
 enum PageEndIn {
     End(PageEnd),
     NoEnd,

@@ -10,7 +10,7 @@ use crate::said::Said;
 use heads::Box;
 
 // What a line leaves: the form with what it says, or the number of a fault and the box that it is about.
-#[derive(Drop)]
+#[derive(Clone, Copy)]
 pub(crate) enum Went {
     On(Form),
     Fault(u32, u32),

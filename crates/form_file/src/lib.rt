@@ -18,7 +18,7 @@ use whole::{faulty, whole};
 // doubt; how many places it has; whether it asks for proper pages alone. And how far it may lie from its place, to either side, and up or
 // down.
 #[repr(C)]
-#[derive(Drop)]
+#[derive(Clone, Copy)]
 pub struct Form {
     pub columns: u32,
     pub least: u32,
@@ -33,7 +33,7 @@ pub struct Form {
 
 // A form file that was read: 0 and the form; or what is wrong, with the box and the line that it is about.
 #[repr(C)]
-#[derive(Drop)]
+#[derive(Clone, Copy)]
 pub struct Formed {
     pub number: u32,
     pub which: u32,

@@ -14,7 +14,7 @@ const WHITE: u32 = 0;
 const BLACK: u32 = 1;
 
 // What a line says. A box has its number, 2 x digit, and 1 more for units; a place is black (1) or white (0).
-#[derive(Drop)]
+#[derive(Clone, Copy)]
 pub enum Said {
     Nothing,
     Square(u32, Box),
@@ -28,7 +28,7 @@ pub enum Said {
 }
 
 // The numbers behind a line's first word: how many words there are, whether each is a number, and the first five.
-#[derive(Drop)]
+#[derive(Clone, Copy)]
 struct Values {
     count: usize,
     held: bool,

@@ -13,7 +13,7 @@ use codes::eol::{Eols, Skip};
 use settings::{DecodeSettings, State};
 
 // A line at a bit, with EOLs expected or not; the page's end, at a bit; or an EOL that is missing, at a bit.
-#[derive(Drop)]
+#[derive(Clone, Copy)]
 pub enum Before {
     Line(usize, bool),
     End(usize),

@@ -12,7 +12,7 @@ use one_line::{line_1d, line_2d};
 use settings::{DecodeSettings, State};
 
 // Where the codes of a 1D or a 2D line begin; or no tag bit is left.
-#[derive(Drop)]
+#[derive(Clone, Copy)]
 enum LineKind {
     One(usize),
     Two(usize),

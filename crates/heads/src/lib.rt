@@ -12,7 +12,7 @@ mod reading;
 mod store;
 
 // The right and bottom edges are not included.
-#[derive(Drop)]
+#[derive(Clone, Copy)]
 pub struct Box {
     pub left: u32,
     pub right: u32,
@@ -22,7 +22,7 @@ pub struct Box {
 
 // The number of the list of answers; where it is 0, the heads, and the quota left, which may be below zero.
 #[repr(C)]
-#[derive(Drop)]
+#[derive(Clone, Copy)]
 pub struct HeadsAnswer {
     pub number: u32,
     pub heads: u32,

@@ -17,7 +17,7 @@ pub use said::{
 // and the line of the form; the rows, the bytes and the place of the reading; the row, from 1; the count that was found, and what it
 // should be.
 #[repr(C)]
-#[derive(Drop)]
+#[derive(Clone, Copy)]
 pub struct Verdict {
     pub number: u32,
     pub heads: u32,
@@ -34,7 +34,7 @@ pub struct Verdict {
 
 // The books: the quota at the start, the heads of the pages that were counted, all pages, and those that are to be looked at.
 #[repr(C)]
-#[derive(Drop)]
+#[derive(Clone, Copy)]
 pub struct Ledger {
     pub quota: i32,
     pub heads: u32,
@@ -44,7 +44,7 @@ pub struct Ledger {
 
 // A page that went into the books: the books behind it, and how many bytes its line has; 0 where it did not.
 #[repr(C)]
-#[derive(Drop)]
+#[derive(Clone, Copy)]
 pub struct Entered {
     pub ledger: Ledger,
     pub text: usize,

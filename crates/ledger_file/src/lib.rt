@@ -15,7 +15,7 @@ pub use sums::add_up;
 
 // The line of a page: whether it is one; how long its name is, the verdict's number, and the heads, 0 where it is not counted.
 #[repr(C)]
-#[derive(Drop)]
+#[derive(Clone, Copy)]
 pub struct PageLine {
     pub good: bool,
     pub name: usize,
@@ -25,7 +25,7 @@ pub struct PageLine {
 
 // A line that a run goes on behind: whether it does, and the books behind it; as they were where it does not.
 #[repr(C)]
-#[derive(Drop)]
+#[derive(Clone, Copy)]
 pub struct Resumed {
     pub good: bool,
     pub ledger: Ledger,
@@ -34,7 +34,7 @@ pub struct Resumed {
 // Ledgers that were added up: 0 and the books of all their pages; or what is wrong, the books before that line, where the line begins,
 // and where another begins that it is about.
 #[repr(C)]
-#[derive(Drop)]
+#[derive(Clone, Copy)]
 pub struct AddedUp {
     pub number: u32,
     pub ledger: Ledger,

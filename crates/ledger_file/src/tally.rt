@@ -12,14 +12,14 @@ use crate::total::{is_total, total_pages};
 use ledger::{Ledger, Verdict};
 
 // The books of all pages so far, and those behind the last total.
-#[derive(Drop)]
+#[derive(Clone, Copy)]
 pub(crate) struct Tally {
     pub books: Ledger,
     pub closed: Ledger,
 }
 
 // What a line leaves: the books, or the number of what is wrong and another line that it is about.
-#[derive(Drop)]
+#[derive(Clone, Copy)]
 pub(crate) enum Step {
     On(Tally),
     Wrong(u32, usize),

@@ -7,7 +7,7 @@ use context::line;
 use context::line::{Line, Push};
 
 // What a push answers: 0, or the number of the fault or refusal; and the line after it.
-#[derive(Drop)]
+#[derive(Clone, Copy)]
 pub struct Pushed {
     pub number: u32,
     pub line: Line,

@@ -10,7 +10,7 @@ use settings::{DecodeSettings, EncodingMode};
 const MOST_NUMBER: u64 = answer::MOST_PIXELS as u64;
 
 // The settings, and where the data begins.
-#[derive(Drop)]
+#[derive(Clone, Copy)]
 pub enum Parsed {
     Settings(DecodeSettings, usize),
     Bad,
@@ -38,7 +38,7 @@ fn digit(bytes: &[u8], at: usize) -> u64
 }
 
 // A number, and the place behind its digits.
-#[derive(Drop)]
+#[derive(Clone, Copy)]
 enum Number {
     Is(u32, usize),
     Missing,

@@ -1,5 +1,6 @@
 // The two lookup tables made of the code tables (tables.rs): an entry for each 13 bits.
 #![tactic(auto)]
+
 ghost use Rattle.std.specs.Prelude.{◌≡◌};
 ghost use Rattle.rules.specs.Codes.{white, black};
 ghost use Rattle.rules.specs.Lookup.{lookup_table};

@@ -20,7 +20,7 @@ use context::step::{Rules, Step};
 use context::{line, offset};
 
 // What a mode code does by itself: horizontal mode has its two runs to come, from a bit on; any other does its work.
-#[derive(Drop)]
+#[derive(Clone, Copy)]
 pub enum OneCode {
     Runs(usize),
     Did(Step),

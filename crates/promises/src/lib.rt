@@ -62,7 +62,7 @@ use settings::DecodeSettings;
 
 // ---- A page that is decoded, and then its heads
 
-#[derive(Drop)]
+#[derive(Clone, Copy)]
 pub struct Told {
     pub page: Answer,
     pub heads: HeadsAnswer,

@@ -13,7 +13,7 @@ use writer::Parting;
 // A page that was read: the page form's answer, whether EOLs were given up in it, whether it is proper, and the first bit at which its
 // bytes part from what would be written; of a proper page the bit behind its bytes.
 #[repr(C)]
-#[derive(Drop)]
+#[derive(Clone, Copy)]
 pub struct Checked {
     pub answer: Answer,
     pub parts: u64,

@@ -56,7 +56,7 @@ impl<'a> BitReader<'a> {
 }
 
 // The 32 bits from a byte on, and whether the bits before it were there.
-#[derive(Drop)]
+#[derive(Clone, Copy)]
 pub struct Word {
     pub bits: u32,
     pub answer: TakenBits,

@@ -10,14 +10,14 @@ ghost use Rattle.settings.specs.Between.{row_for};
 
 use context::reference::Reference;
 
-#[derive(Drop)]
+#[derive(Clone, Copy)]
 pub enum EncodingMode {
     Group4,
     Group3_1D,
     Group3_2D,
 }
 
-#[derive(Drop)]
+#[derive(Clone, Copy)]
 pub struct DecodeSettings {
     pub columns: u32,
     // 0 stands for any number of rows.
@@ -35,7 +35,7 @@ pub struct DecodeSettings {
 
 // The next bit, the rows kept, and where the reference lies: it is lent, or it lies in the store right before `base`. The next row
 // is written from `base` on. `eols` says whether EOLs are expected, in Group 3 alone.
-#[derive(Drop)]
+#[derive(Clone, Copy)]
 pub struct State {
     pub at: usize,
     pub rows: usize,
@@ -46,7 +46,7 @@ pub struct State {
 
 // A row that is kept: its changes, its mark, the bit after it, and whether EOLs are expected. Or the page's end: its number, the bit at
 // fault, the bytes, and the loose changes.
-#[derive(Drop)]
+#[derive(Clone, Copy)]
 pub enum Row {
     Kept(usize, u32, usize, bool),
     Stop(u32, usize, usize, usize),

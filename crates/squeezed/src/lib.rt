@@ -2,6 +2,7 @@
 // the stack at each of them, and takes longer than the row. Each table is a `match` of words with four entries each, which the compiler
 // lays into read-only data.
 #![tactic(auto)]
+
 ghost use Rattle.std.specs.Prelude.{◌≡◌, ◌*◌, ◌/◌, ◌%◌, ◌^◌, ◌<◌, get_or};
 ghost use Rattle.rules.specs.Lookup.{lookup_table};
 ghost use Rattle.tables.specs.Tables.{colour_of};

@@ -24,7 +24,7 @@ pub(crate) const BLACK: usize = 1;
 
 // Where a line stands before a black run, which begins with a change: the next bit, the position, the changes it has, an even
 // count, and the next bits, 13 of them at least.
-#[derive(Drop)]
+#[derive(Clone, Copy)]
 pub struct BeforePair {
     pub at: usize,
     pub position: u32,
@@ -33,14 +33,14 @@ pub struct BeforePair {
 }
 
 // Where it stands behind a pair; or the next runs are no such pair.
-#[derive(Drop)]
+#[derive(Clone, Copy)]
 pub enum AfterPair {
     On(BeforePair),
     Other,
 }
 
 // Where a line stands between two runs.
-#[derive(Drop)]
+#[derive(Clone, Copy)]
 pub struct BetweenRuns {
     pub at: usize,
     pub position: u32,
@@ -49,7 +49,7 @@ pub struct BetweenRuns {
 }
 
 // A black run, a white run, and the bits of both; no white pixels where they are no such pair.
-#[derive(Drop)]
+#[derive(Clone, Copy)]
 pub struct Pair {
     pub black: u32,
     pub white: u32,

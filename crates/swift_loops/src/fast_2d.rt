@@ -15,7 +15,7 @@ use context::{line, reference};
 
 // Where a line stands between two codes: the next bit, the position, the changes it has, and b1's place on the reference. Its colour is the
 // place's parity.
-#[derive(Drop)]
+#[derive(Clone, Copy)]
 pub struct BetweenCodes {
     pub at: usize,
     pub position: u32,
@@ -24,7 +24,7 @@ pub struct BetweenCodes {
 }
 
 // Where the line stands behind a code; or the code is another.
-#[derive(Drop)]
+#[derive(Clone, Copy)]
 pub enum TakenCode {
     On(BetweenCodes),
     Other,

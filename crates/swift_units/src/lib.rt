@@ -14,14 +14,14 @@ use swift_loops::fast_2d;
 use swift_loops::fast_2d::BetweenCodes;
 
 // Where the line stands, and how many units are left.
-#[derive(Drop)]
+#[derive(Clone, Copy)]
 pub struct UnitsLeft {
     pub stand: BetweenCodes,
     pub left: usize,
 }
 
 // The same behind a code; or the code is another.
-#[derive(Drop)]
+#[derive(Clone, Copy)]
 pub enum CodeUnits {
     On(UnitsLeft),
     Other,

@@ -2,6 +2,7 @@
 // have a crate of their own, `lookups`. A constant is built anew on the stack wherever it is used, so a decoder or a writer makes
 // each table once, and lends it.
 #![tactic(auto)]
+
 ghost use Rattle.std.specs.Prelude.{◌≡◌, ◌-◌, ◌≤◌, ◌<◌};
 ghost use Rattle.rules.specs.Bits.{bits_for};
 ghost use Rattle.rules.specs.Codes.{white, black, white_terminating, white_makeup, black_terminating};
@@ -14,7 +15,7 @@ mod code_tables;
 mod lookup_pairs;
 
 // The bits of a code: the lowest `size` bits of `word`, the highest of them first.
-#[derive(Drop)]
+#[derive(Clone, Copy)]
 pub struct Code {
     pub size: u32,
     pub word: u32,

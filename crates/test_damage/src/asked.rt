@@ -10,7 +10,7 @@ const LEAST: u64 = 20;
 const QUOTA: i32 = 100;
 
 // A number and, where it is 0, the heads.
-#[derive(Drop)]
+#[derive(Clone, Copy)]
 pub(crate) struct Told {
     pub(crate) number: u32,
     pub(crate) heads: u32,

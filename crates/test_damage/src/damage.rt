@@ -2,7 +2,7 @@
 use libc::STDOUT_FILENO;
 
 // The picture's come first. Rows that have slid lie one box lower, as many as before: what lies in a box lies in the next one.
-#[derive(Drop)]
+#[derive(Clone, Copy)]
 pub(crate) enum Damage {
     Nothing,
     RowLost,

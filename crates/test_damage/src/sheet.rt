@@ -50,7 +50,7 @@ const DOWN: u32 = 6;
 // A form: the digits that are ticked, and those that are ticked beside them; where the ticks stand, and whether they lean to the left;
 // how many rows it has, and the first of them that is another than it was, where a row was lost or doubled; how many rows it lies lower
 // or higher than its place, how many columns right of the leftmost that it may have, and how many white rows its page has below.
-#[derive(Drop)]
+#[derive(Clone, Copy)]
 pub(crate) struct Filled {
     pub(crate) tens: u32,
     pub(crate) units: u32,

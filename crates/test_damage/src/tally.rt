@@ -4,7 +4,7 @@ use crate::asked::Told;
 // The heads of a form that none may be counted with.
 pub(crate) const NO_HEADS: u32 = 100;
 
-#[derive(Drop)]
+#[derive(Clone, Copy)]
 pub(crate) enum Outcome {
     Right,
     ByReading,
@@ -45,7 +45,7 @@ pub(crate) fn came(told: Told, may: u32) -> Outcome {
 }
 
 // How many copies came to what by the desk, and how many had other heads by the old tests.
-#[derive(Drop)]
+#[derive(Clone, Copy)]
 pub(crate) struct Tally {
     pub(crate) right: u64,
     pub(crate) reading: u64,

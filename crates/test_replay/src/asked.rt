@@ -19,7 +19,7 @@ fn skip_to_digit(input: &[u8], from: usize) -> usize {
     at
 }
 
-#[derive(Drop)]
+#[derive(Clone, Copy)]
 struct ReadNumber {
     value: u32,
     next: usize,

@@ -13,7 +13,7 @@ const EOL_BITS: usize = 12;
 
 // Whether a line is 1D, and what holds behind it: K, or 0 while it is not known; and how many 2D lines may come before the next 1D line,
 // or how many lines came while K is not known.
-#[derive(Drop)]
+#[derive(Clone, Copy)]
 pub(crate) struct Turned {
     pub(crate) single: bool,
     pub(crate) every: u32,

@@ -8,7 +8,7 @@ ghost use Rattle.writer.specs.Meeting.{Meets};
 use tables::Code;
 
 // The bit after the bits that were met, or the first that was not.
-#[derive(Drop)]
+#[derive(Clone, Copy)]
 pub(crate) struct Met {
     pub(crate) at: usize,
     pub(crate) same: bool,

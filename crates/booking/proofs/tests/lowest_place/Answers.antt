@@ -1,0 +1,38 @@
+-- The invariant: the lowest of those that are left, and of those before, is that of all. Assumes nothing.
+use mathlib.Core.Path.{◌≡◌, ◌∙◌}
+use mathlib.Core.Logic.{⊎_elim}
+use Prim.Native.Nat.{◌-◌}
+use native.Mathlib.Omega.{arith}
+use Rattle.form_file.specs.FormFile.{place_at}
+use Rattle.booking.proofs.Lowest.{lowest_start, lowest-past, lowest-lower, lowest-stays}
+use Rattle.booking.proofs.tests.lowest_place.Goals as goal
+
+pub loop-k-init : goal.loop-k-init
+loop-k-init c = lowest_start _ _ _
+
+pub overflow_mul-k : goal.overflow_mul-k
+overflow_mul-k c = omega arith
+
+pub overflow_add-k : goal.overflow_add-k
+overflow_add-k c = omega arith
+
+pub box_at-b-requires : goal.box_at-b-requires
+box_at-b-requires c = omega arith
+
+pub loop-k-smaller : goal.loop-k-smaller
+loop-k-smaller c = omega arith
+
+pub loop-k-preserved : goal.loop-k-preserved
+loop-k-preserved c =
+    let a = c.args in
+    let k = c.loop-k.k in
+    let more = c.loop-k-test.true in
+    let is = c.box_at-b.ensures in
+    ⊎_elim (λ w. lowest-lower (place_at a.places.now) k a.count c.loop-k.low more (rw is at w.0.taken) (rw is at w.1))
+    (λ w. lowest-stays (place_at a.places.now) k a.count c.loop-k.low more (rw is at w.0.left) w.1)
+    c.if-low-b.branch ∙ c.loop-k.invariant
+
+pub returns : goal.returns
+returns c =
+    let a = c.args in
+    lowest-past (place_at a.places.now) c.loop-k.k a.count c.loop-k.low c.loop-k-test.false ∙ c.loop-k.invariant

@@ -1,0 +1,27 @@
+use mathlib.Core.Path.{◌≡◌, ap}
+use Prim.Native.Nat.{ℕ}
+use native.Mathlib.Omega.{arith}
+use Rattle.by_unit.specs.Reading.{end_from}
+use Rattle.by_unit.proofs.States.{end-other}
+use Rattle.by_unit.proofs.end_of.Goals as goal
+
+pub returns-in-0 : goal.returns-in-0
+returns-in-0 c = let a = c.args in ap (λ (n : ℕ). end_from n a.place a.bytes a.loose) (let q : 0 ≡ a.number = omega arith in q)
+
+pub returns-in-1 : goal.returns-in-1
+returns-in-1 c = let a = c.args in ap (λ (n : ℕ). end_from n a.place a.bytes a.loose) (let q : 1 ≡ a.number = omega arith in q)
+
+pub returns-in-2 : goal.returns-in-2
+returns-in-2 c = let a = c.args in ap (λ (n : ℕ). end_from n a.place a.bytes a.loose) (let q : 2 ≡ a.number = omega arith in q)
+
+pub returns-in-3 : goal.returns-in-3
+returns-in-3 c = let a = c.args in ap (λ (n : ℕ). end_from n a.place a.bytes a.loose) (let q : 3 ≡ a.number = omega arith in q)
+
+pub returns-in-4 : goal.returns-in-4
+returns-in-4 c = let a = c.args in ap (λ (n : ℕ). end_from n a.place a.bytes a.loose) (let q : 4 ≡ a.number = omega arith in q)
+
+pub returns-in-5 : goal.returns-in-5
+returns-in-5 c = let a = c.args in ap (λ (n : ℕ). end_from n a.place a.bytes a.loose) (let q : 5 ≡ a.number = omega arith in q)
+
+pub returns-in_default : goal.returns-in_default
+returns-in_default c = let a = c.args in end-other a.number a.place a.bytes a.loose (omega arith)

@@ -1,0 +1,20 @@
+-- The invariant: the counter stays within its end; the array keeps its length. Assumes nothing.
+use mathlib.Core.Path.{◌≡◌}
+use Prim.Native.Nat.{◌-◌, ◌≤◌}
+use native.Mathlib.Omega.{arith}
+use Rattle.clerk.proofs.drawing.all_boxes.Goals as goal
+
+pub loop-k-init : goal.loop-k-init
+loop-k-init c = omega arith
+
+pub shape_of-piece-then-not-one_box : goal.shape_of-piece-then-not-one_box
+shape_of-piece-then-not-one_box c = omega arith
+
+pub overflow_add-k : goal.overflow_add-k
+overflow_add-k c = omega arith
+
+pub loop-k-smaller : goal.loop-k-smaller
+loop-k-smaller c = omega arith
+
+pub shape_of-piece : goal.shape_of-piece
+shape_of-piece c = omega arith

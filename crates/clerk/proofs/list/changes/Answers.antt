@@ -1,0 +1,16 @@
+-- The invariant: the place only rises. Assumes nothing.
+use Prim.Native.Nat.{◌-◌, ◌≤◌}
+use native.Mathlib.Omega.{arith}
+use Rattle.clerk.proofs.list.changes.Goals as goal
+
+pub loop-k-init : goal.loop-k-init
+loop-k-init c = omega arith
+
+pub overflow_add-k : goal.overflow_add-k
+overflow_add-k c = omega arith
+
+pub loop-k-smaller : goal.loop-k-smaller
+loop-k-smaller c = omega arith
+
+pub loop-k-preserved : goal.loop-k-preserved
+loop-k-preserved c = omega arith

@@ -1,0 +1,23 @@
+-- The invariant: the calls left only fall; the arrays keep their lengths. Assumes nothing.
+use mathlib.Core.Path.{◌≡◌}
+use Prim.Native.Nat.{◌≤◌}
+use native.Mathlib.Omega.{arith}
+use Rattle.clerk.proofs.walk.page.Goals as goal
+
+pub loop-left-init : goal.loop-left-init
+loop-left-init c = omega arith
+
+pub overflow_sub-left : goal.overflow_sub-left
+overflow_sub-left c = omega arith
+
+pub loop-left-smaller : goal.loop-left-smaller
+loop-left-smaller c = omega arith
+
+pub shape_of-first : goal.shape_of-first
+shape_of-first c = omega arith
+
+pub shape_of-second : goal.shape_of-second
+shape_of-second c = omega arith
+
+pub shape_of-out : goal.shape_of-out
+shape_of-out c = omega arith

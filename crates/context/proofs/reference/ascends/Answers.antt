@@ -1,0 +1,72 @@
+-- The invariant: what was noted, and the test of what is left, are the test of the whole row, below the width that every change of 32 bits
+-- is below. The measure is what is left.
+use mathlib.Core.Path.{◌≡◌, sym, ap, ◌∙◌}
+use mathlib.Core.Logic.{⊎_elim}
+use Prim.Native.Nat.{ℕ, ◌+◌, ◌-◌, ◌≤◌}
+use native.Mathlib.Omega.{arith}
+use Rattle.context.proofs.RowTest.{left_test, first-left, past-left, noted-left, next-left}
+use Rattle.context.proofs.RowTest.{ascends_none, ascends-out, ascends-narrow}
+use Rattle.context.proofs.reference.ascends.Goals as goal
+
+abbrev wide : ℕ
+wide = 4294967296
+
+pub returns-then-count-eq0 : goal.returns-then-count-eq0
+returns-then-count-eq0 c = ascends_none _ _ c.if-count-eq0.true
+
+pub overflow_sub-count : goal.overflow_sub-count
+overflow_sub-count c = omega arith
+
+pub offset_bounds-row-count : goal.offset_bounds-row-count
+offset_bounds-row-count c = omega arith
+
+pub bounds-row-count : goal.bounds-row-count
+bounds-row-count c = omega arith
+
+pub returns-then-width-row : goal.returns-then-width-row
+returns-then-width-row c = ascends-out _ _ (omega arith) c.if-width-row.true
+
+pub loop-place-init : goal.loop-place-init
+loop-place-init c =
+    (omega arith, first-left wide c.args.row.now (omega arith) (omega (arith, c.type_inv.row 0)))
+
+pub offset_bounds-row-place : goal.offset_bounds-row-place
+offset_bounds-row-place c = omega arith
+
+pub bounds-row-place : goal.bounds-row-place
+bounds-row-place c = omega arith
+
+pub overflow_sub-place : goal.overflow_sub-place
+overflow_sub-place c = omega arith
+
+pub offset_bounds-row-place-in-loop-place : goal.offset_bounds-row-place-in-loop-place
+offset_bounds-row-place-in-loop-place c = omega arith
+
+pub bounds-row-place-in-loop-place : goal.bounds-row-place-in-loop-place
+bounds-row-place-in-loop-place c = omega arith
+
+pub overflow_add-place : goal.overflow_add-place
+overflow_add-place c = omega arith
+
+pub loop-place-smaller : goal.loop-place-smaller
+loop-place-smaller c = omega arith
+
+pub loop-place-preserved : goal.loop-place-preserved
+loop-place-preserved c =
+    let row = c.args.row.now in
+    let i = c.loop-place.place in
+    let inside = c.loop-place-test.true in (
+      omega arith,
+      ⊎_elim
+          (λ w. ap (λ b. left_test wide row b (i + 1)) w.1 ∙ noted-left wide row c.loop-place.rising i inside w.0.taken)
+          (λ w. ap (λ b. left_test wide row b (i + 1)) w.1
+          ∙ next-left wide row c.loop-place.rising i inside w.0.left (omega (arith, c.type_inv.row i)))
+          c.if-row-place.branch ∙ c.loop-place.invariant.1,
+    )
+
+pub returns : goal.returns
+returns c =
+    let row = c.args.row.now in
+    sym (past-left wide row c.loop-place.rising c.loop-place.place c.loop-place-test.false)
+    ∙ c.loop-place.invariant.1
+    ∙ ascends-narrow c.args.width row (omega arith) wide (omega (arith, c.ranges.width)) c.if-width-row.false

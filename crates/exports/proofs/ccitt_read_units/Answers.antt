@@ -1,0 +1,28 @@
+-- `exports::ccitt_read_units` meets its contract: the numbers are a reading's or none's. Assumes nothing.
+use mathlib.Core.Path.{sym, ap, ◌∙◌, subst}
+use mathlib.Core.Bool.{false}
+use lib.ListN.{length}
+use Rattle.settings.specs.declared.EncodingMode.TheVariants.{Group4}
+use Rattle.exports.specs.Exports.{settings_for}
+use Rattle.exports.specs.UnitState.{ReadingTold}
+use Rattle.exports.proofs.UnitState.{sixteen, no-reading, called}
+use Rattle.exports.proofs.ccitt_read_units.Goals as goal
+
+pub put-requires : goal.put-requires
+put-requires c =
+    let r = c.reading-1.given in
+    sym (ap length (subst (ReadingTold c.args.state.now) r.1 c.reading_in.ensures).1) ∙ sixteen r.0.0
+
+pub returns-in-NoReading : goal.returns-in-NoReading
+returns-in-NoReading c =
+    let a = c.args in
+    no-reading a.src.now (settings_for a.columns a.rows a.end_of_block false a.rows-are-byte-aligned Group4 a.strict a.exact a.plain) a.changes.now a.ends.now a.marks.now a.state.now a.n
+    (subst (ReadingTold a.state.now) c.in-NoReading.is c.reading_in.ensures) _ c.no_reading.ensures.0 c.no_reading.ensures.1
+
+pub returns-in-Held : goal.returns-in-Held
+returns-in-Held c =
+    let a = c.args in
+    let r = c.reading-1.given in
+    let told = subst (ReadingTold a.state.now) r.1 c.reading_in.ensures in
+    called a.src.now (settings_for a.columns a.rows a.end_of_block false a.rows-are-byte-aligned Group4 a.strict a.exact a.plain) a.changes.now a.ends.now a.marks.now a.state.now a.n
+    r.0.0 told.0 told.1 c.read_units-turn.result _ _ _ c.read_units-turn.ensures _ c.put.ensures

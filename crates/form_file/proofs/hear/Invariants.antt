@@ -1,0 +1,13 @@
+-- `form_file::hear` meets its contract. The invariant is `Going`: the reading of the lines that are left is that of all. Assumes nothing.
+use mathlib.Core.Path.{◌≡◌}
+use Prim.Native.Nat.{◌+◌, ◌-◌, ◌≤◌, ◌<◌}
+use lib.ListN.{length}
+use Rattle.form_file.specs.Going.{heard_from}
+use Rattle.form_file.proofs.Hearing.{Going}
+use Rattle.form_file.proofs.hear.Given as goal
+
+abbrev pub invariant-loop-number : goal.invariant-loop-number
+invariant-loop-number l = Going l.text (heard_from l.text l.from l.initial.boxes l.initial.lines l.initial.places) l.initial.places l.room l.line l.form l.boxes l.lines l.places l.at
+
+abbrev pub decreases-loop-number : goal.decreases-loop-number
+decreases-loop-number l = length l.text - l.at

@@ -1,0 +1,48 @@
+-- The invariant: the ticks so far, and then those that are left, are all of them. Assumes nothing.
+use mathlib.Core.List.{[]}
+use mathlib.Core.Logic.{⊎_elim}
+use mathlib.Core.Path.{◌≡◌, ◌∙◌}
+use Prim.Native.Nat.{◌<◌, ◌-◌, ◌≤◌}
+use native.Mathlib.Omega.{arith}
+use lib.ListN.{length}
+use Rattle.heads.specs.Form.{ticks}
+use Rattle.heads.proofs.Ticks.{after-only, ticks-past, ticks-tick, ticks-blank, seen-small}
+use Rattle.heads.proofs.reading.digit_in.Goals as goal
+
+pub loop-d-init : goal.loop-d-init
+loop-d-init c = (omega arith, tt, after-only (ticks c.args.least c.args.column 0 c.args.t1))
+
+pub overflow_cast-i : goal.overflow_cast-i
+overflow_cast-i c = omega arith
+
+pub offset_bounds-table-i : goal.offset_bounds-table-i
+offset_bounds-table-i c = omega arith
+
+pub overflow_add-d : goal.overflow_add-d
+overflow_add-d c = omega arith
+
+pub loop-d-smaller : goal.loop-d-smaller
+loop-d-smaller c = omega arith
+
+pub loop-d-preserved : goal.loop-d-preserved
+loop-d-preserved c =
+    let h : c.loop-d.d < length c.args.t1 = omega (arith, c.loop-d-test.true) in
+    ⊎_elim
+    (λ w. let e = w.2 ∙ w.1.ensures in (
+      omega arith,
+      rw e (seen-small c.loop-d.digit c.loop-d.d (omega arith)),
+      rw e (ticks-tick c.args.least c.args.column c.args.t1 c.loop-d.digit c.loop-d.d [] h w.0.taken ∙ c.loop-d.invariant.2),
+    ))
+    (λ w. (
+      omega arith,
+      rw w.1 c.loop-d.invariant.1,
+      rw w.1 (ticks-blank c.args.least c.args.column c.args.t1 c.loop-d.digit c.loop-d.d [] h w.0.left ∙ c.loop-d.invariant.2),
+    ))
+    c.if-least-table.branch
+
+pub returns : goal.returns
+returns c =
+    record {
+      is = ticks-past _ _ _ _ _ (omega arith) ∙ c.loop-d.invariant.2;
+      small = c.loop-d.invariant.1;
+    }

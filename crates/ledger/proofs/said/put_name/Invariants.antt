@@ -1,0 +1,14 @@
+-- `ledger::said::put_name` meets its contract. The invariant: the bytes of the name from `i` on are left. Assumes nothing.
+use mathlib.Core.Path.{◌≡◌, ◌∙◌}
+use mathlib.Core.List.{◌∷◌}
+use Prim.Native.Nat.{◌-◌, ◌+◌, ◌≤◌, ◌<◌}
+use lib.ListN.{length, drop}
+use Rattle.listing_text.proofs.Written.{Owes}
+use Rattle.ledger.specs.Said.{shown}
+use Rattle.ledger.proofs.said.put_name.Given as goal
+
+abbrev pub invariant-loop-i : goal.invariant-loop-i
+invariant-loop-i l = Owes l.at (shown l.name) l.initial.out l.p (shown (drop l.i l.name)) l.out × (l.i ≤ length l.name)
+
+abbrev pub decreases-loop-i : goal.decreases-loop-i
+decreases-loop-i l = length l.name - l.i

@@ -1,0 +1,11 @@
+-- `listing_text::settings_line::read_number` meets its contract. The invariant: the digits up to `next` spell `n`. Assumes nothing.
+use Prim.Native.Nat.{◌-◌}
+use lib.ListN.{length}
+use Rattle.listing_text.specs.Reading.{Spelt}
+use Rattle.listing_text.proofs.settings_line.read_number.Given as goal
+
+abbrev pub invariant-loop-at : goal.invariant-loop-at
+invariant-loop-at l = Spelt l.bytes l.at l.n l.next
+
+abbrev pub decreases-loop-at : goal.decreases-loop-at
+decreases-loop-at l = length l.bytes - l.next

@@ -1,0 +1,7 @@
+-- `look::boxes::number_at` meets its contract. Assumes nothing.
+use lib.ListN.{get_or-eq_default}
+use mathlib.Core.Path.{sym}
+use Rattle.look.proofs.boxes.number_at.Goals as goal
+
+pub returns-else-k-numbers : goal.returns-else-k-numbers
+returns-else-k-numbers c = sym (get_or-eq_default c.args.numbers.now 0 c.if-k-numbers.false)

@@ -1,0 +1,14 @@
+-- `look::boxes::place_state` meets its contract. Assumes nothing.
+use Rattle.look.proofs.Stating.{place-unread, place-held, place-failed}
+use mathlib.Core.Path.{sym, ◌∙◌}
+use native.Mathlib.Omega.{arith}
+use Rattle.look.proofs.boxes.place_state.Goals as goal
+
+pub returns-then-rows-b : goal.returns-then-rows-b
+returns-then-rows-b c = (place-unread c.args.rows c.args.b c.args.kind c.args.black c.args.asked (omega arith), omega arith)
+
+pub returns-then-holds : goal.returns-then-holds
+returns-then-holds c = (place-held c.args.rows c.args.b c.args.kind c.args.black c.args.asked (omega arith) (sym c.holds.ensures ∙ c.if-holds.true), omega arith)
+
+pub returns : goal.returns
+returns c = (place-failed c.args.rows c.args.b c.args.kind c.args.black c.args.asked (omega arith) (sym c.holds.ensures ∙ c.if-holds.false) c.one.ensures.0, omega arith)

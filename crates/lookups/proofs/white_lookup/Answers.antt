@@ -1,0 +1,8 @@
+-- The white lookup table is the rule's, by computation.
+use mathlib.Core.Path.{refl}
+use Rattle.lookups.proofs.Computed.{computed}
+use Rattle.lookups.proofs.white_lookup.Goals as goal
+
+pub returns : goal.returns
+unfolding computed
+returns c = refl

@@ -1,0 +1,20 @@
+-- The run that fills a line, by what is known of a line that begins.
+use native.Mathlib.Omega.{arith}
+use borrow.Author.Tests.{not-false}
+use Rattle.swift_loops.proofs.Running.{begun-fills}
+use Rattle.swift_loops.proofs.fast_1d.whole_run.Goals as goal
+
+pub ahead-requires : goal.ahead-requires
+ahead-requires c = let f = c.fit.ensures (not-false _ c.if-not-fit.false-raw) in omega (arith, f.2)
+
+pub begun-requires : goal.begun-requires
+begun-requires c =
+    let f = c.fit.ensures (not-false _ c.if-not-fit.false-raw) in
+    let pre = c.requires in
+    (record { some_pixels = f.0; low = omega (arith, pre.0.inside, pre.0.size) }, pre.1)
+
+pub returns-else-t-width : goal.returns-else-t-width
+returns-else-t-width c =
+    let f = c.fit.ensures (not-false _ c.if-not-fit.false-raw) in
+    begun-fills c.begun.ensures c.ahead.ensures (omega arith) f.1 _
+    c.in-On.is (omega (arith, c.if-t-width.false))

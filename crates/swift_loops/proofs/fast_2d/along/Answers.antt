@@ -1,0 +1,66 @@
+-- The invariant is `Nearing`, which V0 codes and one beside b1 take further. The measure is what is left up to `stop`.
+use Prim.Native.Nat.{◌-◌}
+use native.Mathlib.Omega.{arith}
+use Rattle.swift_loops.proofs.Beside.{nearing-new, nearing-done, nearing-few, nearing-low, nearing-other, nearing-short}
+use Rattle.swift_loops.proofs.Beside.{nearing-on, nearing-less}
+use Rattle.swift_loops.proofs.fast_2d.along.Goals as goal
+
+pub loop-s-init : goal.loop-s-init
+loop-s-init c = nearing-new c.requires _
+
+pub to_each-t-requires : goal.to_each-t-requires
+to_each-t-requires c = (c.loop-s.invariant.turned, c.loop-s.invariant.low)
+
+pub shape_of-changes-then-stop-t : goal.shape_of-changes-then-stop-t
+shape_of-changes-then-stop-t c =
+    omega (arith, c.loop-s.invariant.size, c.to_each-t.auto.0)
+
+pub returns-then-stop-t : goal.returns-then-stop-t
+returns-then-stop-t c =
+    nearing-done c.requires c.loop-s.invariant c.to_each-t.ensures
+
+pub overflow_sub-left : goal.overflow_sub-left
+overflow_sub-left c = omega (arith, c.to_each-t.ensures.forth)
+
+pub overflow_shl-left : goal.overflow_shl-left
+overflow_shl-left c =
+    omega (arith, nearing-few c.requires c.loop-s.invariant c.to_each-t.ensures c.if-stop-t.false)
+
+pub beside-requires : goal.beside-requires
+beside-requires c =
+    (c.to_each-t.ensures.turned, nearing-low c.requires c.loop-s.invariant c.to_each-t.ensures c.if-stop-t.false)
+
+pub shape_of-changes-in-Other : goal.shape_of-changes-in-Other
+shape_of-changes-in-Other c =
+    omega (arith, c.loop-s.invariant.size, c.to_each-t.auto.0, c.beside.auto.0)
+
+pub returns-in-Other : goal.returns-in-Other
+returns-in-Other c =
+    nearing-other c.requires c.loop-s.invariant c.to_each-t.ensures c.if-stop-t.false c.beside.ensures
+    c.in-Other.is
+
+pub overflow_sub-rest : goal.overflow_sub-rest
+overflow_sub-rest c =
+    omega (
+      arith,
+      nearing-short c.requires c.loop-s.invariant c.to_each-t.ensures c.if-stop-t.false c.beside.ensures
+          c.in-On.is,
+    )
+
+pub overflow_shl-rest : goal.overflow_shl-rest
+overflow_shl-rest c =
+    omega (
+      arith,
+      nearing-short c.requires c.loop-s.invariant c.to_each-t.ensures c.if-stop-t.false c.beside.ensures
+          c.in-On.is,
+    )
+
+pub loop-s-smaller : goal.loop-s-smaller
+loop-s-smaller c =
+    nearing-less c.requires c.loop-s.invariant c.to_each-t.ensures c.if-stop-t.false c.beside.ensures
+    c.in-On.is
+
+pub loop-s-preserved : goal.loop-s-preserved
+loop-s-preserved c =
+    nearing-on c.requires c.loop-s.invariant c.to_each-t.ensures c.if-stop-t.false c.beside.ensures
+    c.in-On.is (omega (arith, c.to_each-t.auto.0)) (omega (arith, c.beside.auto.0))

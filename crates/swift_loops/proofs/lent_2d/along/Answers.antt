@@ -1,0 +1,73 @@
+-- The invariant is `Nearing`, which V0 codes and one beside b1 take further. The measure is what is left up to `stop`.
+use Prim.Native.Nat.{◌-◌}
+use native.Mathlib.Omega.{arith}
+use Rattle.swift_loops.proofs.Beside.{nearing-new, nearing-done, nearing-few, nearing-low, nearing-other, nearing-short}
+use Rattle.swift_loops.proofs.Beside.{nearing-on, nearing-less}
+use Rattle.swift_loops.proofs.lent_2d.along.Goals as goal
+
+pub loop-s-init : goal.loop-s-init
+loop-s-init c = nearing-new c.requires _
+
+pub to_each-t-requires : goal.to_each-t-requires
+to_each-t-requires c = (c.loop-s.invariant.turned, c.loop-s.invariant.low)
+
+pub shape_of-row-then-stop-t : goal.shape_of-row-then-stop-t
+shape_of-row-then-stop-t c =
+    omega (arith, c.loop-s.invariant.size, c.to_each-t.auto.1.0)
+
+pub returns-then-stop-t : goal.returns-then-stop-t
+returns-then-stop-t c =
+    nearing-done c.requires c.loop-s.invariant c.to_each-t.ensures
+
+pub overflow_sub-left : goal.overflow_sub-left
+overflow_sub-left c = omega (arith, c.to_each-t.ensures.forth)
+
+pub overflow_shl-left : goal.overflow_shl-left
+overflow_shl-left c =
+    omega (arith, nearing-few c.requires c.loop-s.invariant c.to_each-t.ensures c.if-stop-t.false)
+
+pub beside-requires : goal.beside-requires
+beside-requires c =
+    let straights = c.to_each-t in
+    (straights.ensures.turned, nearing-low c.requires c.loop-s.invariant straights.ensures c.if-stop-t.false)
+
+pub shape_of-row-in-Other : goal.shape_of-row-in-Other
+shape_of-row-in-Other c =
+    omega (arith, c.loop-s.invariant.size, c.to_each-t.auto.1.0, c.beside.auto.1.0)
+
+pub returns-in-Other : goal.returns-in-Other
+returns-in-Other c =
+    let straights = c.to_each-t in
+    nearing-other c.requires c.loop-s.invariant straights.ensures c.if-stop-t.false c.beside.ensures
+    c.in-Other.is
+
+pub overflow_sub-rest : goal.overflow_sub-rest
+overflow_sub-rest c =
+    let straights = c.to_each-t in
+    omega (
+      arith,
+      nearing-short c.requires c.loop-s.invariant straights.ensures c.if-stop-t.false c.beside.ensures
+          c.in-On.is,
+    )
+
+pub overflow_shl-rest : goal.overflow_shl-rest
+overflow_shl-rest c =
+    let straights = c.to_each-t in
+    omega (
+      arith,
+      nearing-short c.requires c.loop-s.invariant straights.ensures c.if-stop-t.false c.beside.ensures
+          c.in-On.is,
+    )
+
+pub loop-s-smaller : goal.loop-s-smaller
+loop-s-smaller c =
+    let straights = c.to_each-t in
+    nearing-less c.requires c.loop-s.invariant straights.ensures c.if-stop-t.false c.beside.ensures
+    c.in-On.is
+
+pub loop-s-preserved : goal.loop-s-preserved
+loop-s-preserved c =
+    let straights = c.to_each-t in
+    let side = c.beside in
+    nearing-on c.requires c.loop-s.invariant straights.ensures c.if-stop-t.false side.ensures c.in-On.is
+    (omega (arith, straights.auto.1.0)) (omega (arith, side.auto.1.0))

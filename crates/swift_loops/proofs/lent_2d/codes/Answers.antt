@@ -1,0 +1,52 @@
+-- The invariant: codes have walked here. The measure is what is left of the data.
+use Prim.Native.Nat.{◌-◌, ◌*◌}
+use native.Mathlib.Omega.{arith}
+use Rattle.swift_loops.proofs.Swiftly.{walks-none, walked_low, walked-asks, took-other, took-on, took-less}
+use Rattle.swift_loops.proofs.lent_2d.codes.Goals as goal
+
+pub returns-then-src-lt8 : goal.returns-then-src-lt8
+returns-then-src-lt8 c = walks-none c.requires.0
+
+pub loop-s-init : goal.loop-s-init
+loop-s-init c = walks-none c.requires.0
+
+pub shape_of-row-then-b1-s : goal.shape_of-row-then-b1-s
+shape_of-row-then-b1-s c = c.loop-s.invariant.size
+
+pub returns-then-b1-s : goal.returns-then-b1-s
+returns-then-b1-s c = c.loop-s.invariant
+
+pub ahead-bits-requires : goal.ahead-bits-requires
+ahead-bits-requires c = omega (arith, c.loop-s-test.true, c.if-src-lt8.false)
+
+pub code-requires : goal.code-requires
+code-requires c =
+    let asks = c.requires in
+    let inv = c.loop-s.invariant in
+    let long = c.before.well-formed.1.0.1 in
+    (walked-asks asks.0 inv asks.1 c.change_or-b1.ensures c.if-b1-s.false (omega (arith, long)), walked_low asks.0 inv)
+
+pub shape_of-row-in-Other : goal.shape_of-row-in-Other
+shape_of-row-in-Other c =
+    omega (arith, c.loop-s.invariant.size, c.code.auto.1.0)
+
+pub returns-in-Other : goal.returns-in-Other
+returns-in-Other c =
+    let took = c.code.ensures c.args.src.now _ c.ahead-bits.ensures (omega arith) in
+    took-other c.requires.0 c.loop-s.invariant _ _ took c.in-Other.is
+
+pub loop-s-smaller : goal.loop-s-smaller
+loop-s-smaller c =
+    let took = c.code.ensures c.args.src.now _ c.ahead-bits.ensures (omega arith) in
+    took-less c.requires.0 c.loop-s.invariant _ c.code.new.1.0 took c.in-On.is
+
+pub loop-s-preserved : goal.loop-s-preserved
+loop-s-preserved c =
+    let took = c.code.ensures c.args.src.now _ c.ahead-bits.ensures (omega arith) in
+    took-on c.requires.0 c.loop-s.invariant _ _ took c.in-On.is
+
+pub shape_of-row : goal.shape_of-row
+shape_of-row c = c.loop-s.invariant.size
+
+pub returns : goal.returns
+returns c = c.loop-s.invariant
