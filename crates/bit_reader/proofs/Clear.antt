@@ -39,7 +39,7 @@ digits (suc n) (false ∷ bs) = zero-before _ (omega arith) (digits n bs)
 digits (suc n) (true ∷ bs) = record { m = suc n; all = omega arith; below = omega (arith, peek-lt n bs, pow-two n); above = omega (arith, pow-two n) }
 
 -- counted in the bits, or in their number
-pub zeros-of-number : (n : ℕ) (bs : List Bool) → leading_zeros n bs ≡ Count.leading_zeros n (peek n bs)
+pub zeros-of-number : (n : ℕ) (bs : List Bool) → leading_zeros n bs ≡ Count.count_leading_zeros n (peek n bs)
 zeros-of-number n bs = let d = digits n bs in Count.leading_unique n (peek n bs) (leading_zeros n bs) d.m d.all d.below d.above
 
 -- of a number above 0 the bound is even
@@ -119,12 +119,12 @@ module _ (live : ℕ) (bs : List Bool) where
       cases (suc x) k = omega arith
 
   -- where one of them is set, the zeros before it are the word's
-  pub top-leading : live ≤ 64 → 0 < on_top live bs → leading_zeros live bs ≡ Count.leading_zeros 64 (on_top live bs)
+  pub top-leading : live ≤ 64 → 0 < on_top live bs → leading_zeros live bs ≡ Count.count_leading_zeros 64 (on_top live bs)
   top-leading most h =
       let d = zeros-below (64 - live) (set h) (digits live bs) in
       Count.leading_unique 64 (on_top live bs) (leading_zeros live bs) d.m (omega (arith, d.all)) d.below d.above
 
-  top_one : live ≤ 64 → 0 < on_top live bs → zero_run bs ≡ some (Count.leading_zeros 64 (on_top live bs))
+  top_one : live ≤ 64 → 0 < on_top live bs → zero_run bs ≡ some (Count.count_leading_zeros 64 (on_top live bs))
   top_one most h = some_one live bs (set h) ∙ ap some (top-leading most h)
 
 -- ---- Part by part
@@ -164,9 +164,9 @@ module _ (bytes : List ℕ) where
         }
 
     -- a part with one
-    part-one : live ≤ 64 → 0 < x → at + Count.leading_zeros 64 x ≡ one_or_end (8 * length bytes) from (zero_run (drop from bs))
+    part-one : live ≤ 64 → 0 < x → at + Count.count_leading_zeros 64 x ≡ one_or_end (8 * length bytes) from (zero_run (drop from bs))
     part-one most h =
-        let z = Count.leading_zeros 64 x in
+        let z = Count.count_leading_zeros 64 x in
         let here : zero_run (drop at bs) ≡ some z = rw part (top_one live (drop at bs) most (rw (← part) h)) in
         let run : zero_run (drop from bs) ≡ some ((at - from) + z) = c.found ∙ ap (behind (at - from)) here in
         rw run (omega (arith, c.forth))
@@ -181,7 +181,7 @@ module _ (bytes : List ℕ) where
         let n : from + (64 - from % 8) ≡ (from / 8 + 8) * 8 = omega arith in
         rw (← n) (part-clear (nothing_seen from) (64 - from % 8) top e)
 
-    pub first_part : 0 < w * 2 ^ (from % 8) % 2 ^ 64 → from + Count.leading_zeros 64 (w * 2 ^ (from % 8) % 2 ^ 64) ≡ one_or_end (8 * length bytes) from (zero_run (drop from bs))
+    pub first_part : 0 < w * 2 ^ (from % 8) % 2 ^ 64 → from + Count.count_leading_zeros 64 (w * 2 ^ (from % 8) % 2 ^ 64) ≡ one_or_end (8 * length bytes) from (zero_run (drop from bs))
     first_part = part-one (nothing_seen from) (64 - from % 8) top (omega arith)
 
   -- the words behind it
@@ -195,7 +195,7 @@ module _ (bytes : List ℕ) where
           let n : i * 8 + 64 ≡ (i + 8) * 8 = omega arith in
           rw (← n) (part-clear c 64 whole e)
 
-      pub word-one : 0 < w → 8 * i + Count.leading_zeros 64 w ≡ one_or_end (8 * length bytes) from (zero_run (drop from bs))
+      pub word-one : 0 < w → 8 * i + Count.count_leading_zeros 64 w ≡ one_or_end (8 * length bytes) from (zero_run (drop from bs))
       word-one h =
           let n : 8 * i ≡ i * 8 = omega arith in
           rw n (part-one c 64 whole (omega arith) h)

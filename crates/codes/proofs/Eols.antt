@@ -82,12 +82,12 @@ module _ (bytes : List ℕ) (at : ℕ) where
 
     -- the twelfth is the first one
     pub plain-eol : w / 2 ^ 20 ≡ 1 → Closed bytes at 11 (at + 12)
-    unfolding Count.leading_zeros
+    unfolding Count.count_leading_zeros
     plain-eol e =
         let q : peek 12 (drop at bs) ≡ 1 = sym twelve ∙ e in
         closing
         (some_one 12 (drop at bs) (omega (arith, q))
-        ∙ ap some (zeros-of-number 12 (drop at bs) ∙ ap (Count.leading_zeros 12) q))
+        ∙ ap some (zeros-of-number 12 (drop at bs) ∙ ap (Count.count_leading_zeros 12) q))
 
     pub twelve-zeros : w / 2 ^ 20 ≡ 0 → peek 12 (drop at bs) ≡ 0
     twelve-zeros e = sym twelve ∙ e

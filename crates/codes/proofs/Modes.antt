@@ -87,7 +87,7 @@ by-zeros k z bs e = cases (wider 6 k bs)
     cases (inr h) = no_mode _ h.0 _ ∙ sym (no_mode z (omega (arith, h.1)) _)
 
 -- 32 bits at a place of the data, as a number, and their leading zeros
-module _ (bytes : List ℕ) (at : ℕ) {w z : ℕ} (window : w ≡ peek 32 (drop at (bits_of bytes))) (zeros : Count.leading_zeros 32 w ≡ z) where
+module _ (bytes : List ℕ) (at : ℕ) {w z : ℕ} (window : w ≡ peek 32 (drop at (bits_of bytes))) (zeros : Count.count_leading_zeros 32 w ≡ z) where
   -- the mode for these zeros and the next bit is the one that is read
   read_as : (m : ModeIn) → mode_for z (front_bit (drop (suc z) (drop at (bits_of bytes)))) ≡ m → mode_take (8 * length bytes) at m ≡ read_mode (bits_of bytes) at
   unfolding read_mode
@@ -96,7 +96,7 @@ module _ (bytes : List ℕ) (at : ℕ) {w z : ℕ} (window : w ≡ peek 32 (drop
       ∙ ap (mode_take (length (bits_of bytes)) at) (sym (modes-agree (drop at (bits_of bytes)) ∙ by-zeros 26 z _ counted ∙ e))
     where
       counted : leading_zeros 32 (drop at (bits_of bytes)) ≡ z
-      counted = zeros-of-number 32 _ ∙ ap (Count.leading_zeros 32) (sym window) ∙ zeros
+      counted = zeros-of-number 32 _ ∙ ap (Count.count_leading_zeros 32) (sym window) ∙ zeros
 
   -- where the next bit does not matter
   pub plain : (m : ModeIn) → ((side : Bool) → mode_for z side ≡ m) → mode_take (8 * length bytes) at m ≡ read_mode (bits_of bytes) at
@@ -128,14 +128,14 @@ module _ {bytes : List ℕ} {at live bits : ℕ} (h : Ahead bytes at live bits) 
   abbrev ahead : List Bool
   ahead = drop at (bits_of bytes)
 
-  module _ {z : ℕ} (zeros : Count.leading_zeros 64 bits ≡ z) (few : z < 6) where
+  module _ {z : ℕ} (zeros : Count.count_leading_zeros 64 bits ≡ z) (few : z < 6) where
     top-counted : leading_zeros live ahead ≡ z
     top-counted =
         top-leading live ahead h.most (rw h.holds at (some_one bits zeros))
-        ∙ ap (Count.leading_zeros 64) (sym h.holds)
+        ∙ ap (Count.count_leading_zeros 64) (sym h.holds)
         ∙ zeros
       where
-        some_one : (x : ℕ) → Count.leading_zeros 64 x ≡ z → 0 < x
+        some_one : (x : ℕ) → Count.count_leading_zeros 64 x ≡ z → 0 < x
         some_one zero e = absurd (omega (arith, Count.leading_of_zero 64))
         some_one (suc x) e = omega arith
 

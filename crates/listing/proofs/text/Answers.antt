@@ -9,12 +9,7 @@ use Rattle.listing_text.specs.Sheet.{bad_input}
 use Rattle.listing_text.specs.Text.{ascii}
 use Rattle.listing_text.specs.Line.{Says}
 use Rattle.listing_text.specs.declared.settings_line.Parsed.TheVariants.{Settings as found}
-use Rattle.listing.proofs.text.Goals.{In-Settings-2}
 use Rattle.listing.proofs.text.Goals as goal
-
--- the settings that the input begins with
-said : (c : In-Settings-2) → Says c.args.input.now (found c.in-Settings.settings c.in-Settings.at)
-said c = subst (Says c.args.input.now) c.in-Settings.is c.parse.ensures
 
 pub bad_input-requires : goal.bad_input-requires
 unfolding bad_input ascii
@@ -26,10 +21,10 @@ returns-in_default c =
     (p.0, bad_line (subst (Says c.args.input.now) c.in_default.is c.parse.ensures) p.1)
 
 pub slice_bounds-src-count : goal.slice_bounds-src-count
-slice_bounds-src-count c = (said (goal.at.slice_bounds-src-count c).In-Settings-2).1
+slice_bounds-src-count c = ((let h-said : Says c.args.input.now (found c.in-Settings.settings c.in-Settings.at) = subst (Says c.args.input.now) c.in-Settings.is c.parse.ensures in h-said)).1
 
 pub slice_bounds-src-start : goal.slice_bounds-src-start
-slice_bounds-src-start c = omega (arith, (said (goal.at.slice_bounds-src-start c).In-Settings-2).1)
+slice_bounds-src-start c = omega (arith, ((let h-said : Says c.args.input.now (found c.in-Settings.settings c.in-Settings.at) = subst (Says c.args.input.now) c.in-Settings.is c.parse.ensures in h-said)).1)
 
 pub bad_input-requires-then-src-gt16384 : goal.bad_input-requires-then-src-gt16384
 unfolding bad_input ascii
@@ -39,7 +34,7 @@ pub returns-then-src-gt16384 : goal.returns-then-src-gt16384
 returns-then-src-gt16384 c =
     let at = c.in-Settings.at in
     let p = printed c.bad_input-then-src-gt16384.ensures in
-    (p.0, too_long c.in-Settings.settings at (said (goal.at.returns-then-src-gt16384 c).In-Settings-2) (omega (arith, c.if-src-gt16384.true, length-drop at c.args.input.now)) p.1)
+    (p.0, too_long c.in-Settings.settings at ((let h-said : Says c.args.input.now (found c.in-Settings.settings c.in-Settings.at) = subst (Says c.args.input.now) c.in-Settings.is c.parse.ensures in h-said)) (omega (arith, c.if-src-gt16384.true, length-drop at c.args.input.now)) p.1)
 
 pub returns : goal.returns
 returns c =
@@ -47,4 +42,4 @@ returns c =
     let s = c.in-Settings.settings in
     let at = c.in-Settings.at in
     let p = printed c.page.ensures in
-    (p.0, a-page s at (said (goal.at.returns c).In-Settings-2) (omega (arith, c.if-src-gt16384.false, length-drop at input)) (p.1 ∙ ap (page_text (settings_of s)) (lent-rest input at)))
+    (p.0, a-page s at ((let h-said : Says c.args.input.now (found c.in-Settings.settings c.in-Settings.at) = subst (Says c.args.input.now) c.in-Settings.is c.parse.ensures in h-said)) (omega (arith, c.if-src-gt16384.false, length-drop at input)) (p.1 ∙ ap (page_text (settings_of s)) (lent-rest input at)))

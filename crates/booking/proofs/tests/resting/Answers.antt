@@ -30,13 +30,13 @@ returns-then-k-count c =
     (sym c.under_above.ensures ∙ c.if-under_above.false) c.bad_place-k.ensures c.if-k-count.true
 
 pub overflow_mul-k : goal.overflow_mul-k
-overflow_mul-k c = omega (arith, placed (goal.at.overflow_mul-k c).Else-k-count)
+overflow_mul-k c = omega (arith, placed c)
 
 pub overflow_add-k : goal.overflow_add-k
-overflow_add-k c = omega (arith, placed (goal.at.overflow_add-k c).Else-k-count)
+overflow_add-k c = omega (arith, placed c)
 
 pub box_at-b-requires : goal.box_at-b-requires
-box_at-b-requires c = omega (arith, placed (goal.at.box_at-b-requires c).Else-k-count)
+box_at-b-requires c = omega (arith, placed c)
 
 pub returns : goal.returns
 returns c =

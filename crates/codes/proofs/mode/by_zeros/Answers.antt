@@ -15,7 +15,7 @@ unfolding mode_for
 returns-in-1 c =
     c.coded-in-1.ensures
     ∙ sided c.args.src.now c.args.at c.requires.1 c.in-1.is 0 3 (λ side. refl) (omega arith)
-    (back c.side.type-inv ∙ c.side.ensures)
+    (back c.side.type_inv ∙ c.side.ensures)
 
 pub returns-in-2 : goal.returns-in-2
 unfolding mode_for
@@ -32,14 +32,14 @@ unfolding mode_for
 returns-in-4 c =
     c.coded-in-4.ensures
     ∙ sided c.args.src.now c.args.at c.requires.1 c.in-4.is 1 6 (λ side. refl) (omega arith)
-    (back c.side-in-4.type-inv ∙ c.side-in-4.ensures)
+    (back c.side-in-4.type_inv ∙ c.side-in-4.ensures)
 
 pub returns-in-5 : goal.returns-in-5
 unfolding mode_for
 returns-in-5 c =
     c.coded-in-5.ensures
     ∙ sided c.args.src.now c.args.at c.requires.1 c.in-5.is 2 7 (λ side. refl) (omega arith)
-    (back c.side-in-5.type-inv ∙ c.side-in-5.ensures)
+    (back c.side-in-5.type_inv ∙ c.side-in-5.ensures)
 
 pub returns-in-6-to-4294967295 : goal.returns-in-6-to-4294967295
 returns-in-6-to-4294967295 c =

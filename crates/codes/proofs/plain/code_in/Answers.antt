@@ -1,8 +1,9 @@
 -- `codes::plain::code_in` meets its contract. The loop's invariant: going on from the bits taken gives what comparing from the first gives. The measure is
 -- the bits left. Assumes nothing.
 use mathlib.Core.Path.{◌≡◌, sym, ap, ◌∙◌}
+use mathlib.Core.Bool.{Bool}
 use mathlib.Core.List.{List}
-use Prim.Native.Nat.{◌+◌, ◌-◌, ◌*◌, ◌<◌}
+use Prim.Native.Nat.{ℕ, ◌+◌, ◌-◌, ◌*◌, ◌<◌}
 use native.Mathlib.Omega.{arith}
 use lib.ListN.{length, drop, length-drop}
 use lib.Seq.{drop-drop}
@@ -13,26 +14,19 @@ use Rattle.rules.proofs.Bits.{length-bits_of}
 use Rattle.codes.specs.Plain.{verdict_of, codes_in, Listed}
 use Rattle.codes.proofs.Verdicts.{saying, all_codes, asks}
 use Rattle.codes.proofs.Comparing.{Comparing, word_fits, compare-first, compare-last, next_small, next_fits, compare-no-code, compare-is-code, compare-on}
-use Rattle.codes.proofs.plain.code_in.Goals.{After-bit, After-verdict_on, In-loop-taken, Start}
+use Rattle.codes.proofs.plain.code_in.Goals.{After-bit, After-verdict_on, In-loop-taken}
 use Rattle.codes.proofs.plain.code_in.Goals as goal
-
--- the tables of a colour, and the bits from the start on
-tables : (c : Start) → Listed c.args.terminating.now c.args.makeup.now c.args.common.now
-tables c = c.requires.0
-
-length-left : (c : Start) → length (drop c.args.at (bits_of c.args.src.now)) ≡ 8 * length c.args.src.now - c.args.at
-length-left c = omega (arith, length-drop c.args.at (bits_of c.args.src.now), length-bits_of c.args.src.now)
 
 -- a bit is left
 bit-left : (c : In-loop-taken) →
     let s = c.args in
     c.loop-taken.taken < length (drop s.at (bits_of s.src.now))
-bit-left c = omega (arith, c.loop-taken-test.true, length-left c.before.before.before)
+bit-left c = omega (arith, c.loop-taken-test.true, length-drop c.args.at (bits_of c.args.src.now), length-bits_of c.args.src.now)
 
 -- what was compared before a bit is read, and the next bit of the data
 so_far : (c : After-bit) →
-    Comparing (tables c.before).colour (drop c.args.at (bits_of c.args.src.now)) c.loop-taken.taken c.loop-taken.word
-so_far c = c.loop-taken.invariant (tables c.before.before.before.before)
+    Comparing c.requires.0.colour (drop c.args.at (bits_of c.args.src.now)) c.loop-taken.taken c.loop-taken.word
+so_far c = c.loop-taken.invariant c.requires.0
 
 next_bit : (c : After-bit) →
     let s = c.args in
@@ -50,21 +44,16 @@ said-by c h =
     c.verdict_on.ensures ∙ ap (saying _ _) (all_codes h.colour _ c.args.makeup.now _ h.terminating h.makeup h.common)
 
 -- the codes of the tables are those of the colour
-in_tables : (c : Start) {found : Found} →
-    let ds = drop c.args.at (bits_of c.args.src.now) in
-    found ≡ plain (tables c).colour ds → found ≡ compare 0 (candidates (codes_in c.args.terminating.now c.args.makeup.now c.args.common.now)) ds
+in_tables : {t m k : List (List ℕ)} (h : Listed t m k) {f : Found} (ds : List Bool) → f ≡ plain h.colour ds → f ≡ compare 0 (candidates (codes_in t m k)) ds
 unfolding plain
-in_tables c e =
-    let h = tables c in
-    e
-    ∙ ap (λ (cs : List Code). compare 0 (candidates cs) (drop c.args.at (bits_of c.args.src.now)))
-    (sym (all_codes h.colour _ c.args.makeup.now _ h.terminating h.makeup h.common))
+in_tables {t} {m} {k} h ds e =
+    e ∙ ap (λ (cs : List Code). compare 0 (candidates cs) ds) (sym (all_codes h.colour _ m _ h.terminating h.makeup h.common))
 
 pub loop-taken-init : goal.loop-taken-init
 loop-taken-init c h = compare-first _ _
 
 pub overflow_mul-word : goal.overflow_mul-word
-overflow_mul-word c = omega (arith, word_fits (c.loop-taken.invariant (tables (goal.at.overflow_mul-word c).Start)))
+overflow_mul-word c = omega (arith, word_fits (c.loop-taken.invariant c.requires.0))
 
 pub overflow_add-at : goal.overflow_add-at
 overflow_add-at c = omega (arith, c.loop-taken-test.true, c.requires.1)
@@ -73,25 +62,25 @@ pub bit-requires : goal.bit-requires
 bit-requires c = omega (arith, c.loop-taken-test.true)
 
 pub overflow_add-word : goal.overflow_add-word
-overflow_add-word c = omega (arith, next_fits (so_far (goal.at.overflow_add-word c).After-bit) (bit-left (goal.at.overflow_add-word c).In-loop-taken) c.bit.result (next_bit (goal.at.overflow_add-word c).After-bit))
+overflow_add-word c = omega (arith, next_fits (so_far c) (bit-left (goal.at.overflow_add-word c).In-loop-taken) c.bit.result (next_bit c))
 
 pub overflow_add-taken : goal.overflow_add-taken
-overflow_add-taken c = omega (arith, (so_far (goal.at.overflow_add-taken c).After-bit).few)
+overflow_add-taken c = omega (arith, (so_far c).few)
 
 pub verdict_on-requires : goal.verdict_on-requires
 verdict_on-requires d =
-    let h = tables (goal.at.verdict_on-requires d).Start in
-    asks h.colour _ d.args.makeup.now _ h.terminating h.makeup h.common (next_small (so_far (goal.at.verdict_on-requires d).After-bit) (bit-left (goal.at.verdict_on-requires d).In-loop-taken) d.bit.result (next_bit (goal.at.verdict_on-requires d).After-bit))
+    let h = d.requires.0 in
+    asks h.colour _ d.args.makeup.now _ h.terminating h.makeup h.common (next_small (so_far d) (bit-left (goal.at.verdict_on-requires d).In-loop-taken) d.bit.result (next_bit d))
 
 pub returns-in-NoCode : goal.returns-in-NoCode
 returns-in-NoCode c =
-    in_tables (goal.at.returns-in-NoCode c).Start
-    (compare-no-code (so_far (goal.at.returns-in-NoCode c).After-bit) (bit-left (goal.at.returns-in-NoCode c).In-loop-taken) c.bit.result (next_bit (goal.at.returns-in-NoCode c).After-bit) (ap verdict_of (sym c.in-NoCode.is) ∙ said-by (goal.at.returns-in-NoCode c).After-verdict_on (tables (goal.at.returns-in-NoCode c).Start)))
+    in_tables c.requires.0 _
+    (compare-no-code (so_far (goal.at.returns-in-NoCode c).After-bit) (bit-left (goal.at.returns-in-NoCode c).In-loop-taken) c.bit.result (next_bit (goal.at.returns-in-NoCode c).After-bit) (ap verdict_of (sym c.in-NoCode.is) ∙ said-by (goal.at.returns-in-NoCode c).After-verdict_on c.requires.0))
 
 pub returns-in-IsCode : goal.returns-in-IsCode
 returns-in-IsCode c =
-    in_tables (goal.at.returns-in-IsCode c).Start
-    (compare-is-code (so_far (goal.at.returns-in-IsCode c).After-bit) (bit-left (goal.at.returns-in-IsCode c).In-loop-taken) c.bit.result (next_bit (goal.at.returns-in-IsCode c).After-bit) _ (ap verdict_of (sym c.in-IsCode.is) ∙ said-by (goal.at.returns-in-IsCode c).After-verdict_on (tables (goal.at.returns-in-IsCode c).Start)))
+    in_tables c.requires.0 _
+    (compare-is-code (so_far (goal.at.returns-in-IsCode c).After-bit) (bit-left (goal.at.returns-in-IsCode c).In-loop-taken) c.bit.result (next_bit (goal.at.returns-in-IsCode c).After-bit) _ (ap verdict_of (sym c.in-IsCode.is) ∙ said-by (goal.at.returns-in-IsCode c).After-verdict_on c.requires.0))
 
 pub loop-taken-preserved : goal.loop-taken-preserved
 loop-taken-preserved c h =
@@ -100,4 +89,4 @@ loop-taken-preserved c h =
 
 pub returns : goal.returns
 returns c =
-    in_tables (goal.at.returns c).Start (compare-last (c.loop-taken.invariant (tables (goal.at.returns c).Start)) (omega (arith, c.loop-taken-test.false, length-left (goal.at.returns c).Start)))
+    in_tables c.requires.0 _ (compare-last (c.loop-taken.invariant c.requires.0) (omega (arith, c.loop-taken-test.false, length-drop c.args.at (bits_of c.args.src.now), length-bits_of c.args.src.now)))

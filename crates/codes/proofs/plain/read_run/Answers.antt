@@ -33,7 +33,7 @@ returns-in-Lost c =
 pub overflow_add-sum : goal.overflow_add-sum
 overflow_add-sum c =
     let g = c.loop-e.invariant in
-    omega (arith, g.summing.small, add-inside g _ _ (code (goal.at.overflow_add-sum c).In-Code))
+    omega (arith, g.summing.small, add-inside g _ _ (code c))
 
 pub returns-then-sum-run-gt-MOST_SUM : goal.returns-then-sum-run-gt-MOST_SUM
 returns-then-sum-run-gt-MOST_SUM c = record { same = add-large c.loop-e.invariant _ _ (code (goal.at.returns-then-sum-run-gt-MOST_SUM c).In-Code) c.if-sum-run-gt-MOST_SUM.true; loaded = tt }

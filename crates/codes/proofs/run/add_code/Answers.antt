@@ -22,7 +22,7 @@ adds : (c : In-Code) →
 adds c = ap (λ (f : Found). summed (sum c.args.at c.args.total) (found_of f)) c.in-Code.is
 
 pub overflow_add-sum : goal.overflow_add-sum
-overflow_add-sum c = omega (arith, fits (goal.at.overflow_add-sum c).In-Code)
+overflow_add-sum c = omega (arith, fits c)
 
 pub returns-then-sum-gt-MOST_SUM : goal.returns-then-sum-gt-MOST_SUM
 returns-then-sum-gt-MOST_SUM c = sym (adds (goal.at.returns-then-sum-gt-MOST_SUM c).In-Code ∙ simp (lt-leb _ _ c.if-sum-gt-MOST_SUM.true))

@@ -15,7 +15,7 @@ code : (c : After-look_up-found) → let s = c.args in found_of c.look_up-found.
 code c = c.look_up-found.ensures ∙ sym (plain-is-lookup _ _)
 
 pub add_code-requires : goal.add_code-requires
-add_code-requires c = let p = c.requires in addable _ _ _ p.inside p.size c.look_up-found.result (code (goal.at.add_code-requires c).After-look_up-found)
+add_code-requires c = let p = c.requires in addable _ _ _ p.inside p.size c.look_up-found.result (code c)
 
 pub returns : goal.returns
 returns c = c.add_code.ensures ∙ code-steps _ _ _ c.requires.inside _ _ (code (goal.at.returns c).After-look_up-found)

@@ -11,7 +11,7 @@ from : (c : After-align) → Loading c.args.src.now c.align.result
 from c = aligned-loading c.args.settings c.args.state c.requires c.align.result c.align.ensures
 
 pub read_eols-eols-requires : goal.read_eols-eols-requires
-read_eols-eols-requires c = from (goal.at.read_eols-eols-requires c).After-align
+read_eols-eols-requires c = from c
 
 pub skip_rest-requires : goal.skip_rest-requires
 skip_rest-requires c =

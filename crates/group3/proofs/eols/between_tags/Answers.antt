@@ -30,7 +30,7 @@ pub overflow_add-at : goal.overflow_add-at
 overflow_add-at c = let l = c.loop-later in omega (arith, l.invariant.loading.inside, l.invariant.loading.size)
 
 pub read_all_eols-later-requires : goal.read_all_eols-later-requires
-read_all_eols-later-requires c = tag-loading c.loop-later.invariant (tag (goal.at.read_all_eols-later-requires c).In-loop-later)
+read_all_eols-later-requires c = tag-loading c.loop-later.invariant (tag c)
 
 pub overflow_add-result : goal.overflow_add-result
 overflow_add-result c = let l = c.loop-later in omega (arith, l.invariant.loading.inside, l.invariant.loading.size)
@@ -40,7 +40,7 @@ returns-then-count-ge6 c =
     joined-rtc c.loop-later.invariant (tag (goal.at.returns-then-count-ge6 c).In-loop-later) c.read_all_eols-later.result c.read_all_eols-later.ensures c.if-later-eq0.true c.if-count-ge6.true
 
 pub overflow_add-count : goal.overflow_add-count
-overflow_add-count c = let j = joined (goal.at.overflow_add-count c).After-struct_known-in-loop-later-1 in omega (arith, j.few, j.loading.inside, j.loading.size)
+overflow_add-count c = let j = joined c in omega (arith, j.few, j.loading.inside, j.loading.size)
 
 pub loop-later-smaller : goal.loop-later-smaller
 loop-later-smaller c =
@@ -48,7 +48,7 @@ loop-later-smaller c =
     omega (arith, tag-inside l.invariant (tag (goal.at.loop-later-smaller c).In-loop-later), later-ahead l.invariant (tag (goal.at.loop-later-smaller c).In-loop-later) c.read_all_eols-later.result c.read_all_eols-later.ensures)
 
 pub loop-later-preserved : goal.loop-later-preserved
-loop-later-preserved c = joined (goal.at.loop-later-preserved c).After-struct_known-in-loop-later-1
+loop-later-preserved c = joined c
 
 pub returns-after-loop-later : goal.returns-after-loop-later
 returns-after-loop-later c = joined-done c.loop-later.invariant (sym c.is_one.ensures ∙ c.loop-later-test.false)

@@ -7,12 +7,7 @@ use Rattle.codes.specs.Eols.{eols_of}
 use Rattle.settings.specs.Settings.{tagging_of}
 use Rattle.group3.specs.Tags.{is_tagged}
 use Rattle.group3.proofs.TagBits.{all_read, eols-untagged, eols-none, eols-tagged}
-use Rattle.group3.proofs.eols.read_eols.Goals.{Else-not-is_tagged}
 use Rattle.group3.proofs.eols.read_eols.Goals as goal
-
--- tag bits are told apart
-tagged : (c : Else-not-is_tagged) → is_tagged (tagging_of c.args.settings.encoding) ≡ true
-tagged c = sym c.is_tagged.ensures ∙ not-false _ c.if-not-is_tagged.false-raw
 
 pub returns-then-not-is_tagged : goal.returns-then-not-is_tagged
 returns-then-not-is_tagged c =
@@ -22,7 +17,7 @@ returns-then-not-is_tagged c =
 pub returns-then-first-eq0 : goal.returns-then-first-eq0
 returns-then-first-eq0 c =
     let a = c.args in
-    eols-none (bits_of a.src.now) a.at (tagging_of a.settings.encoding) (eols_of c.read_all_eols-first.result) c.read_all_eols-first.ensures (tagged (goal.at.returns-then-first-eq0 c).Else-not-is_tagged) c.if-first-eq0.true
+    eols-none (bits_of a.src.now) a.at (tagging_of a.settings.encoding) (eols_of c.read_all_eols-first.result) c.read_all_eols-first.ensures ((let h-tagged : is_tagged (tagging_of c.args.settings.encoding) ≡ true = sym c.is_tagged.ensures ∙ not-false _ c.if-not-is_tagged.false-raw in h-tagged)) c.if-first-eq0.true
 
 pub between_tags-requires : goal.between_tags-requires
 between_tags-requires c = (all_read c.requires c.read_all_eols-first.result c.read_all_eols-first.ensures).0
@@ -30,4 +25,4 @@ between_tags-requires c = (all_read c.requires c.read_all_eols-first.result c.re
 pub returns : goal.returns
 returns c =
     let a = c.args in
-    eols-tagged (bits_of a.src.now) a.at (tagging_of a.settings.encoding) (eols_of c.read_all_eols-first.result) c.read_all_eols-first.ensures (tagged (goal.at.returns c).Else-not-is_tagged) c.if-first-eq0.false _ c.between_tags.ensures
+    eols-tagged (bits_of a.src.now) a.at (tagging_of a.settings.encoding) (eols_of c.read_all_eols-first.result) c.read_all_eols-first.ensures ((let h-tagged : is_tagged (tagging_of c.args.settings.encoding) ≡ true = sym c.is_tagged.ensures ∙ not-false _ c.if-not-is_tagged.false-raw in h-tagged)) c.if-first-eq0.false _ c.between_tags.ensures

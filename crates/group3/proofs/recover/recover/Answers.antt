@@ -4,14 +4,7 @@ use mathlib.Core.Bool.{true, not, ◌&&◌}
 use lib.Dec.{leb}
 use borrow.Author.Tests.{not-true, not-false}
 use Rattle.group3.proofs.Mending.{white-holds, recovers-left, recovers-on, recovers-stop}
-use Rattle.group3.proofs.recover.recover.Goals.{Else-not-is_kept}
 use Rattle.group3.proofs.recover.recover.Goals as goal
-
--- the line is kept
-is-kept : (c : Else-not-is_kept) →
-    let a = c.args in
-    true ≡ ((a.expected && not a.settings.strict) && leb a.number 3)
-is-kept c = sym (not-false _ c.if-not-is_kept.false-raw) ∙ c.is_kept.ensures
 
 pub returns-then-not-is_kept : goal.returns-then-not-is_kept
 returns-then-not-is_kept c = let a = c.args in recovers-left a.settings a.state a.at a.expected a.number a.place c.requires (sym (not-true _ c.if-not-is_kept.true-raw) ∙ c.is_kept.ensures)
@@ -22,9 +15,9 @@ push_pixels-requires c = rw c.whitened.ensures (white-holds c.requires)
 pub returns-in-On : goal.returns-in-On
 returns-in-On c =
     let a = c.args in
-    recovers-on a.settings a.state a.at a.expected a.number a.place c.requires (is-kept (goal.at.returns-in-On c).Else-not-is_kept) _ _ (rw c.whitened.ensures at c.push_pixels.ensures) _ c.in-On.is
+    recovers-on a.settings a.state a.at a.expected a.number a.place c.requires ((let h-is-kept : let a = c.args in true ≡ ((a.expected && not a.settings.strict) && leb a.number 3) = sym (not-false _ c.if-not-is_kept.false-raw) ∙ c.is_kept.ensures in h-is-kept)) _ _ (rw c.whitened.ensures at c.push_pixels.ensures) _ c.in-On.is
 
 pub returns-in-Stop : goal.returns-in-Stop
 returns-in-Stop c =
     let a = c.args in
-    recovers-stop a.settings a.state a.at a.expected a.number a.place c.requires (is-kept (goal.at.returns-in-Stop c).Else-not-is_kept) _ _ (rw c.whitened.ensures at c.push_pixels.ensures) _ _ c.in-Stop.is
+    recovers-stop a.settings a.state a.at a.expected a.number a.place c.requires ((let h-is-kept : let a = c.args in true ≡ ((a.expected && not a.settings.strict) && leb a.number 3) = sym (not-false _ c.if-not-is_kept.false-raw) ∙ c.is_kept.ensures in h-is-kept)) _ _ (rw c.whitened.ensures at c.push_pixels.ensures) _ _ c.in-Stop.is
