@@ -1,5 +1,5 @@
 -- `exports::ccitt_read_row` meets its contract: the numbers are a state's or none's, and the encoding is of the list unless the page has ended. Assumes nothing.
-use mathlib.Core.Logic.{⊎_elim, inl, inr}
+use mathlib.Core.Logic.{inl, inr}
 use mathlib.Core.Path.{sym, ap, subst}
 use lib.ListN.{length}
 use borrow.Author.Tests.{not-true, not-false}
@@ -12,7 +12,7 @@ pub returns-then-not-has_ended : goal.returns-then-not-has_ended
 returns-then-not-has_ended c =
     let a = c.args in
     let st = c.held-1.given in
-    no-encoding a.src.now (settings_for a.columns a.rows a.end_of_block a.end_of_line a.rows-are-byte-aligned (mode_of a.encoding) a.strict a.exact a.plain) a.encoding a.state.now a.first.now a.second.now
+    no-encoding a.src.now (settings_for a.columns a.rows a.end_of_block a.end_of_line a.rows_are_byte_aligned (mode_of a.encoding) a.strict a.exact a.plain) a.encoding a.state.now a.first.now a.second.now
     st.0.0 (subst (StateTold a.state.now) st.1 c.state_in.ensures) c.if-encoding-gt2.true (subst (Ended st.0.0) (not-true c.has_ended.result c.if-not-has_ended.true-raw) c.has_ended.ensures) _ c.refused-then-not-has_ended.ensures
 
 pub put-requires : goal.put-requires
@@ -21,14 +21,14 @@ put-requires c = sym (ap length (subst (StateTold c.args.state.now) c.in-State.i
 pub returns-in-NoState : goal.returns-in-NoState
 returns-in-NoState c =
     let a = c.args in
-    no-state a.src.now (settings_for a.columns a.rows a.end_of_block a.end_of_line a.rows-are-byte-aligned (mode_of a.encoding) a.strict a.exact a.plain) a.encoding a.state.now a.first.now a.second.now
+    no-state a.src.now (settings_for a.columns a.rows a.end_of_block a.end_of_line a.rows_are_byte_aligned (mode_of a.encoding) a.strict a.exact a.plain) a.encoding a.state.now a.first.now a.second.now
     (subst (StateTold a.state.now) c.in-NoState.is c.state_in.ensures) _ c.refused.ensures
 
 pub returns-after-encoding-gt2 : goal.returns-after-encoding-gt2
 returns-after-encoding-gt2 c =
     let a = c.args in
     let st = c.held-1.given in
-    called a.src.now (settings_for a.columns a.rows a.end_of_block a.end_of_line a.rows-are-byte-aligned (mode_of a.encoding) a.strict a.exact a.plain) a.encoding a.state.now a.first.now a.second.now
+    called a.src.now (settings_for a.columns a.rows a.end_of_block a.end_of_line a.rows_are_byte_aligned (mode_of a.encoding) a.strict a.exact a.plain) a.encoding a.state.now a.first.now a.second.now
     st.0.0 (subst (StateTold a.state.now) st.1 c.state_in.ensures)
-    (⊎_elim (λ over. inr (subst (Ended st.0.0) (not-false over.1.result over.2.left) over.1.ensures)) (λ few. inl few.left) c.if-encoding-gt2.branch)
+    (elim c.if-encoding-gt2.branch [ then-encoding-gt2+else-is_ended w ↦ inr (subst (Ended st.0.0) (not-false w.is_ended.result w.if-not-is_ended.false-raw) w.is_ended.ensures) | else-encoding-gt2 w ↦ inl w.if-encoding-gt2.false ])
     c.read_row-step.result _ _ (rw c.mode.ensures at c.read_row-step.ensures) _ c.put.ensures

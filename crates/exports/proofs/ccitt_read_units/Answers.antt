@@ -16,7 +16,7 @@ put-requires c =
 pub returns-in-NoReading : goal.returns-in-NoReading
 returns-in-NoReading c =
     let a = c.args in
-    no-reading a.src.now (settings_for a.columns a.rows a.end_of_block false a.rows-are-byte-aligned Group4 a.strict a.exact a.plain) a.changes.now a.ends.now a.marks.now a.state.now a.n
+    no-reading a.src.now (settings_for a.columns a.rows a.end_of_block false a.rows_are_byte_aligned Group4 a.strict a.exact a.plain) a.changes.now a.ends.now a.marks.now a.state.now a.n
     (subst (ReadingTold a.state.now) c.in-NoReading.is c.reading_in.ensures) _ c.no_reading.ensures.0 c.no_reading.ensures.1
 
 pub returns-in-Held : goal.returns-in-Held
@@ -24,5 +24,5 @@ returns-in-Held c =
     let a = c.args in
     let r = c.reading-1.given in
     let told = subst (ReadingTold a.state.now) r.1 c.reading_in.ensures in
-    called a.src.now (settings_for a.columns a.rows a.end_of_block false a.rows-are-byte-aligned Group4 a.strict a.exact a.plain) a.changes.now a.ends.now a.marks.now a.state.now a.n
+    called a.src.now (settings_for a.columns a.rows a.end_of_block false a.rows_are_byte_aligned Group4 a.strict a.exact a.plain) a.changes.now a.ends.now a.marks.now a.state.now a.n
     r.0.0 told.0 told.1 c.read_units-turn.result _ _ _ c.read_units-turn.ensures _ c.put.ensures

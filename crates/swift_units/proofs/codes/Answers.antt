@@ -60,7 +60,7 @@ code-requires c = (walked-asks c.requires.0 c.loop-u.invariant.0.walked c.requir
 
 -- src/lib.rt:325:17
 pub shape_of-changes-in-Other : goal.shape_of-changes-in-Other
-shape_of-changes-in-Other c = omega (arith, c.loop-u.invariant.0.walked.size, c.code.auto.0)
+shape_of-changes-in-Other c = omega (arith, c.loop-u.invariant.0.walked.size, c.code.auto.changes)
 
 -- src/lib.rt:325:17
 pub returns-in-Other : goal.returns-in-Other
@@ -68,7 +68,7 @@ returns-in-Other c = spent-other c.args.src.now c.args.start c.requires.0.placed
 
 -- src/lib.rt:312:5
 pub loop-u-smaller : goal.loop-u-smaller
-loop-u-smaller c = spent-less c.args.src.now c.args.start c.requires.0.placed c.loop-u.invariant _ c.code.new.0 (c.code.ensures c.args.src.now _ c.ahead-bits.ensures (omega arith)) c.in-On.is
+loop-u-smaller c = spent-less c.args.src.now c.args.start c.requires.0.placed c.loop-u.invariant _ c.code.new.changes (c.code.ensures c.args.src.now _ c.ahead-bits.ensures (omega arith)) c.in-On.is
 
 -- src/lib.rt:312:5
 pub loop-u-preserved : goal.loop-u-preserved

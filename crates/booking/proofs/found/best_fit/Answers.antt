@@ -5,11 +5,11 @@ use Rattle.heads.specs.Form.{page_in}
 use native.Mathlib.Omega.{arith}
 use native.Mathlib.Numerals.{add-one}
 use Prim.Native.Nat.{ℕ, ◌-◌}
-use mathlib.Core.Logic.{⊎_elim}
 use mathlib.Core.Path.{◌≡◌, ap, ◌∙◌}
 use Rattle.booking.proofs.found.best_fit.Reads as reads
 use Rattle.booking.proofs.found.best_fit.Lts as lts
 use Rattle.booking.proofs.found.failing_at.Reads as failing-at-reads
+use Rattle.booking.proofs.found.best_fit.Goals.{then-n-fewest, else-n-fewest}
 use Rattle.booking.proofs.found.best_fit.Goals as goal
 
 pub overflow_cast-fewest : goal.overflow_cast-fewest
@@ -38,10 +38,14 @@ pub loop-i-preserved : goal.loop-i-preserved
 loop-i-preserved c =
     let a = c.args in
     let page = page_in a.columns a.changes.now a.ends.now in
-    ⊎_elim
-    (λ w. rw (w.1, w.2) (best-hit a.across a.down a.count a.boxes.now a.places.now page c.loop-i.i a.offsets c.loop-i.best c.loop-i.fewest c.loop-i-test.true c.failing_at-n.ensures w.0.taken ∙ c.loop-i.invariant))
-    (λ w. rw (w.1, w.2) (best-miss a.across a.down a.count a.boxes.now a.places.now page c.loop-i.i a.offsets c.loop-i.best c.loop-i.fewest c.loop-i-test.true c.failing_at-n.ensures w.0.left ∙ c.loop-i.invariant))
-    c.if-n-fewest.branch
+    elim c.if-n-fewest.branch [
+      | then-n-fewest w ↦
+          rw (w.best-is, w.fewest-is)
+          (best-hit a.across a.down a.count a.boxes.now a.places.now page c.loop-i.i a.offsets c.loop-i.best c.loop-i.fewest c.loop-i-test.true c.failing_at-n.ensures w.if-n-fewest.true ∙ c.loop-i.invariant)
+      | else-n-fewest w ↦
+          rw (w.best-is, w.fewest-is)
+          (best-miss a.across a.down a.count a.boxes.now a.places.now page c.loop-i.i a.offsets c.loop-i.best c.loop-i.fewest c.loop-i-test.true c.failing_at-n.ensures w.if-n-fewest.false ∙ c.loop-i.invariant)
+    ]
 
 pub returns : goal.returns
 returns c =

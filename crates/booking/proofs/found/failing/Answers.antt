@@ -5,12 +5,12 @@ use Rattle.booking.specs.Moving.{fails_by}
 use Rattle.heads.specs.Form.{page_in}
 use native.Mathlib.Omega.{arith}
 use Prim.Native.Nat.{◌+◌, ◌-◌, ◌≤◌}
-use mathlib.Core.Logic.{⊎_elim}
 use mathlib.Core.Bool.{not}
 use mathlib.Core.Path.{◌≡◌, sym, ap, ◌∙◌}
 use Rattle.booking.proofs.found.failing.Reads as reads
 use Rattle.booking.proofs.found.failing.Lts as lts
 use Rattle.booking.proofs.found.stands.Reads as stands-reads
+use Rattle.booking.proofs.found.failing.Goals.{then-not-stands, else-not-stands}
 use Rattle.booking.proofs.found.failing.Goals as goal
 
 pub loop-k-init : goal.loop-k-init
@@ -35,13 +35,15 @@ pub loop-k-preserved : goal.loop-k-preserved
 loop-k-preserved c =
     let a = c.args in
     let test = fails_by a.rows a.count a.across a.down a.u a.v (page_in a.columns a.changes.now a.ends.now) a.places.now in (
-      ⊎_elim (λ w. omega arith) (λ w. omega (arith, c.loop-k.invariant.0)) c.if-not-stands.branch,
-      ⊎_elim
-          (λ w. count-here test c.loop-k.k a.count c.loop-k.n c.loop-k.invariant.1 c.loop-k-test.true
-          (ap not (sym (c.stands.ensures a.count c.loop-k-test.true)) ∙ w.0.taken) w.1)
-          (λ w. count_next test c.loop-k.k a.count c.loop-k.n c.loop-k.invariant.1 c.loop-k-test.true
-          (ap not (sym (c.stands.ensures a.count c.loop-k-test.true)) ∙ w.0.left) w.1)
-          c.if-not-stands.branch,
+      elim c.if-not-stands.branch [ then-not-stands w ↦ omega arith | else-not-stands w ↦ omega (arith, c.loop-k.invariant.0) ],
+      elim c.if-not-stands.branch [
+        | then-not-stands w ↦
+            count-here test c.loop-k.k a.count c.loop-k.n c.loop-k.invariant.1 c.loop-k-test.true
+            (ap not (sym (c.stands.ensures a.count c.loop-k-test.true)) ∙ w.if-not-stands.true-raw) w.n-is
+        | else-not-stands w ↦
+            count_next test c.loop-k.k a.count c.loop-k.n c.loop-k.invariant.1 c.loop-k-test.true
+            (ap not (sym (c.stands.ensures a.count c.loop-k-test.true)) ∙ w.if-not-stands.false-raw) w.n-is
+      ],
     )
 
 pub returns : goal.returns

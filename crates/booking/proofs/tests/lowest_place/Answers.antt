@@ -1,10 +1,10 @@
 -- The invariant: the lowest of those that are left, and of those before, is that of all. Assumes nothing.
 use mathlib.Core.Path.{◌≡◌, ◌∙◌}
-use mathlib.Core.Logic.{⊎_elim}
 use Prim.Native.Nat.{◌-◌}
 use native.Mathlib.Omega.{arith}
 use Rattle.form_file.specs.FormFile.{place_at}
 use Rattle.booking.proofs.Lowest.{lowest_start, lowest-past, lowest-lower, lowest-stays}
+use Rattle.booking.proofs.tests.lowest_place.Goals.{then-low-b, else-low-b}
 use Rattle.booking.proofs.tests.lowest_place.Goals as goal
 
 pub loop-k-init : goal.loop-k-init
@@ -28,9 +28,10 @@ loop-k-preserved c =
     let k = c.loop-k.k in
     let more = c.loop-k-test.true in
     let is = c.box_at-b.ensures in
-    ⊎_elim (λ w. lowest-lower (place_at a.places.now) k a.count c.loop-k.low more (rw is at w.0.taken) (rw is at w.1))
-    (λ w. lowest-stays (place_at a.places.now) k a.count c.loop-k.low more (rw is at w.0.left) w.1)
-    c.if-low-b.branch ∙ c.loop-k.invariant
+    elim c.if-low-b.branch [
+      | then-low-b w ↦ lowest-lower (place_at a.places.now) k a.count c.loop-k.low more (rw is at w.if-low-b.true) (rw is at w.low-is)
+      | else-low-b w ↦ lowest-stays (place_at a.places.now) k a.count c.loop-k.low more (rw is at w.if-low-b.false) w.low-is
+    ] ∙ c.loop-k.invariant
 
 pub returns : goal.returns
 returns c =

@@ -1,12 +1,12 @@
 -- The invariant: the ticks that are counted, and those that are left, are all of them. Assumes nothing.
 use mathlib.Core.Path.{◌≡◌}
-use mathlib.Core.Logic.{⊎_elim}
 use Prim.Native.Nat.{◌+◌, ◌-◌, ◌≤◌}
 use native.Mathlib.Omega.{arith}
 use Rattle.heads.specs.Form.{page_in}
 use Rattle.booking.specs.Testing.{ticked_at}
 use Rattle.booking.proofs.Firsts.{count_past, count-here, count_next}
 use Rattle.booking.proofs.Placed.{ticked, unticked}
+use Rattle.booking.proofs.tests.ticks_in.Goals.{then-tick-in_box, else-tick-in_box}
 use Rattle.booking.proofs.tests.ticks_in.Goals as goal
 
 pub loop-d-init : goal.loop-d-init
@@ -41,13 +41,15 @@ loop-d-preserved c =
     let a = c.args in
     let page = page_in a.columns a.changes.now a.ends.now in
     let test = ticked_at page a.boxes.now a.tick a.column in (
-      ⊎_elim (λ w. omega arith) (λ w. omega arith) c.if-tick-in_box.branch,
-      ⊎_elim
-          (λ w. count-here test c.loop-d.d 10 c.loop-d.n c.loop-d.invariant.1 c.loop-d-test.true
-          (ticked page a.boxes.now a.tick a.column c.loop-d.d c.in_box.ensures c.box_at-b.ensures w.0.taken) w.1)
-          (λ w. count_next test c.loop-d.d 10 c.loop-d.n c.loop-d.invariant.1 c.loop-d-test.true
-          (unticked page a.boxes.now a.tick a.column c.loop-d.d c.in_box.ensures c.box_at-b.ensures w.0.left) w.1)
-          c.if-tick-in_box.branch,
+      elim c.if-tick-in_box.branch [ then-tick-in_box w ↦ omega arith | else-tick-in_box w ↦ omega arith ],
+      elim c.if-tick-in_box.branch [
+        | then-tick-in_box w ↦
+            count-here test c.loop-d.d 10 c.loop-d.n c.loop-d.invariant.1 c.loop-d-test.true
+            (ticked page a.boxes.now a.tick a.column c.loop-d.d c.in_box.ensures c.box_at-b.ensures w.if-tick-in_box.true) w.n-is
+        | else-tick-in_box w ↦
+            count_next test c.loop-d.d 10 c.loop-d.n c.loop-d.invariant.1 c.loop-d-test.true
+            (unticked page a.boxes.now a.tick a.column c.loop-d.d c.in_box.ensures c.box_at-b.ensures w.if-tick-in_box.false) w.n-is
+      ],
     )
 
 pub returns : goal.returns

@@ -1,11 +1,11 @@
 -- The invariant: what was noted, and the test of what is left, are the test of the whole row, below the width that every change of 32 bits
 -- is below. The measure is what is left.
 use mathlib.Core.Path.{◌≡◌, sym, ap, ◌∙◌}
-use mathlib.Core.Logic.{⊎_elim}
 use Prim.Native.Nat.{ℕ, ◌+◌, ◌-◌, ◌≤◌}
 use native.Mathlib.Omega.{arith}
 use Rattle.context.proofs.RowTest.{left_test, first-left, past-left, noted-left, next-left}
 use Rattle.context.proofs.RowTest.{ascends_none, ascends-out, ascends-narrow}
+use Rattle.context.proofs.reference.ascends.Goals.{then-row-place, else-row-place}
 use Rattle.context.proofs.reference.ascends.Goals as goal
 
 abbrev wide : ℕ
@@ -57,11 +57,11 @@ loop-place-preserved c =
     let i = c.loop-place.place in
     let inside = c.loop-place-test.true in (
       omega arith,
-      ⊎_elim
-          (λ w. ap (λ b. left_test wide row b (i + 1)) w.1 ∙ noted-left wide row c.loop-place.rising i inside w.0.taken)
-          (λ w. ap (λ b. left_test wide row b (i + 1)) w.1
-          ∙ next-left wide row c.loop-place.rising i inside w.0.left (omega (arith, c.type_inv.row i)))
-          c.if-row-place.branch ∙ c.loop-place.invariant.1,
+      elim c.if-row-place.branch [
+        | then-row-place w ↦ ap (λ b. left_test wide row b (i + 1)) w.rising-is ∙ noted-left wide row c.loop-place.rising i inside w.if-row-place.true
+        | else-row-place w ↦ ap (λ b. left_test wide row b (i + 1)) w.rising-is
+            ∙ next-left wide row c.loop-place.rising i inside w.if-row-place.false (omega (arith, c.type_inv.row i))
+      ] ∙ c.loop-place.invariant.1,
     )
 
 pub returns : goal.returns

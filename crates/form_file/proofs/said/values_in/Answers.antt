@@ -1,6 +1,5 @@
 -- `form_file::said::values_in` meets its contract. The invariant: the numbers of the words that were passed are told. Assumes nothing.
 use mathlib.Core.Path.{refl}
-use mathlib.Core.Logic.{⊎_elim}
 use Prim.Native.Nat.{◌-◌, ◌≤◌, ◌<◌}
 use native.Mathlib.Omega.{arith}
 use lib.ListN.{length}
@@ -18,10 +17,11 @@ more : (c : After-word_start-at-in-loop-at)
     → let l = c.loop-at in More l.n l.count l.held c.value-value.result c.if-value-ge-NONE.n c.if-value-ge-NONE.held
 more c =
     let l = c.loop-at in
-    ⊎_elim (λ w. more-not l.n l.count l.held _ l.invariant.long _ _ w.0.taken w.1 w.2)
-    (⊎_elim (λ w. more-put l.n l.count l.held _ l.invariant.long _ _ (omega (arith, w.0.left)) w.3 w.1.taken w.2)
-    (λ w. more-past l.n l.count l.held _ l.invariant.long _ _ (omega (arith, w.0.left)) w.3 w.1.left w.2))
-    c.if-value-ge-NONE.branch
+    elim c.if-value-ge-NONE.branch [
+      | then-value-ge-NONE w ↦ more-not l.n l.count l.held _ l.invariant.long _ _ w.if-value-ge-NONE.true w.held-is w.n-is
+      | else-value-ge-NONE+then-count w ↦ more-put l.n l.count l.held _ l.invariant.long _ _ (omega arith) w.held-is w.if-count.true w.n-is
+      | else-value-ge-NONE+else-count w ↦ more-past l.n l.count l.held _ l.invariant.long _ _ (omega arith) w.held-is w.if-count.false w.n-is
+    ]
 
 pub loop-at-init : goal.loop-at-init
 loop-at-init c = told-first _ _ _ c.requires refl _ c.word_start-at.ensures

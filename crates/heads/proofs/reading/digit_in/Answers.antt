@@ -1,12 +1,12 @@
 -- The invariant: the ticks so far, and then those that are left, are all of them. Assumes nothing.
 use mathlib.Core.List.{[]}
-use mathlib.Core.Logic.{⊎_elim}
 use mathlib.Core.Path.{◌≡◌, ◌∙◌}
 use Prim.Native.Nat.{◌<◌, ◌-◌, ◌≤◌}
 use native.Mathlib.Omega.{arith}
 use lib.ListN.{length}
 use Rattle.heads.specs.Form.{ticks}
 use Rattle.heads.proofs.Ticks.{after-only, ticks-past, ticks-tick, ticks-blank, seen-small}
+use Rattle.heads.proofs.reading.digit_in.Goals.{then-least-table, else-least-table}
 use Rattle.heads.proofs.reading.digit_in.Goals as goal
 
 pub loop-d-init : goal.loop-d-init
@@ -27,18 +27,18 @@ loop-d-smaller c = omega arith
 pub loop-d-preserved : goal.loop-d-preserved
 loop-d-preserved c =
     let h : c.loop-d.d < length c.args.t1 = omega (arith, c.loop-d-test.true) in
-    ⊎_elim
-    (λ w. let e = w.2 ∙ w.1.ensures in (
-      omega arith,
-      rw e (seen-small c.loop-d.digit c.loop-d.d (omega arith)),
-      rw e (ticks-tick c.args.least c.args.column c.args.t1 c.loop-d.digit c.loop-d.d [] h w.0.taken ∙ c.loop-d.invariant.2),
-    ))
-    (λ w. (
-      omega arith,
-      rw w.1 c.loop-d.invariant.1,
-      rw w.1 (ticks-blank c.args.least c.args.column c.args.t1 c.loop-d.digit c.loop-d.d [] h w.0.left ∙ c.loop-d.invariant.2),
-    ))
-    c.if-least-table.branch
+    elim c.if-least-table.branch [
+      | then-least-table w ↦ let e = w.digit-is ∙ w.seen.ensures in (
+          omega arith,
+          rw e (seen-small c.loop-d.digit c.loop-d.d (omega arith)),
+          rw e (ticks-tick c.args.least c.args.column c.args.t1 c.loop-d.digit c.loop-d.d [] h w.if-least-table.true ∙ c.loop-d.invariant.2),
+        )
+      | else-least-table w ↦ (
+          omega arith,
+          rw w.digit-is c.loop-d.invariant.1,
+          rw w.digit-is (ticks-blank c.args.least c.args.column c.args.t1 c.loop-d.digit c.loop-d.d [] h w.if-least-table.false ∙ c.loop-d.invariant.2),
+        )
+    ]
 
 pub returns : goal.returns
 returns c =

@@ -1,9 +1,9 @@
 -- `ledger_file::fields::count` meets its contract. Assumes nothing.
 use Rattle.ledger_file.proofs.Fielding.{Counting, counting-first, counting-tab, counting-other, counting-end}
 use native.Mathlib.Omega.{arith}
-use mathlib.Core.Logic.{⊎_elim}
 use mathlib.Core.Path.{sym, subst}
 use Prim.Native.Nat.{ℕ, ◌+◌, ◌-◌}
+use Rattle.ledger_file.proofs.fields.count.Goals.{then-line-i-eq9, else-line-i-eq9}
 use Rattle.ledger_file.proofs.fields.count.Goals as goal
 
 pub loop-i-init : goal.loop-i-init
@@ -23,9 +23,10 @@ loop-i-smaller c = omega arith
 
 pub loop-i-preserved : goal.loop-i-preserved
 loop-i-preserved c =
-    ⊎_elim (λ w. subst (λ (n : ℕ). Counting c.args.line.now n (c.loop-i.i + 1)) (sym w.1) (counting-tab c.loop-i.invariant c.loop-i-test.true w.0.taken))
-    (λ w. subst (λ (n : ℕ). Counting c.args.line.now n (c.loop-i.i + 1)) (sym w.1) (counting-other c.loop-i.invariant c.loop-i-test.true w.0.left))
-    c.if-line-i-eq9.branch
+    elim c.if-line-i-eq9.branch [
+      | then-line-i-eq9 w ↦ subst (λ (n : ℕ). Counting c.args.line.now n (c.loop-i.i + 1)) (sym w.n-is) (counting-tab c.loop-i.invariant c.loop-i-test.true w.if-line-i-eq9.true)
+      | else-line-i-eq9 w ↦ subst (λ (n : ℕ). Counting c.args.line.now n (c.loop-i.i + 1)) (sym w.n-is) (counting-other c.loop-i.invariant c.loop-i-test.true w.if-line-i-eq9.false)
+    ]
 
 pub returns : goal.returns
 returns c = counting-end c.loop-i.invariant c.loop-i-test.false

@@ -62,7 +62,7 @@ overflow_add-t c =
 
 pub offset_bounds-changes-base : goal.offset_bounds-changes-base
 offset_bounds-changes-base c =
-    omega (arith, c.pre.0.placed)
+    omega (arith, c.requires.0.placed)
 
 pub slice_bounds-full_code-count : goal.slice_bounds-full_code-count
 slice_bounds-full_code-count c =
@@ -81,7 +81,7 @@ full_code-requires c =
 pub shape_of-changes-in-Stop : goal.shape_of-changes-in-Stop
 shape_of-changes-in-Stop c =
     let g = standing-walked _ _ _ _ _ _ _ _ c.loop-rules.inv c.swift_codes-t.ensures in
-    standing-back _ _ _ _ _ _ _ _ g c.full_code.new.1.0 c.full_code.auto.1.0
+    standing-back _ _ _ _ _ _ _ _ g c.full_code.new.changes c.full_code.auto.changes
 
 pub returns-in-Stop : goal.returns-in-Stop
 returns-in-Stop c =
@@ -91,23 +91,23 @@ returns-in-Stop c =
 
 pub offset_bounds-changes-first-in-On : goal.offset_bounds-changes-first-in-On
 offset_bounds-changes-first-in-On c =
-    omega (arith, c.pre.0.placed)
+    omega (arith, c.requires.0.placed)
 
 pub slice_bounds-stand_at-count : goal.slice_bounds-stand_at-count
 slice_bounds-stand_at-count c =
-    omega (arith, c.pre.0.placed)
+    omega (arith, c.requires.0.placed)
 
 pub slice_bounds-stand_at-start : goal.slice_bounds-stand_at-start
 slice_bounds-stand_at-start c =
-    omega (arith, c.pre.0.placed)
+    omega (arith, c.requires.0.placed)
 
 pub slice_bounds-stand_at-end : goal.slice_bounds-stand_at-end
 slice_bounds-stand_at-end c =
     let g = standing-walked _ _ _ _ _ _ _ _ c.loop-rules.inv c.swift_codes-t.ensures in
     omega (
       arith,
-      c.pre.0.placed,
-      standing-back _ _ _ _ _ _ _ _ g c.full_code.new.1.0 c.full_code.auto.1.0,
+      c.requires.0.placed,
+      standing-back _ _ _ _ _ _ _ _ g c.full_code.new.changes c.full_code.auto.changes,
     )
 
 pub stand_at-s-requires : goal.stand_at-s-requires

@@ -64,7 +64,7 @@ pub shape_of-changes-in-Stop : goal.shape_of-changes-in-Stop
 shape_of-changes-in-Stop c =
     let v = walked-part (standing-room _ _ _ _ _ _ _ _ c.loop-rules.invariant) c.swift_codes-t.ensures in
     let g = standing-walked _ _ _ _ _ _ _ _ c.loop-rules.invariant v in
-    standing-back _ _ _ _ _ _ _ _ g c.full_code.new.1.0 c.full_code.auto.1.0
+    standing-back _ _ _ _ _ _ _ _ g c.full_code.new.changes c.full_code.auto.changes
 
 pub returns-in-Stop : goal.returns-in-Stop
 returns-in-Stop c =

@@ -31,7 +31,7 @@ push_pixels-requires c =
 
 pub shape_of-changes-in-Stop : goal.shape_of-changes-in-Stop
 shape_of-changes-in-Stop c =
-    c.push_pixels.auto.0 ∙ going-length c.loop-rules.invariant
+    c.push_pixels.auto.changes ∙ going-length c.loop-rules.invariant
 
 pub returns-in-Stop : goal.returns-in-Stop
 returns-in-Stop c =

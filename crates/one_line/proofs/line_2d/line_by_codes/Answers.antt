@@ -29,7 +29,7 @@ code_2d-requires c = reading-codes c.loop-line.invariant c.loop-line-test.true c
 
 pub shape_of-changes-in-Stop : goal.shape_of-changes-in-Stop
 shape_of-changes-in-Stop c =
-    reading-back c.loop-line.invariant c.code_2d.new.1.0 c.code_2d.auto.1.0
+    reading-back c.loop-line.invariant c.code_2d.new.changes c.code_2d.auto.changes
 
 pub returns-in-Stop : goal.returns-in-Stop
 returns-in-Stop c = reading-stop c.loop-line.invariant c.loop-line-test.true c.find-found.ensures _ _ c.code_2d.ensures c.in-Stop.is

@@ -13,7 +13,7 @@ to_each-t-requires c = (c.loop-s.invariant.turned, c.loop-s.invariant.low)
 
 pub shape_of-changes-then-stop-t : goal.shape_of-changes-then-stop-t
 shape_of-changes-then-stop-t c =
-    omega (arith, c.loop-s.invariant.size, c.to_each-t.auto.0)
+    omega (arith, c.loop-s.invariant.size, c.to_each-t.auto.changes)
 
 pub returns-then-stop-t : goal.returns-then-stop-t
 returns-then-stop-t c =
@@ -32,7 +32,7 @@ beside-requires c =
 
 pub shape_of-changes-in-Other : goal.shape_of-changes-in-Other
 shape_of-changes-in-Other c =
-    omega (arith, c.loop-s.invariant.size, c.to_each-t.auto.0, c.beside.auto.0)
+    omega (arith, c.loop-s.invariant.size, c.to_each-t.auto.changes, c.beside.auto.changes)
 
 pub returns-in-Other : goal.returns-in-Other
 returns-in-Other c =
@@ -63,4 +63,4 @@ loop-s-smaller c =
 pub loop-s-preserved : goal.loop-s-preserved
 loop-s-preserved c =
     nearing-on c.requires c.loop-s.invariant c.to_each-t.ensures c.if-stop-t.false c.beside.ensures
-    c.in-On.is (omega (arith, c.to_each-t.auto.0)) (omega (arith, c.beside.auto.0))
+    c.in-On.is (omega (arith, c.to_each-t.auto.changes)) (omega (arith, c.beside.auto.changes))

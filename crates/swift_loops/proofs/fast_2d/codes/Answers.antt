@@ -45,7 +45,7 @@ code-requires c =
 
 pub shape_of-changes-in-Other : goal.shape_of-changes-in-Other
 shape_of-changes-in-Other c =
-    omega (arith, c.loop-s.invariant.size, c.code.auto.1.1.0)
+    omega (arith, c.loop-s.invariant.size, c.code.auto.changes)
 
 pub returns-in-Other : goal.returns-in-Other
 returns-in-Other c =
@@ -55,7 +55,7 @@ returns-in-Other c =
 pub loop-s-smaller : goal.loop-s-smaller
 loop-s-smaller c =
     let took = c.code.ensures c.args.src.now _ c.ahead-bits.ensures (omega arith) in
-    took-less c.requires.1 c.loop-s.invariant _ c.code.new.1.1.0 took c.in-On.is
+    took-less c.requires.1 c.loop-s.invariant _ c.code.new.changes took c.in-On.is
 
 pub loop-s-preserved : goal.loop-s-preserved
 loop-s-preserved c =

@@ -43,23 +43,23 @@ returns-then-width-s c = λ bytes live h k read. refl
 
 pub offset_bounds-changes-base : goal.offset_bounds-changes-base
 offset_bounds-changes-base c =
-    omega (arith, c.pre.1.ready.placed)
+    omega (arith, c.requires.1.ready.placed)
 
 pub slice_bounds-note-count : goal.slice_bounds-note-count
 slice_bounds-note-count c =
-    omega (arith, c.pre.1.ready.placed)
+    omega (arith, c.requires.1.ready.placed)
 
 pub slice_bounds-note-start : goal.slice_bounds-note-start
 slice_bounds-note-start c =
-    omega (arith, c.pre.1.ready.placed)
+    omega (arith, c.requires.1.ready.placed)
 
 pub note-count-requires : goal.note-count-requires
 note-count-requires c =
-    ready-part c.pre.1.ready
+    ready-part c.requires.1.ready
 
 pub overflow_add-a1 : goal.overflow_add-a1
 overflow_add-a1 c =
-    omega (arith, c.pre.1.ready.stands.fits, c.pre.1.ready.narrow, c.if-width-s.false)
+    omega (arith, c.requires.1.ready.stands.fits, c.requires.1.ready.narrow, c.if-width-s.false)
 
 pub overflow_add-last : goal.overflow_add-last
 overflow_add-last c =
@@ -89,19 +89,19 @@ bounds-changes-last c =
 
 pub overflow_add-position : goal.overflow_add-position
 overflow_add-position c =
-    omega (arith, c.pre.1.ready.stands.fits, c.pre.1.ready.narrow, c.if-width-s.false)
+    omega (arith, c.requires.1.ready.stands.fits, c.requires.1.ready.narrow, c.if-width-s.false)
 
 pub offset_bounds-changes-start : goal.offset_bounds-changes-start
 offset_bounds-changes-start c =
-    omega (arith, c.pre.1.ready.placed)
+    omega (arith, c.requires.1.ready.placed)
 
 pub slice_bounds-onward-count : goal.slice_bounds-onward-count
 slice_bounds-onward-count c =
-    omega (arith, c.pre.1.ready.placed)
+    omega (arith, c.requires.1.ready.placed)
 
 pub slice_bounds-onward-start : goal.slice_bounds-onward-start
 slice_bounds-onward-start c =
-    omega (arith, c.pre.1.ready.placed)
+    omega (arith, c.requires.1.ready.placed)
 
 pub slice_bounds-onward-end : goal.slice_bounds-onward-end
 slice_bounds-onward-end c =
@@ -123,15 +123,15 @@ onward-place-requires c =
 
 pub overflow_add-result : goal.overflow_add-result
 overflow_add-result c =
-    omega (arith, c.pre.1.low)
+    omega (arith, c.requires.1.low)
 
 pub overflow_add-result-2 : goal.overflow_add-result-2
 overflow_add-result-2 c =
-    omega (arith, c.pre.1.low, c.front_run-one.ensures.few)
+    omega (arith, c.requires.1.low, c.front_run-one.ensures.few)
 
 pub overflow_add-result-3 : goal.overflow_add-result-3
 overflow_add-result-3 c =
-    omega (arith, c.pre.1.low, c.front_run-one.ensures.few, c.front_run-two.ensures.few)
+    omega (arith, c.requires.1.low, c.front_run-one.ensures.few, c.front_run-two.ensures.few)
 
 pub overflow_add-result-4 : goal.overflow_add-result-4
 overflow_add-result-4 c =

@@ -13,7 +13,7 @@ to_each-t-requires c = (c.loop-s.invariant.turned, c.loop-s.invariant.low)
 
 pub shape_of-row-then-stop-t : goal.shape_of-row-then-stop-t
 shape_of-row-then-stop-t c =
-    omega (arith, c.loop-s.invariant.size, c.to_each-t.auto.1.0)
+    omega (arith, c.loop-s.invariant.size, c.to_each-t.auto.row)
 
 pub returns-then-stop-t : goal.returns-then-stop-t
 returns-then-stop-t c =
@@ -33,7 +33,7 @@ beside-requires c =
 
 pub shape_of-row-in-Other : goal.shape_of-row-in-Other
 shape_of-row-in-Other c =
-    omega (arith, c.loop-s.invariant.size, c.to_each-t.auto.1.0, c.beside.auto.1.0)
+    omega (arith, c.loop-s.invariant.size, c.to_each-t.auto.row, c.beside.auto.row)
 
 pub returns-in-Other : goal.returns-in-Other
 returns-in-Other c =
@@ -70,4 +70,4 @@ loop-s-preserved c =
     let straights = c.to_each-t in
     let side = c.beside in
     nearing-on c.requires c.loop-s.invariant straights.ensures c.if-stop-t.false side.ensures c.in-On.is
-    (omega (arith, straights.auto.1.0)) (omega (arith, side.auto.1.0))
+    (omega (arith, straights.auto.row)) (omega (arith, side.auto.row))

@@ -23,12 +23,11 @@ pub code-requires : goal.code-requires
 code-requires c =
     let asks = c.requires in
     let inv = c.loop-s.invariant in
-    let long = c.before.well-formed.1.0.1 in
-    (walked-asks asks.0 inv asks.1 c.change_or-b1.ensures c.if-b1-s.false (omega (arith, long)), walked_low asks.0 inv)
+    (walked-asks asks.0 inv asks.1 c.change_or-b1.ensures c.if-b1-s.false (omega arith), walked_low asks.0 inv)
 
 pub shape_of-row-in-Other : goal.shape_of-row-in-Other
 shape_of-row-in-Other c =
-    omega (arith, c.loop-s.invariant.size, c.code.auto.1.0)
+    omega (arith, c.loop-s.invariant.size, c.code.auto.row)
 
 pub returns-in-Other : goal.returns-in-Other
 returns-in-Other c =
@@ -38,7 +37,7 @@ returns-in-Other c =
 pub loop-s-smaller : goal.loop-s-smaller
 loop-s-smaller c =
     let took = c.code.ensures c.args.src.now _ c.ahead-bits.ensures (omega arith) in
-    took-less c.requires.0 c.loop-s.invariant _ c.code.new.1.0 took c.in-On.is
+    took-less c.requires.0 c.loop-s.invariant _ c.code.new.row took c.in-On.is
 
 pub loop-s-preserved : goal.loop-s-preserved
 loop-s-preserved c =

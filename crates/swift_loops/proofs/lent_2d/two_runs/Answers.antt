@@ -12,11 +12,11 @@ use Rattle.swift_loops.proofs.lent_2d.two_runs.Goals as goal
 
 pub note-count-requires : goal.note-count-requires
 note-count-requires c =
-    ready-note c.pre.ready
+    ready-note c.requires.ready
 
 pub overflow_add-a1 : goal.overflow_add-a1
 overflow_add-a1 c =
-    omega (arith, c.pre.ready.stands.fits, c.pre.ready.narrow, c.if-width-s.false)
+    omega (arith, c.requires.ready.stands.fits, c.requires.ready.narrow, c.if-width-s.false)
 
 pub offset_bounds-row-count : goal.offset_bounds-row-count
 offset_bounds-row-count c =
@@ -41,7 +41,7 @@ bounds-row-count c =
 
 pub overflow_add-position : goal.overflow_add-position
 overflow_add-position c =
-    omega (arith, c.pre.ready.stands.fits, c.pre.ready.narrow, c.if-width-s.false)
+    omega (arith, c.requires.ready.stands.fits, c.requires.ready.narrow, c.if-width-s.false)
 
 pub onward-place-requires : goal.onward-place-requires
 onward-place-requires c =
@@ -54,15 +54,15 @@ onward-place-requires c =
 
 pub overflow_add-result : goal.overflow_add-result
 overflow_add-result c =
-    omega (arith, c.pre.low)
+    omega (arith, c.requires.low)
 
 pub overflow_add-result-2 : goal.overflow_add-result-2
 overflow_add-result-2 c =
-    omega (arith, c.pre.low, c.front_run_of-one.ensures.few)
+    omega (arith, c.requires.low, c.front_run_of-one.ensures.few)
 
 pub overflow_add-result-3 : goal.overflow_add-result-3
 overflow_add-result-3 c =
-    omega (arith, c.pre.low, c.front_run_of-one.ensures.few, c.front_run_of-two.ensures.few)
+    omega (arith, c.requires.low, c.front_run_of-one.ensures.few, c.front_run_of-two.ensures.few)
 
 pub overflow_add-result-4 : goal.overflow_add-result-4
 overflow_add-result-4 c =

@@ -22,17 +22,17 @@ step-requires c = record { pacing = record { limit = c.requires.limit; last-is =
 
 pub returns-in-Other : goal.returns-in-Other
 returns-in-Other c =
-    let same = subst (λ (r : AfterPair). PacedTo c.args.src.now c.loop-s.row c.args.width c.loop-s.s r c.step.new.1.0) c.in-Other.is c.step.ensures in
+    let same = subst (λ (r : AfterPair). PacedTo c.args.src.now c.loop-s.row c.args.width c.loop-s.s r c.step.new.row) c.in-Other.is c.step.ensures in
     rw same c.loop-s.invariant.0
 
 pub loop-s-smaller : goal.loop-s-smaller
 loop-s-smaller c =
-    let took = subst (λ (r : AfterPair). PacedTo c.args.src.now c.loop-s.row c.args.width c.loop-s.s r c.step.new.1.0) c.in-On.is c.step.ensures in
+    let took = subst (λ (r : AfterPair). PacedTo c.args.src.now c.loop-s.row c.args.width c.loop-s.s r c.step.new.row) c.in-On.is c.step.ensures in
     omega (arith, took.2, took.1.halts.fits)
 
 pub loop-s-preserved : goal.loop-s-preserved
 loop-s-preserved c =
-    let took = subst (λ (r : AfterPair). PacedTo c.args.src.now c.loop-s.row c.args.width c.loop-s.s r c.step.new.1.0) c.in-On.is c.step.ensures in
+    let took = subst (λ (r : AfterPair). PacedTo c.args.src.now c.loop-s.row c.args.width c.loop-s.s r c.step.new.row) c.in-On.is c.step.ensures in
     (ran_on c.loop-s.invariant.0 took.0, took.1)
 
 pub shape_of-row : goal.shape_of-row
