@@ -40,10 +40,10 @@ right-less least later h (x ∷ xs) = by (leb least x) (leb-false least x) (leb 
     by false f false g ih = omega arith
 
 -- the changes from b1 on rise from where the list does
-found-low : (c : Colour) (least : ℕ) (turns : Colour) {width low : ℕ} {xs : List ℕ} → Rising width low xs → Rising width low (from_b1 c least turns xs)
+found-low : {width : ℕ} (c : Colour) (least : ℕ) (turns : Colour) {low : ℕ} {xs : List ℕ} → Rising width low xs → Rising width low (from_b1 c least turns xs)
 unfolding from_b1
 found-low c least turns none = none
-found-low c least turns {width} {low} (some {x = x} {xs = xs} k l r) = tests (leb least x && differ turns c) (rises-lower (omega arith) (found-low c least (opposite turns) r))
+found-low {width} c least turns {low} (some {x = x} {xs = xs} k l r) = tests (leb least x && differ turns c) (rises-lower (omega arith) (found-low c least (opposite turns) r))
   where
     tests : (b : Bool) → Rising width low (from_b1 c least (opposite turns) xs)
         → Rising width low (elim b as (λ _. List ℕ) [ true ↦ x ∷ xs | false ↦ from_b1 c least (opposite turns) xs ])
@@ -57,11 +57,11 @@ second-low (some _ _ none) h = absurd (omega arith)
 second-low (some k _ (some l _ _)) h = omega arith
 
 -- behind b2 there are two fewer than from b1's least place on
-two-fewer : (c : Colour) (least : ℕ) (turns : Colour) {width low : ℕ} {xs : List ℕ} → Rising width low xs → head_or width (tail (from_b1 c least turns xs)) < width
+two-fewer : {width : ℕ} (c : Colour) (least : ℕ) (turns : Colour) {low : ℕ} {xs : List ℕ} → Rising width low xs → head_or width (tail (from_b1 c least turns xs)) < width
     → 2 + right (suc (head_or width (tail (from_b1 c least turns xs)))) xs ≤ right least xs
 unfolding from_b1 right
 two-fewer c least turns none h = absurd (omega arith)
-two-fewer c least turns {width} (some {x = x} {xs = xs} k l r) h =
+two-fewer {width} c least turns (some {x = x} {xs = xs} k l r) h =
     tests (leb least x) (leb-true least x) (differ turns c) (two-fewer c least (opposite turns) r) h
   where
     Fewer : List ℕ → Type 0

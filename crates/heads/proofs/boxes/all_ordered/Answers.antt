@@ -19,8 +19,8 @@ offset_bounds-form-digit c = omega arith
 
 pub returns-then-not-ordered : goal.returns-then-not-ordered
 returns-then-not-ordered c =
-    let h : c.loop-digit.digit < length c.args.t1 = omega (arith, c.loop-digit-test.true) in
-    twos-first ordered c.args.t1 c.loop-digit.digit [] no_box h (form-row c.args.t1 _ c.loop-digit.digit c.before.before.well-formed.0.1.1 h)
+    let h : c.loop-digit.digit < length c.args.form = omega (arith, c.loop-digit-test.true) in
+    twos-first ordered c.args.form c.loop-digit.digit [] no_box h (form-row c.args.form _ c.loop-digit.digit c.well_formed.0.1.1 h)
     (sym c.ordered.ensures ∙ not-true _ c.if-not-ordered.true-raw) ∙ c.loop-digit.invariant.1
 
 pub offset_bounds-form-digit-in-loop-digit : goal.offset_bounds-form-digit-in-loop-digit
@@ -28,8 +28,8 @@ offset_bounds-form-digit-in-loop-digit c = omega arith
 
 pub returns-then-not-ordered-2 : goal.returns-then-not-ordered-2
 returns-then-not-ordered-2 c =
-    let h : c.loop-digit.digit < length c.args.t1 = omega (arith, c.loop-digit-test.true) in
-    twos-second ordered c.args.t1 c.loop-digit.digit [] no_box h (form-row c.args.t1 _ c.loop-digit.digit c.before.before.well-formed.0.1.1 h)
+    let h : c.loop-digit.digit < length c.args.form = omega (arith, c.loop-digit-test.true) in
+    twos-second ordered c.args.form c.loop-digit.digit [] no_box h (form-row c.args.form _ c.loop-digit.digit c.well_formed.0.1.1 h)
     (sym c.ordered.ensures ∙ not-false _ c.if-not-ordered.false-raw)
     (sym c.ordered-in-loop-digit.ensures ∙ not-true _ c.if-not-ordered-2.true-raw) ∙ c.loop-digit.invariant.1
 
@@ -41,13 +41,13 @@ loop-digit-smaller c = omega arith
 
 pub loop-digit-preserved : goal.loop-digit-preserved
 loop-digit-preserved c =
-    let h : c.loop-digit.digit < length c.args.t1 = omega (arith, c.loop-digit-test.true) in (
+    let h : c.loop-digit.digit < length c.args.form = omega (arith, c.loop-digit-test.true) in (
       omega arith,
-      twos-next ordered c.args.t1 c.loop-digit.digit [] no_box h (form-row c.args.t1 _ c.loop-digit.digit c.before.before.well-formed.0.1.1 h)
+      twos-next ordered c.args.form c.loop-digit.digit [] no_box h (form-row c.args.form _ c.loop-digit.digit c.well_formed.0.1.1 h)
           (sym c.ordered.ensures ∙ not-false _ c.if-not-ordered.false-raw)
           (sym c.ordered-in-loop-digit.ensures ∙ not-false _ c.if-not-ordered-2.false-raw) ∙ c.loop-digit.invariant.1,
     )
 
 pub returns : goal.returns
 returns c =
-    all_past (all ordered) c.args.t1 c.loop-digit.digit (omega (arith, c.loop-digit-test.false)) ∙ c.loop-digit.invariant.1
+    all_past (all ordered) c.args.form c.loop-digit.digit (omega (arith, c.loop-digit-test.false)) ∙ c.loop-digit.invariant.1

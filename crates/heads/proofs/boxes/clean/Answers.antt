@@ -21,8 +21,8 @@ offset_bounds-form-digit c = omega arith
 pub returns-then-not-clean_under : goal.returns-then-not-clean_under
 returns-then-not-clean_under c =
     let a = c.args in
-    let h : c.loop-digit.digit < length a.t4 = omega (arith, c.loop-digit-test.true) in
-    twos-first (clean_under a.columns a.rows a.marks.now) a.t4 c.loop-digit.digit [] no_box h (form-row a.t4 _ c.loop-digit.digit c.before.well-formed.1.1.1.0.1.1 h)
+    let h : c.loop-digit.digit < length a.form = omega (arith, c.loop-digit-test.true) in
+    twos-first (clean_under a.columns a.rows a.marks.now) a.form c.loop-digit.digit [] no_box h (form-row a.form _ c.loop-digit.digit c.well_formed.1.1.1.0.1.1 h)
     (sym c.clean_under.ensures ∙ not-true _ c.if-not-clean_under.true-raw) ∙ c.loop-digit.invariant.1
 
 pub offset_bounds-form-digit-in-loop-digit : goal.offset_bounds-form-digit-in-loop-digit
@@ -31,8 +31,8 @@ offset_bounds-form-digit-in-loop-digit c = omega arith
 pub returns-then-not-clean_under-2 : goal.returns-then-not-clean_under-2
 returns-then-not-clean_under-2 c =
     let a = c.args in
-    let h : c.loop-digit.digit < length a.t4 = omega (arith, c.loop-digit-test.true) in
-    twos-second (clean_under a.columns a.rows a.marks.now) a.t4 c.loop-digit.digit [] no_box h (form-row a.t4 _ c.loop-digit.digit c.before.well-formed.1.1.1.0.1.1 h)
+    let h : c.loop-digit.digit < length a.form = omega (arith, c.loop-digit-test.true) in
+    twos-second (clean_under a.columns a.rows a.marks.now) a.form c.loop-digit.digit [] no_box h (form-row a.form _ c.loop-digit.digit c.well_formed.1.1.1.0.1.1 h)
     (sym c.clean_under.ensures ∙ not-false _ c.if-not-clean_under.false-raw)
     (sym c.clean_under-in-loop-digit.ensures ∙ not-true _ c.if-not-clean_under-2.true-raw) ∙ c.loop-digit.invariant.1
 
@@ -45,9 +45,9 @@ loop-digit-smaller c = omega arith
 pub loop-digit-preserved : goal.loop-digit-preserved
 loop-digit-preserved c =
     let a = c.args in
-    let h : c.loop-digit.digit < length a.t4 = omega (arith, c.loop-digit-test.true) in (
+    let h : c.loop-digit.digit < length a.form = omega (arith, c.loop-digit-test.true) in (
       omega arith,
-      twos-next (clean_under a.columns a.rows a.marks.now) a.t4 c.loop-digit.digit [] no_box h (form-row a.t4 _ c.loop-digit.digit c.before.well-formed.1.1.1.0.1.1 h)
+      twos-next (clean_under a.columns a.rows a.marks.now) a.form c.loop-digit.digit [] no_box h (form-row a.form _ c.loop-digit.digit c.well_formed.1.1.1.0.1.1 h)
           (sym c.clean_under.ensures ∙ not-false _ c.if-not-clean_under.false-raw)
           (sym c.clean_under-in-loop-digit.ensures ∙ not-false _ c.if-not-clean_under-2.false-raw) ∙ c.loop-digit.invariant.1,
     )
@@ -55,4 +55,4 @@ loop-digit-preserved c =
 pub returns : goal.returns
 returns c =
     let a = c.args in
-    all_past (all (clean_under a.columns a.rows a.marks.now)) a.t4 c.loop-digit.digit (omega (arith, c.loop-digit-test.false)) ∙ c.loop-digit.invariant.1
+    all_past (all (clean_under a.columns a.rows a.marks.now)) a.form c.loop-digit.digit (omega (arith, c.loop-digit-test.false)) ∙ c.loop-digit.invariant.1

@@ -38,15 +38,15 @@ loop-digit-smaller c = omega arith
 pub loop-digit-preserved : goal.loop-digit-preserved
 loop-digit-preserved c =
     let page = page_in c.args.columns c.args.changes.now c.args.ends.now in
-    let h : c.loop-digit.digit < length c.args.t4 = omega (arith, c.loop-digit-test.true) in (
+    let h : c.loop-digit.digit < length c.args.form = omega (arith, c.loop-digit-test.true) in (
       omega arith,
-      stored_next (tick_table page c.args.t4) (table-long page c.args.t4 c.before.well-formed.1.1.1.0.1.0.1) c.loop-digit.table c.loop-digit.digit
+      stored_next (tick_table page c.args.form) (table-long page c.args.form c.well_formed.1.1.1.0.1.0.1) c.loop-digit.table c.loop-digit.digit
           c.in_box.result c.in_box-in-loop-digit.result (omega (arith, c.loop-digit-test.true))
-          (table-row page c.args.t4 c.loop-digit.digit (form-row c.args.t4 _ c.loop-digit.digit c.before.well-formed.1.1.1.0.1.1 h)
+          (table-row page c.args.form c.loop-digit.digit (form-row c.args.form _ c.loop-digit.digit c.well_formed.1.1.1.0.1.1 h)
           ∙ rw (c.in_box.ensures, c.in_box-in-loop-digit.ensures)) c.loop-digit.invariant.1,
     )
 
 pub returns : goal.returns
 returns c =
     let page = page_in c.args.columns c.args.changes.now c.args.ends.now in
-    filled-all no_ticks (tick_table page c.args.t4) (table-long page c.args.t4 c.before.well-formed.1.1.1.0.1.0.1) c.loop-digit.table c.loop-digit.digit c.loop-digit-test.false c.loop-digit.invariant.0 c.loop-digit.invariant.1
+    filled-all no_ticks (tick_table page c.args.form) (table-long page c.args.form c.well_formed.1.1.1.0.1.0.1) c.loop-digit.table c.loop-digit.digit c.loop-digit-test.false c.loop-digit.invariant.0 c.loop-digit.invariant.1

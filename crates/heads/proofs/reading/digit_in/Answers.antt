@@ -10,7 +10,7 @@ use Rattle.heads.proofs.reading.digit_in.Goals.{then-least-table, else-least-tab
 use Rattle.heads.proofs.reading.digit_in.Goals as goal
 
 pub loop-d-init : goal.loop-d-init
-loop-d-init c = (omega arith, tt, after-only (ticks c.args.least c.args.column 0 c.args.t1))
+loop-d-init c = (omega arith, tt, after-only (ticks c.args.least c.args.column 0 c.args.table))
 
 pub overflow_cast-i : goal.overflow_cast-i
 overflow_cast-i c = omega arith
@@ -26,17 +26,17 @@ loop-d-smaller c = omega arith
 
 pub loop-d-preserved : goal.loop-d-preserved
 loop-d-preserved c =
-    let h : c.loop-d.d < length c.args.t1 = omega (arith, c.loop-d-test.true) in
+    let h : c.loop-d.d < length c.args.table = omega (arith, c.loop-d-test.true) in
     elim c.if-least-table.branch [
-      | then-least-table w ↦ let e = w.digit-is ∙ w.seen.ensures in (
+      | then-least-table w ↦ let e = w.digit-is ∙ w.after-digit.ensures in (
           omega arith,
           rw e (seen-small c.loop-d.digit c.loop-d.d (omega arith)),
-          rw e (ticks-tick c.args.least c.args.column c.args.t1 c.loop-d.digit c.loop-d.d [] h w.if-least-table.true ∙ c.loop-d.invariant.2),
+          rw e (ticks-tick c.args.least c.args.column c.args.table c.loop-d.digit c.loop-d.d [] h w.if-least-table.true ∙ c.loop-d.invariant.2),
         )
       | else-least-table w ↦ (
           omega arith,
           rw w.digit-is c.loop-d.invariant.1,
-          rw w.digit-is (ticks-blank c.args.least c.args.column c.args.t1 c.loop-d.digit c.loop-d.d [] h w.if-least-table.false ∙ c.loop-d.invariant.2),
+          rw w.digit-is (ticks-blank c.args.least c.args.column c.args.table c.loop-d.digit c.loop-d.d [] h w.if-least-table.false ∙ c.loop-d.invariant.2),
         )
     ]
 

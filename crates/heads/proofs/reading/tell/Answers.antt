@@ -1,38 +1,33 @@
 -- `heads::reading::tell` meets its contract. Assumes nothing.
 use mathlib.Core.Path.{◌≡◌, refl, ap, ◌∙◌}
-use mathlib.Core.List.{[], ◌∷◌}
-use mathlib.Core.Logic.{⊎_elim}
 use Prim.Native.Nat.{ℕ, ◌<◌, ◌+◌, ◌*◌}
 use native.Mathlib.Omega.{arith}
 use lib.IntN.{ℤ}
-use types.Run.{OneOf}
-use denote.Enum.Declared.{tag_of}
 use Rattle.heads.specs.Form.{refusal}
 use Rattle.heads.specs.Steps.{told_by}
 use Rattle.heads.specs.declared.reading.Digit.{Digit}
 use Rattle.heads.specs.declared.reading.Digit.TheVariants.{Missing, One, Several}
-use Rattle.heads.specs.contracts.reading.Digit as D
 use Rattle.heads.proofs.Quota.{left-fits, left_is}
 use Rattle.heads.proofs.reading.tell.Goals as goal
 
 -- neither of the other two is a digit
-other : (tens units : Digit) (quota : ℤ) → OneOf (0 ∷ 2 ∷ []) (tag_of D.the_type tens) → refusal 12 ≡ told_by quota tens units
+other : (tens units : Digit) (quota : ℤ) → ((t : ℕ) → tens ≡ One t → ⊥) → refusal 12 ≡ told_by quota tens units
 other Missing units quota k = refl
-other (One t) units quota k = absurd (⊎_elim (λ e. omega arith) (λ e. omega arith) k)
+other (One t) units quota k = absurd (k t refl)
 other Several units quota k = refl
 
-other-units : (t : ℕ) (units : Digit) (quota : ℤ) → OneOf (0 ∷ 2 ∷ []) (tag_of D.the_type units) → refusal 12 ≡ told_by quota (One t) units
+other-units : (t : ℕ) (units : Digit) (quota : ℤ) → ((u : ℕ) → units ≡ One u → ⊥) → refusal 12 ≡ told_by quota (One t) units
 other-units t Missing quota k = refl
-other-units t (One u) quota k = absurd (⊎_elim (λ e. omega arith) (λ e. omega arith) k)
+other-units t (One u) quota k = absurd (k u refl)
 other-units t Several quota k = refl
 
 pub returns-in_default : goal.returns-in_default
 returns-in_default c =
-    c.refused.ensures ∙ other c.args.tens c.args.units c.args.quota c.in_default.keys2
+    c.refused.ensures ∙ other c.args.tens c.args.units c.args.quota c.in_default.not-One
 
 pub returns-in_default-units : goal.returns-in_default-units
 returns-in_default-units c =
-    c.refused-in_default-units.ensures ∙ rw c.in-One.is (other-units c.in-One.t c.args.units c.args.quota c.in_default-units.keys2)
+    c.refused-in_default-units.ensures ∙ rw c.in-One.is (other-units c.in-One.t c.args.units c.args.quota c.in_default-units.not-One)
 
 pub overflow_mul-heads : goal.overflow_mul-heads
 overflow_mul-heads c =

@@ -80,7 +80,7 @@ full_code-requires c =
 
 pub shape_of-changes-in-Stop : goal.shape_of-changes-in-Stop
 shape_of-changes-in-Stop c =
-    let g = standing-walked _ _ _ _ _ _ _ _ c.loop-rules.inv c.swift_codes-t.ensures in
+    let g = standing-walked _ _ _ _ _ _ _ _ c.loop-rules.invariant c.swift_codes-t.ensures in
     standing-back _ _ _ _ _ _ _ _ g c.full_code.new.changes c.full_code.auto.changes
 
 pub returns-in-Stop : goal.returns-in-Stop
@@ -103,7 +103,7 @@ slice_bounds-stand_at-start c =
 
 pub slice_bounds-stand_at-end : goal.slice_bounds-stand_at-end
 slice_bounds-stand_at-end c =
-    let g = standing-walked _ _ _ _ _ _ _ _ c.loop-rules.inv c.swift_codes-t.ensures in
+    let g = standing-walked _ _ _ _ _ _ _ _ c.loop-rules.invariant c.swift_codes-t.ensures in
     omega (
       arith,
       c.requires.0.placed,

@@ -3,8 +3,6 @@ use mathlib.Core.Path.{sym, ◌∙◌}
 use Rattle.writer.proofs.KindsLaws.{open-first, open-settles, open-goes}
 use Rattle.writer.proofs.kinds.open_turn.Goals as goal
 
-pub open-turn-spec : {M : Type 1} → statement M
-
 pub returns-then-lines-eq0 : goal.returns-then-lines-eq0
 returns-then-lines-eq0 c = open-first c.args.tag c.args.lines c.if-lines-eq0.true
 

@@ -7,9 +7,8 @@ use Rattle.writer.specs.Meeting3.{open_turn}
 use Rattle.writer.proofs.KindsLaws.{turn-open, turn-known}
 use Rattle.writer.proofs.kinds.turn.Goals as goal
 
-open-turn-requires : tie.Need-open-turn-requires
-
-open-turn-requires c κs = c.before.before.before.requires.1 c.before.if1.true
+pub open_turn-requires : goal.open_turn-requires
+open_turn-requires c = c.requires.1 c.if-every-eq0.true
 
 pub returns-then-every-eq0 : goal.returns-then-every-eq0
 returns-then-every-eq0 c =

@@ -26,20 +26,14 @@ last_of-position-requires c =
 
 pub overflow_add-above : goal.overflow_add-above
 overflow_add-above c =
-    let m = c in
-    let k = m.before.before.before.before.before.before.before in
-    let l = k.before.before.before.before.requires.1 in
-    let a = m.before.before.before.before.before in
-    let g = ones-on k.loop.invariant l _ a.before.loop-test.true a.alike.ensures m.last_of.ensures m.before.before.before.put-ones.ensures in
+    let l = c.requires.1 in
+    let g = ones-on c.loop-position.invariant l _ c.loop-position-test.true c.alike-k.ensures c.last_of-position.ensures c.put_ones-next.ensures in
     record { fits = omega (arith, (few g l).0) }
 
 pub overflow_add-place : goal.overflow_add-place
 overflow_add-place c =
-    let m = c in
-    let k = m.before.before.before.before.before.before.before in
-    let l = k.before.before.before.before.requires.1 in
-    let a = m.before.before.before.before.before in
-    let g = ones-on k.loop.invariant l _ a.before.loop-test.true a.alike.ensures m.last_of.ensures m.before.before.before.put-ones.ensures in
+    let l = c.requires.1 in
+    let g = ones-on c.loop-position.invariant l _ c.loop-position-test.true c.alike-k.ensures c.last_of-position.ensures c.put_ones-next.ensures in
     record { fits = omega (arith, (few g l).1) }
 
 pub overflow_add-above-in-loop-position : goal.overflow_add-above-in-loop-position
