@@ -61,7 +61,7 @@ to-before c zero (x ∷ xs) i h l = rw (lt-ltb i x l)
 to-before c (suc k) (x ∷ xs) i h l = ap (λ (d : Colour). cond (ltb i x) c d) (to-before (opposite c) k xs i (omega arith) l)
 
 -- from the last of k changes on their colour stands
-behind : (c : Colour) (k : ℕ) {width low : ℕ} {row : List ℕ} (i : ℕ) → Rising width low row → k < length row → get_or row k 0 ≤ i → colour_at c (take k row) i ≡ turns k c
+behind : {width : ℕ} (c : Colour) (k : ℕ) {low : ℕ} {row : List ℕ} (i : ℕ) → Rising width low row → k < length row → get_or row k 0 ≤ i → colour_at c (take k row) i ≡ turns k c
 unfolding colour_at turns
 behind c k i none h l = absurd (omega arith)
 behind c zero i (some a b r) h l = refl
@@ -69,7 +69,7 @@ behind c (suc k) i (some {x = x} a b r) h l =
     let far = change-low k r (omega arith) in
     rw (le-ltb i x (omega (arith, far))) (behind (opposite c) k i r (omega arith) l ∙ turns-inside k c)
 
-behind-one : (c : Colour) (k : ℕ) {width low : ℕ} {row : List ℕ} (i : ℕ) → Rising width low row → k < length row → get_or row k 0 ≤ i
+behind-one : {width : ℕ} (c : Colour) (k : ℕ) {low : ℕ} {row : List ℕ} (i : ℕ) → Rising width low row → k < length row → get_or row k 0 ≤ i
     → colour_at c (take (suc k) row) i ≡ turns (suc k) c
 unfolding colour_at turns
 behind-one c k i none h l = absurd (omega arith)
@@ -86,7 +86,7 @@ whole_before c zero (x ∷ xs) i h l = rw (lt-ltb i x l)
 whole_before c (suc k) (x ∷ xs) i h l = ap (λ (d : Colour). cond (ltb i x) c d) (whole_before (opposite c) k xs i (omega arith) l)
 
 -- behind the width that of all its changes
-behind-row : (c : Colour) {width low : ℕ} {row : List ℕ} → Rising width low row → (i : ℕ) → width ≤ i → colour_at c row i ≡ turns (length row) c
+behind-row : {width : ℕ} (c : Colour) {low : ℕ} {row : List ℕ} → Rising width low row → (i : ℕ) → width ≤ i → colour_at c row i ≡ turns (length row) c
 unfolding colour_at turns
 behind-row c none i h = refl
 behind-row c (some {x = x} {xs = xs} a b r) i h = rw (le-ltb i x (omega arith)) (behind-row (opposite c) r i h ∙ turns-inside (length xs) c)

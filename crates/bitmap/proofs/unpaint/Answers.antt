@@ -40,7 +40,7 @@ rows-requires c =
     let zero = sym c.if-number-ne-COMPLETE.false ∙ c.refused-number.ensures in
     lies-recorded c.args.changes.now c.args.ends.now c.args.one c.args.columns c.args.stride c.args.rows
     c.args.src.now zero c.if-ends-count.false
-    (omega (arith, c.before.fits.columns)) c.rows-entries.ensures
+    (omega (arith, c.ranges.columns.fits)) c.rows-entries.ensures
     c.if-room-entries.false
 
 pub returns : goal.returns

@@ -24,13 +24,13 @@ returns-then-not-can_move c = record {
 pub move_boxes-requires : goal.move_boxes-requires
 move_boxes-requires c =
     let a = c.args in
-    let k = can-move a.form a.rows a.across a.down a.boxes.now a.places.now (length a.moved-boxes.now) (length a.moved-places.now) (omega arith) (omega arith) (sym c.can_move.ensures ∙ not-false _ c.if-not-can_move.false-raw) in
+    let k = can-move a.form a.rows a.across a.down a.boxes.now a.places.now (length a.moved_boxes.now) (length a.moved_places.now) (omega arith) (omega arith) (sym c.can_move.ensures ∙ not-false _ c.if-not-can_move.false-raw) in
     (k.boxes-go, k.roomy)
 
 pub move_places-requires : goal.move_places-requires
 move_places-requires c =
     let a = c.args in
-    let k = can-move a.form a.rows a.across a.down a.boxes.now a.places.now (length a.moved-boxes.now) (length a.moved-places.now) (omega arith) (omega arith) (sym c.can_move.ensures ∙ not-false _ c.if-not-can_move.false-raw) in
+    let k = can-move a.form a.rows a.across a.down a.boxes.now a.places.now (length a.moved_boxes.now) (length a.moved_places.now) (omega arith) (omega arith) (sym c.can_move.ensures ∙ not-false _ c.if-not-can_move.false-raw) in
     (k.places-go, k.roomy')
 
 pub returns : goal.returns

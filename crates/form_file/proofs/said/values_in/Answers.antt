@@ -4,7 +4,7 @@ use Prim.Native.Nat.{◌-◌, ◌≤◌, ◌<◌}
 use native.Mathlib.Omega.{arith}
 use lib.ListN.{length}
 use Rattle.form_file.proofs.Numbering.{told-first, told-next, told-last, word-ends, More, more-not, more-put, more-past}
-use Rattle.form_file.proofs.said.values_in.Goals.{After-word_end-end, After-word_start-at-in-loop-at}
+use Rattle.form_file.proofs.said.values_in.Goals.{After-word_end-end, After-word_start-at-in-loop-at, then-value-ge-NONE, else-value-ge-NONE+then-count-lt5, else-value-ge-NONE+else-count-lt5}
 use Rattle.form_file.proofs.said.values_in.Goals as goal
 
 -- a word lies in the line, and has a byte
@@ -18,9 +18,9 @@ more : (c : After-word_start-at-in-loop-at)
 more c =
     let l = c.loop-at in
     elim c.if-value-ge-NONE.branch [
-      | then-value-ge-NONE w ↦ more-not l.n l.count l.held _ l.invariant.long _ _ w.if-value-ge-NONE.true w.held-is w.n-is
-      | else-value-ge-NONE+then-count w ↦ more-put l.n l.count l.held _ l.invariant.long _ _ (omega arith) w.held-is w.if-count.true w.n-is
-      | else-value-ge-NONE+else-count w ↦ more-past l.n l.count l.held _ l.invariant.long _ _ (omega arith) w.held-is w.if-count.false w.n-is
+      | then-value-ge-NONE w ↦ more-not l.n l.count l.held _ l.invariant.long _ _ w.if-value-ge-NONE.true w.n-is w.held-is
+      | else-value-ge-NONE+then-count-lt5 w ↦ more-put l.n l.count l.held _ l.invariant.long _ _ (omega arith) w.held-is w.if-count-lt5.true w.n-is
+      | else-value-ge-NONE+else-count-lt5 w ↦ more-past l.n l.count l.held _ l.invariant.long _ _ (omega arith) w.held-is w.if-count-lt5.false w.n-is
     ]
 
 pub loop-at-init : goal.loop-at-init

@@ -18,7 +18,7 @@ joined : (c : After-struct_known-in-loop-later-1) →
     let a = c.args in
     Joined a.src.now a.first.count a.first.at (c.loop-later.count + c.read_all_eols-later.result.count) c.read_all_eols-later.result.at
 joined c =
-    joined-more c.loop-later.invariant (tag c.before.before) c.read_all_eols-later.result c.read_all_eols-later.ensures c.if-later-eq0.false
+    joined-more c.loop-later.invariant (sym c.is_one.ensures ∙ c.loop-later-test.true) c.read_all_eols-later.result c.read_all_eols-later.ensures c.if-later-eq0.false
 
 pub loop-later-init : goal.loop-later-init
 loop-later-init c = joined-first c.requires

@@ -4,7 +4,7 @@ use Rattle.ledger.proofs.Reasons.{missing-box, missing-page, missing-tick, missi
 use Rattle.ledger.proofs.phrases.missing_at.Goals as goal
 
 pub returns-then-which-lt20 : goal.returns-then-which-lt20
-returns-then-which-lt20 c = missing-box c.args.v (omega arith) c.one-units.ensures.0
+returns-then-which-lt20 c = missing-box c.args.v (omega arith) c.one-units.ensures.value
 
 pub returns-then-which-eq20 : goal.returns-then-which-eq20
 returns-then-which-eq20 c = missing-page c.args.v (omega arith)

@@ -8,4 +8,4 @@ use Rattle.ledger.proofs.phrases.one.Reads as one-reads
 use Rattle.ledger.proofs.said.total_at.Goals as goal
 
 pub returns : goal.returns
-returns c = total-as c.args.b c.one.ensures.0 c.one-2.ensures.0 c.is_passed.ensures
+returns c = total-as c.args.b c.one.ensures.value c.one-2.ensures.value c.is_passed.ensures
