@@ -6,14 +6,14 @@ use borrow.Author.Tests.{not-true, not-false}
 use Rattle.exports.proofs.RowState.{no-state, no-encoding, called}
 use Rattle.exports.specs.RowState.{mode_of, StateTold, Ended}
 use Rattle.exports.specs.Exports.{settings_for}
+use Rattle.exports.proofs.ccitt_read_row.Goals.{then-encoding-gt2+else-not-has_ended, else-encoding-gt2}
 use Rattle.exports.proofs.ccitt_read_row.Goals as goal
 
 pub returns-then-not-has_ended : goal.returns-then-not-has_ended
 returns-then-not-has_ended c =
     let a = c.args in
-    let st = c.held-1.given in
     no-encoding a.src.now (settings_for a.columns a.rows a.end_of_block a.end_of_line a.rows_are_byte_aligned (mode_of a.encoding) a.strict a.exact a.plain) a.encoding a.state.now a.first.now a.second.now
-    st.0.0 (subst (StateTold a.state.now) st.1 c.state_in.ensures) c.if-encoding-gt2.true (subst (Ended st.0.0) (not-true c.has_ended.result c.if-not-has_ended.true-raw) c.has_ended.ensures) _ c.refused-then-not-has_ended.ensures
+    c.in-State.held (subst (StateTold a.state.now) c.in-State.is c.state_in.ensures) c.if-encoding-gt2.true (subst (Ended c.in-State.held) (not-true c.has_ended.result c.if-not-has_ended.true-raw) c.has_ended.ensures) _ c.refused-then-not-has_ended.ensures
 
 pub put-requires : goal.put-requires
 put-requires c = sym (ap length (subst (StateTold c.args.state.now) c.in-State.is c.state_in.ensures))
@@ -27,8 +27,7 @@ returns-in-NoState c =
 pub returns-after-encoding-gt2 : goal.returns-after-encoding-gt2
 returns-after-encoding-gt2 c =
     let a = c.args in
-    let st = c.held-1.given in
     called a.src.now (settings_for a.columns a.rows a.end_of_block a.end_of_line a.rows_are_byte_aligned (mode_of a.encoding) a.strict a.exact a.plain) a.encoding a.state.now a.first.now a.second.now
-    st.0.0 (subst (StateTold a.state.now) st.1 c.state_in.ensures)
-    (elim c.if-encoding-gt2.branch [ then-encoding-gt2+else-is_ended w ↦ inr (subst (Ended st.0.0) (not-false w.is_ended.result w.if-not-is_ended.false-raw) w.is_ended.ensures) | else-encoding-gt2 w ↦ inl w.if-encoding-gt2.false ])
+    c.in-State.held (subst (StateTold a.state.now) c.in-State.is c.state_in.ensures)
+    (elim c.if-encoding-gt2.branch [ then-encoding-gt2+else-not-has_ended w ↦ inr (subst (Ended c.in-State.held) (not-false w.has_ended.result w.if-not-has_ended.false-raw) w.has_ended.ensures) | else-encoding-gt2 w ↦ inl w.if-encoding-gt2.false ])
     c.read_row-step.result _ _ (rw c.mode.ensures at c.read_row-step.ensures) _ c.put.ensures

@@ -10,8 +10,7 @@ use Rattle.exports.proofs.ccitt_read_units.Goals as goal
 
 pub put-requires : goal.put-requires
 put-requires c =
-    let r = c.reading-1.given in
-    sym (ap length (subst (ReadingTold c.args.state.now) r.1 c.reading_in.ensures).1) ∙ sixteen r.0.0
+    sym (ap length (subst (ReadingTold c.args.state.now) c.in-Held.is c.reading_in.ensures).1) ∙ sixteen c.in-Held.reading
 
 pub returns-in-NoReading : goal.returns-in-NoReading
 returns-in-NoReading c =
@@ -22,7 +21,6 @@ returns-in-NoReading c =
 pub returns-in-Held : goal.returns-in-Held
 returns-in-Held c =
     let a = c.args in
-    let r = c.reading-1.given in
-    let told = subst (ReadingTold a.state.now) r.1 c.reading_in.ensures in
+    let told = subst (ReadingTold a.state.now) c.in-Held.is c.reading_in.ensures in
     called a.src.now (settings_for a.columns a.rows a.end_of_block false a.rows_are_byte_aligned Group4 a.strict a.exact a.plain) a.changes.now a.ends.now a.marks.now a.state.now a.n
-    r.0.0 told.0 told.1 c.read_units-turn.result _ _ _ c.read_units-turn.ensures _ c.put.ensures
+    c.in-Held.reading told.0 told.1 c.read_units-turn.result _ _ _ c.read_units-turn.ensures _ c.put.ensures

@@ -26,4 +26,7 @@ pub returns-in-6 : goal.returns-in-6
 returns-in-6 c = let a = c.args in ap (λ (n : ℕ). end_from (ended_numbers n a.place a.bytes a.loose)) (let q : 6 ≡ a.number = omega arith in q)
 
 pub returns-in_default : goal.returns-in_default
-returns-in_default c = let a = c.args in let r = c.in_default.rest in end-other (ended_numbers a.number a.place a.bytes a.loose) r.0.0.0.0.0.1 r.0.0.0.0.1 r.0.0.0.1 r.0.0.1 r.0.1 r.1
+returns-in_default c =
+    let a = c.args in
+    end-other (ended_numbers a.number a.place a.bytes a.loose)
+    (λ e. omega arith) (λ e. omega arith) (λ e. omega arith) (λ e. omega arith) (λ e. omega arith) (λ e. omega arith)

@@ -8,8 +8,6 @@ use Rattle.rules.proofs.Bits.{both_true}
 use Rattle.exports.proofs.UnitState.{open-zeros, open-flags, open-words, open-phase, open_is}
 use Rattle.exports.proofs.unit_state.open_in.Goals as goal
 
-pub open-in-spec : {M : Type 1} → statement M
-
 pub returns-then-not-zeros : goal.returns-then-not-zeros
 returns-then-not-zeros c = open-zeros c.args.state.now c.requires.1 (sym c.zeros.ensures ∙ not-true c.zeros.result c.if-not-zeros.true-raw)
 

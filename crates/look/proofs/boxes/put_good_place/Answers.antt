@@ -6,4 +6,4 @@ use mathlib.Core.Path.{sym}
 use Rattle.look.proofs.boxes.put_good_place.Goals as goal
 
 pub returns : goal.returns
-returns c = tells_as (place-as (page_in c.args.columns c.args.changes.now c.args.ends.now) c.args.b c.args.kind c.args.asked c.args.line (sym (length-rows_in 0 c.args.changes.now c.args.ends.now)) c.in_box-black.ensures c.place_state-k.ensures.0) c.put_edges.ensures
+returns c = tells_as (place-as (page_in c.args.columns c.args.changes.now c.args.ends.now) c.args.b c.args.kind c.args.asked c.args.line (sym (length-rows_in 0 c.args.changes.now c.args.ends.now)) c.in_box-black.ensures c.place_state-k.ensures.value) c.put_edges.ensures

@@ -4,13 +4,13 @@ use native.Mathlib.Omega.{arith}
 use Rattle.look.proofs.boxes.state.Goals as goal
 
 pub returns-then-rows-b : goal.returns-then-rows-b
-returns-then-rows-b c = (box-unread c.args.rows c.args.b c.args.black c.args.doubt c.args.tick (omega arith), omega arith)
+returns-then-rows-b c = record { value = box-unread c.args.rows c.args.b c.args.black c.args.doubt c.args.tick (omega arith); upper_bound = omega arith }
 
 pub returns-then-black-doubt : goal.returns-then-black-doubt
-returns-then-black-doubt c = (box-empty c.args.rows c.args.b c.args.black c.args.doubt c.args.tick (omega arith) (omega arith), omega arith)
+returns-then-black-doubt c = record { value = box-empty c.args.rows c.args.b c.args.black c.args.doubt c.args.tick (omega arith) (omega arith); upper_bound = omega arith }
 
 pub returns-then-black-tick : goal.returns-then-black-tick
-returns-then-black-tick c = (box-doubt c.args.rows c.args.b c.args.black c.args.doubt c.args.tick (omega arith) (omega arith) (omega arith), omega arith)
+returns-then-black-tick c = record { value = box-doubt c.args.rows c.args.b c.args.black c.args.doubt c.args.tick (omega arith) (omega arith) (omega arith); upper_bound = omega arith }
 
 pub returns : goal.returns
-returns c = (box-ticked c.args.rows c.args.b c.args.black c.args.doubt c.args.tick (omega arith) (omega arith) (omega arith), omega arith)
+returns c = record { value = box-ticked c.args.rows c.args.b c.args.black c.args.doubt c.args.tick (omega arith) (omega arith) (omega arith); upper_bound = omega arith }

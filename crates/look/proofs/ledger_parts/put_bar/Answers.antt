@@ -3,4 +3,4 @@ use Rattle.look.proofs.Stating.{tells_as, bar-as}
 use Rattle.look.proofs.ledger_parts.put_bar.Goals as goal
 
 pub returns : goal.returns
-returns c = tells_as (bar-as c.args.v c.args.b c.less-before.ensures c.one-k.ensures.0) c.tell_with.ensures
+returns c = tells_as (bar-as c.args.v c.args.b c.less-before.ensures c.one-k.ensures.value) c.tell_with.ensures

@@ -5,4 +5,4 @@ use Rattle.ledger.proofs.Whole.{head_as}
 use Rattle.look.proofs.ledger_parts.put_row.Goals as goal
 
 pub returns : goal.returns
-returns c = tells_as (row_as c.args.name.now c.args.v c.args.b c.numbers-ns.ensures c.one-looked.ensures.0 (head_as c.args.v c.args.b c.one-looked.ensures.0 c.one.ensures.0 c.is_passed.ensures)) c.put_named.ensures
+returns c = tells_as (row_as c.args.name.now c.args.v c.args.b c.numbers-ns.ensures c.one-looked.ensures.value (head_as c.args.v c.args.b c.one-looked.ensures.value c.one.ensures.value c.is_passed.ensures)) c.put_named.ensures

@@ -7,4 +7,4 @@ pub returns-then-is_there : goal.returns-then-is_there
 returns-then-is_there c = let a = c.args in found-there a.leftward a.upward a.across a.down (sym c.is_there.ensures ∙ c.if-is_there.true)
 
 pub returns : goal.returns
-returns c = let a = c.args in found-moved a.leftward a.upward a.across a.down (sym c.is_there.ensures ∙ c.if-is_there.false) c.one.ensures.0 c.one-2.ensures.0
+returns c = let a = c.args in found-moved a.leftward a.upward a.across a.down (sym c.is_there.ensures ∙ c.if-is_there.false) c.one.ensures.value c.one-2.ensures.value

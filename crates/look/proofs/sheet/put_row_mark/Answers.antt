@@ -12,4 +12,4 @@ pub returns-then-v-eq0 : goal.returns-then-v-eq0
 returns-then-v-eq0 c = tells-never (ap not (eq-eqb c.args.v.row 0 (omega arith)))
 
 pub returns : goal.returns
-returns c = tells-can (ap not (ne_eqb c.args.v.row 0 (λ z. omega arith))) (at-as ((c.args.v.row - 1) ∷ c.args.columns ∷ c.args.v.row ∷ 0 ∷ 0 ∷ 0 ∷ 0 ∷ 0 ∷ 0 ∷ []) 43 c.one-k.ensures.0) c.tell_with.ensures
+returns c = tells-can (ap not (ne_eqb c.args.v.row 0 (λ z. omega arith))) (at-as ((c.args.v.row - 1) ∷ c.args.columns ∷ c.args.v.row ∷ 0 ∷ 0 ∷ 0 ∷ 0 ∷ 0 ∷ 0 ∷ []) 43 c.one-k.ensures.value) c.tell_with.ensures

@@ -5,4 +5,4 @@ use mathlib.Core.Path.{◌∙◌}
 use Rattle.look.proofs.sheet.put_sheet.Goals as goal
 
 pub returns : goal.returns
-returns c = tells_as (sheet-as _ c.args.columns c.args.rows c.args.most c.larger-high.ensures ∙ at-as (sheet_numbers c.args.columns c.args.rows c.args.most) 26 c.one.ensures.0) c.tell_with.ensures
+returns c = tells_as (sheet-as _ c.args.columns c.args.rows c.args.most c.larger-high.ensures ∙ at-as (sheet_numbers c.args.columns c.args.rows c.args.most) 26 c.one.ensures.value) c.tell_with.ensures
