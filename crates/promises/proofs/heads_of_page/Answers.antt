@@ -11,7 +11,7 @@ pub returns : goal.returns
 returns c =
     let a = c.args in
     let d = c.decode-page in
-    let form-good = c.before.well-formed.1.1.1.1.1.0 in
+    let form-good = c.well_formed.1.1.1.1.1.0 in
     heads-after a.src.now a.settings _ a.form a.least a.quota _ _ _ (omega arith)
     (record { ten = form-good.1.0.1; two = λ digit h. form-row a.form _ digit form-good.1.1 (omega (arith, form-good.1.0.1, h)) })
     d.ensures c.front_ends.ensures c.front_marks.ensures
