@@ -1,5 +1,6 @@
 // The bit reader of bit_reader.rs. The cursor is the offset of a bit in the data, a number that callers carry.
 #![tactic(auto)]
+
 pub mod buffer;
 mod word;
 pub mod zeros;

@@ -11,14 +11,13 @@ use Rattle.rules.specs.Machine.{more, done}
 use Rattle.rules.specs.Bits.{bits_of, window, peek}
 use Rattle.rules.specs.Codes.{Colour}
 use Rattle.rules.specs.Lookup.{Entry, valid, invalid, lookup, entry_number, lookup_table}
-use Rattle.rules.specs.Runs.{ok, sum, run_step, read_run}
+use Rattle.rules.specs.Runs.{ok, sum, run_step}
 use Rattle.rules.proofs.Bits.{length-bits_of}
 use Rattle.rules.proofs.Codes.{shape}
 use Rattle.rules.proofs.Lookup.{length-tabulate, lookup-valid, table_at}
 use Rattle.rules.proofs.Units.{one_unit, two-units}
 use Rattle.bit_reader.specs.Loaded.{Ahead}
 use Rattle.bit_reader.proofs.Window.{ahead-first, ahead-shift}
-use Rattle.codes.specs.declared.front.Front.{Front}
 use Rattle.codes.specs.Fronts.{FrontRun, no_front, behind_code, front_of, Fronted}
 use Rattle.codes.proofs.Runs.{steps_by, step_by, Summing, no-sum, sum-stops, sum_goes}
 

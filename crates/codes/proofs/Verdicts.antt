@@ -12,7 +12,6 @@ use borrow.Author.Tests.{leb-true, leb-false, eq-eqb, ne_eqb, eqb-true, eqb-fals
 use Rattle.rules.specs.Bits.{bits_for, peek}
 use Rattle.rules.specs.Codes.{Colour, white, black, Code, code_bits, code_at, common_makeup, terminating_of, makeup_of, codes_of}
 use Rattle.rules.specs.Lookup.{begins}
-use Rattle.rules.specs.Machine.{more}
 use Rattle.rules.specs.Plain.{Candidate, candidate, candidates, agreeing, Verdict, no_code, is_code, more_bits, or_more_bits, verdict}
 use Rattle.rules.proofs.Bits.{peek-lt, peek-high, peek-bits, length-bits_for}
 use Rattle.rules.proofs.Codes.{Shape, shape, length-code_bits}

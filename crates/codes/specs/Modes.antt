@@ -1,11 +1,10 @@
 -- What the answer of the mode reader means.
-use Rattle.std.specs.Prelude.{ℕ, suc, ℤ, pos, negsuc}
+use Rattle.std.specs.Prelude.{suc, ℤ, pos, negsuc}
 use Rattle.rules.specs.Runs.{Res, ok, fault}
 use Rattle.rules.specs.Modes as Rule
 use Rattle.rules.specs.Modes.{pass, horizontal, VR, VL, Moded, moded}
 use Rattle.answer.specs.Answer.{number_of}
 use Rattle.codes.specs.declared.mode.ModeKind.{ModeKind}
-use Rattle.codes.specs.declared.mode.ModeKind.TheVariants as ModeKind
 use Rattle.codes.specs.declared.mode.Mode.{Mode}
 use Rattle.codes.specs.declared.mode.Mode.TheVariants.{Pass, Horizontal, Vertical, Bad}
 

@@ -11,11 +11,9 @@ use Rattle.bit_reader.specs.Loaded.{Loaded}
 use Rattle.bit_reader.specs.declared.buffer.Buffer.{Buffer}
 use Rattle.answer.specs.Answer.{number_of}
 use Rattle.codes.specs.declared.plain.Found.{Found}
-use Rattle.codes.specs.declared.plain.Found.TheVariants as Found
 use Rattle.codes.specs.declared.run.Run.{Run}
 use Rattle.codes.specs.declared.run.Run.TheVariants.{Length, Bad}
 use Rattle.codes.specs.declared.run.RunCode.{RunCode}
-use Rattle.codes.specs.declared.run.RunCode.TheVariants as RunCode
 
 abbrev pub run_of : Run → Res Sum
 run_of (Length n b) = ok (sum b.at n)

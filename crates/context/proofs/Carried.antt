@@ -15,10 +15,8 @@ use Rattle.rules.specs.Pages.{overlaid}
 use Rattle.rules.proofs.Grows.{Grows, GrowsTo, push-grows, behind}
 use Rattle.context.specs.declared.line.Line.{Line}
 use Rattle.context.specs.declared.line.Push.{Push}
-use Rattle.context.specs.declared.line.Push.TheVariants as Push
 use Rattle.context.specs.declared.step.Rules as Code
 use Rattle.context.specs.declared.step.Step.{Step}
-use Rattle.context.specs.declared.step.Step.TheVariants as Step
 use Rattle.context.specs.State.{line_at, line_for, turned_for, rules_for, push_rules, Holds, changes_of, push_for, Comes, Pushes, colour_number, flag_number}
 use Rattle.context.specs.Outcome.{place_for, step_for, Steps}
 use Rattle.context.proofs.State.{line-for, at_line, overlaid-same}

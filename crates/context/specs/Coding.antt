@@ -10,10 +10,8 @@ use Rattle.tables.specs.Pairs.{pair_table}
 use Rattle.tables.specs.Tables.{colour_of, Lookups}
 use Rattle.context.specs.declared.line.Line.{Line}
 use Rattle.context.specs.declared.line.Push.{Push}
-use Rattle.context.specs.declared.line.Push.TheVariants as Push
 use Rattle.context.specs.declared.step.Rules.{Rules}
 use Rattle.context.specs.declared.step.Step.{Step}
-use Rattle.context.specs.declared.step.Step.TheVariants as Step
 use Rattle.context.specs.declared.reference.Reference.{Reference}
 use Rattle.context.specs.declared.reference.Reference.TheVariants.{Lent, Kept}
 use Rattle.context.specs.State.{line_at, turned_for, rules_for, changes_of}

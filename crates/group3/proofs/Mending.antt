@@ -15,7 +15,6 @@ use Rattle.rules.specs.Group3.{kept, whitened, recovered}
 use Rattle.rules.specs.Pages.{overlaid}
 use Rattle.context.specs.declared.line.Line.{Line}
 use Rattle.context.specs.declared.line.Push.{Push}
-use Rattle.context.specs.declared.line.Push.TheVariants as Push
 use Rattle.context.specs.State.{rules_for, changes_of, Holds, Comes, Pushes}
 use Rattle.context.proofs.Carried.{Carries, carries-push, push-place, push-on, push-stop}
 use Rattle.context.proofs.RowPart.{row-lent, row_back, back-front, back-row}

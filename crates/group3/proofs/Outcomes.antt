@@ -21,7 +21,6 @@ use Rattle.rules.proofs.Rows.{line3-damaged}
 use Rattle.bit_reader.specs.Cursor.{most_bits}
 use Rattle.context.specs.declared.line.Line.{Line}
 use Rattle.context.specs.declared.step.Step.{Step}
-use Rattle.context.specs.declared.step.Step.TheVariants as Step
 use Rattle.context.specs.State.{line_for, changes_of}
 use Rattle.context.specs.Coding.{StepsAt}
 use Rattle.context.proofs.State.{mark-is}

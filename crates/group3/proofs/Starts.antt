@@ -1,7 +1,7 @@
 -- Where a line begins, by its tag bit, and its reading into the store. Assumes nothing.
 use mathlib.Core.Path.{◌≡◌, refl, sym, ap, ◌∙◌, subst}
 use mathlib.Core.Bool.{Bool, true, false}
-use mathlib.Core.List.{List, [], ◌++◌}
+use mathlib.Core.List.{List, ◌++◌}
 use Prim.Native.Nat.{ℕ, ◌+◌, ◌-◌, ◌*◌, ◌<◌}
 use native.Mathlib.Omega.{arith}
 use native.Mathlib.Numerals.{add-one}
@@ -15,7 +15,6 @@ use Rattle.rules.specs.Rows.{Settings, rules_of}
 use Rattle.rules.specs.Group3.{Tagging, untagged, tagged, tagged_line, line_of_tag, line3}
 use Rattle.rules.proofs.Bits.{length-bits_of}
 use Rattle.bit_reader.specs.Loaded.{Loading}
-use Rattle.context.specs.declared.line.Line.{Line}
 use Rattle.context.specs.declared.step.Step.{Step}
 use Rattle.context.specs.declared.step.Step.TheVariants.{Stop}
 use Rattle.context.specs.State.{new_for, rules_for}

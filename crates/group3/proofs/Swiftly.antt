@@ -33,7 +33,7 @@ use Rattle.one_line.specs.White.{under_white}
 use Rattle.one_line.proofs.WhiteLine.{white-line, under-white}
 use Rattle.group3.specs.declared.eob.Before.TheVariants.{Line}
 use Rattle.group3.specs.Tags.{is_tagged}
-use Rattle.group3.specs.Ahead.{aligned_from, single_at, usual, before_of, before_in}
+use Rattle.group3.specs.Ahead.{single_at, usual, before_of, before_in}
 use Rattle.context.proofs.RowPart.{row-lent, row_back}
 use Rattle.swift_loops.specs.declared.fast_1d.BeforePair.{BeforePair}
 use Rattle.swift_loops.specs.declared.fast_1d.AfterPair.{AfterPair}

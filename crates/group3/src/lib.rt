@@ -1,5 +1,6 @@
 // One row of a Group 3 page, 1D or 2D: what comes before it, its line, and the recovery of a damaged one (group3.rs).
 #![tactic(auto)]
+
 mod eob;
 mod eols;
 mod line;

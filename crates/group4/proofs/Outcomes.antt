@@ -22,7 +22,6 @@ use Rattle.codes.specs.declared.eol.Eols.{Eols}
 use Rattle.codes.specs.Eols.{eols_of}
 use Rattle.context.specs.declared.line.Line.{Line}
 use Rattle.context.specs.declared.step.Step.{Step}
-use Rattle.context.specs.declared.step.Step.TheVariants as Step
 use Rattle.context.specs.State.{changes_of}
 use Rattle.context.specs.Coding.{Lines, Lined}
 use Rattle.context.proofs.State.{mark-is}

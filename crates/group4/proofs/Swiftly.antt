@@ -2,14 +2,13 @@
 use mathlib.Core.Path.{◌≡◌, refl, sym, ap, ◌∙◌, subst}
 use mathlib.Core.Bool.{Bool, true, false, cond, not, ◌&&◌}
 use mathlib.Core.List.{List, []}
-use Prim.Native.Nat.{ℕ, zero, suc, ◌+◌, ◌-◌, ◌*◌, ◌≤◌, ◌<◌}
+use Prim.Native.Nat.{ℕ, zero, suc, ◌+◌, ◌-◌, ◌*◌, ◌<◌}
 use native.Mathlib.Omega.{arith}
 use lib.Dec.{eqb, leb}
 use lib.ListN.{length, drop}
 use borrow.Author.Tests.{not-true, eqb-true, eqb-false, lt-leb}
 use Rattle.rules.specs.Bits.{bits_of, peek}
 use Rattle.rules.specs.Codes.{black}
-use Rattle.rules.specs.Eols as Eol
 use Rattle.rules.specs.Lines.{line, went, two, read_line}
 use Rattle.rules.specs.Rows as Rule
 use Rattle.rules.specs.Rows.{RowOut, rules_of, aligned_if}

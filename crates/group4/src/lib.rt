@@ -1,5 +1,6 @@
 // One row of a Group 4 page: the EOLs before it, the page's end, and the line (group4.rs).
 #![tactic(auto)]
+
 ghost use Rattle.std.specs.Prelude.{◌≡◌, ◌&&◌, [], ◌+◌, ◌-◌, ◌*◌, ◌≤◌, leb, length};
 ghost use Rattle.rules.specs.Bits.{bits_of};
 ghost use Rattle.rules.specs.Group4.{eols_before, over, row4};

@@ -24,12 +24,10 @@ use Rattle.codes.specs.declared.mode.Mode.{Mode}
 use Rattle.codes.specs.declared.mode.Mode.TheVariants.{Pass, Horizontal, Vertical, Bad}
 use Rattle.context.specs.declared.line.Line.{Line}
 use Rattle.context.specs.declared.line.Push.{Push}
-use Rattle.context.specs.declared.line.Push.TheVariants as Push
 use Rattle.context.specs.declared.offset.Move.{Move}
 use Rattle.context.specs.declared.offset.Move.TheVariants.{By, Over}
 use Rattle.context.specs.declared.step.Rules as Code
 use Rattle.context.specs.declared.step.Step.{Step}
-use Rattle.context.specs.declared.step.Step.TheVariants as Step
 use Rattle.context.specs.State.{line_at, line_for, turned_for, rules_for, Holds, changes_of, Comes, Pushes}
 use Rattle.context.specs.Outcome.{place_for, Steps}
 use Rattle.context.specs.Offset.{Offset, move_by}

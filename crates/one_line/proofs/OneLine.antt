@@ -1,5 +1,5 @@
 -- The tests and the reading of one line, each way out. Assumes nothing.
-use mathlib.Core.Path.{◌≡◌, refl, sym, ap, ◌∙◌, subst}
+use mathlib.Core.Path.{◌≡◌, refl, sym, ap, ◌∙◌}
 use mathlib.Core.Bool.{Bool, true, false}
 use mathlib.Core.List.{List, [], ◌++◌, append-nil}
 use Prim.Native.Nat.{ℕ, ◌+◌, ◌*◌, ◌≤◌, ◌<◌}
@@ -19,7 +19,6 @@ use Rattle.context.specs.declared.step.Step.{Step}
 use Rattle.context.specs.declared.step.Step.TheVariants.{On, Stop}
 use Rattle.context.specs.declared.reference.Reference.TheVariants.{Lent}
 use Rattle.context.specs.State.{rules_for, changes_of}
-use Rattle.context.specs.Outcome.{step_for}
 use Rattle.context.specs.Coding.{Lines, Lined}
 use Rattle.one_line.specs.OneLine.{Answers, past_at, ReadOne}
 use Rattle.context.proofs.State.{mark-is}

@@ -25,9 +25,7 @@ use Rattle.codes.specs.Runs.{RunRead}
 use Rattle.codes.specs.declared.run.Run.TheVariants.{Length, Bad}
 use Rattle.context.specs.declared.line.Line.{Line}
 use Rattle.context.specs.declared.line.Push.{Push}
-use Rattle.context.specs.declared.line.Push.TheVariants as Push
 use Rattle.context.specs.declared.step.Rules as Code
-use Rattle.context.specs.declared.step.Step.TheVariants as Step
 use Rattle.context.specs.declared.step.Step.{Step}
 use Rattle.context.specs.State.{line_at, line_for, turned_for, rules_for, changes_of, Holds, Comes, Pushes}
 use Rattle.context.specs.Outcome.{place_for, Steps, runs_from, does_go_on}

@@ -8,8 +8,7 @@ use lib.ListN.{length, take, drop, length-append, length-take, length-drop}
 use lib.Seq.{length-take-le}
 use borrow.Rule.Slice.PartMut.{mid_of, put_mid}
 use Rattle.rules.specs.Bits.{bits_of}
-use Rattle.rules.specs.Lines as Rule
-use Rattle.rules.specs.Lines.{Rules, right_of_a0, head_or, line_end}
+use Rattle.rules.specs.Lines.{right_of_a0, head_or, line_end}
 use Rattle.rules.specs.Pages.{overlaid}
 use Rattle.rules.proofs.Bits.{length-bits_of}
 use Rattle.rules.specs.Rising.{Rising}

@@ -7,10 +7,10 @@ use native.Mathlib.Omega.{arith}
 use lib.ListN.{length, take, drop}
 use borrow.Author.Tests.{eqb-true}
 use Rattle.rules.specs.Bits.{peek}
-use Rattle.rules.specs.Codes.{white, black}
+use Rattle.rules.specs.Codes.{black}
 use Rattle.rules.specs.Modes.{VR, mode_bits, moded, read_mode}
 use Rattle.rules.specs.Runs.{ok}
-use Rattle.rules.specs.Lines.{Rules, Line, line, new_line, went, last_colour, recorded, from_b1, code_2d, two, read_line}
+use Rattle.rules.specs.Lines.{Rules, line, new_line, went, last_colour, recorded, from_b1, code_2d, two, read_line}
 use Rattle.rules.proofs.Modes.{c-right, read-mode}
 use Rattle.rules.proofs.Lines.{moves, line-more, line-done}
 use Rattle.context.specs.declared.reference.Reference.{Reference}

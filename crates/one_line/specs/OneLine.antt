@@ -1,11 +1,10 @@
 -- What the public reading of one line answers, and what it leaves in the lent array.
-use Rattle.std.specs.Prelude.{◌≡◌, Bool, List, ℕ, ◌<◌, length}
+use Rattle.std.specs.Prelude.{◌≡◌, Bool, List, ℕ, length}
 use Rattle.rules.specs.Lines.{Went}
 use Rattle.rules.specs.Pages.{one_line, read_one_line, changes_after}
 use Rattle.answer.specs.Answer.{row_answer_of}
 use Rattle.answer.specs.declared.Answer.{Answer}
 use Rattle.context.specs.declared.step.Step.{Step}
-use Rattle.context.specs.declared.step.Step.TheVariants.{On, Stop}
 use Rattle.context.specs.Outcome.{step_for}
 
 -- a step that stands for an outcome is answered as the outcome is

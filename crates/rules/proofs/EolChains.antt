@@ -8,7 +8,7 @@ use Prim.Native.Nat.{ℕ, zero, suc, ◌+◌, ◌-◌, ◌≤◌, ◌<◌}
 use native.Mathlib.Omega.{arith}
 use lib.Dec.{eqb, leb}
 use lib.ListN.{length, drop, replicate, length-append, length-replicate}
-use borrow.Author.Tests.{le-leb, ne_eqb}
+use borrow.Author.Tests.{le-leb}
 use Rattle.rules.specs.Bits.{front_bit}
 use Rattle.rules.specs.Eols.{zero_run, Eols, eols_to, read_eols, all_eols, EolAt}
 use Rattle.rules.specs.Group3.{between_tags}

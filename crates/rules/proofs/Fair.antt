@@ -9,7 +9,7 @@ use native.Mathlib.Omega.{arith}
 use lib.Dec.{eqb, ltb}
 use lib.ListN.{length, drop}
 use borrow.Author.Tests.{ltb-true, ltb-false, eqb-true}
-use Rattle.rules.specs.Machine.{Out, more, done, run, ends}
+use Rattle.rules.specs.Machine.{Out, more, done, ends}
 use Rattle.rules.specs.Runs.{Res, ok, fault, Sum, sum, run_step, bits_after, answer, read_run}
 use Rattle.rules.specs.Modes.{Mode, pass, horizontal, VR, VL, Moded, read_mode}
 use Rattle.rules.specs.Lines.{Rules, Line, new_line, moved_to, Went, went, failed, after_run, push_run, unless_idle, apply, after_mode, code_2d, one, two, unmoved}

@@ -12,7 +12,7 @@ use Rattle.rules.specs.Rows.{Encoding, Settings, State, page_start, RowOut, row,
 use Rattle.rules.specs.Pages.{Answer, Kept, none_kept, with_row, entries, page_step, row_of, strict_if_exact, read_page, unless_short, decode}
 use Rattle.rules.specs.Standing.{Sure, gives_up, has_given_up}
 use Rattle.rules.proofs.Budget.{Bytes, whole-bytes}
-use Rattle.rules.proofs.Answers.{Allowed, decode-cases}
+use Rattle.rules.proofs.Answers.{decode-cases}
 use Rattle.rules.proofs.PageBack.{entries-snoc}
 use Rattle.rules.proofs.Pages.{page-cases}
 use Rattle.rules.proofs.Untouched.{Keeps, neither}

@@ -1,15 +1,15 @@
 -- A lenient Group 3 page is answered with 1, 2 or 3 only where no EOLs are expected: none were from the start, or they were given up, in a row that is kept or in the one that fails. Elsewhere
 -- a line that fails is recovered. Assumes nothing.
 use mathlib.Core.Path.{◌≡◌, refl, sym, ap, ◌∙◌, subst}
-use mathlib.Core.Bool.{Bool, true, false, cond, not, ◌&&◌, ◌||◌}
+use mathlib.Core.Bool.{Bool, true, false, not, ◌&&◌, ◌||◌}
 use mathlib.Core.Logic.{◌⊎◌, inl, inr, ⊎_elim}
-use mathlib.Core.List.{List, [], ◌∷◌, ◌++◌}
+use mathlib.Core.List.{List}
 use mathlib.Core.Option.{Option, none, some}
 use Prim.Native.Nat.{ℕ, zero, suc, ◌+◌, ◌-◌, ◌≤◌, ◌<◌}
 use native.Mathlib.Omega.{arith}
 use lib.Dec.{eqb, leb, ltb}
 use lib.ListN.{length}
-use borrow.Author.Tests.{eqb-true, eqb-false, ne_eqb, leb-true, leb-false, ltb-false}
+use borrow.Author.Tests.{ne_eqb, leb-false, ltb-false}
 use Rattle.rules.specs.Machine.{Out, more, done, and_then, run}
 use Rattle.rules.specs.Bits.{bits_of}
 use Rattle.rules.specs.Lines.{Rules, Line, Went, went, failed, push}

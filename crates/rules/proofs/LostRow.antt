@@ -9,7 +9,6 @@ use native.Mathlib.Omega.{arith}
 use lib.Dec.{eqb, leb}
 use lib.ListN.{length, drop, length-drop}
 use borrow.Author.Tests.{leb-true, ne_eqb}
-use Rattle.rules.specs.Machine.{run}
 use Rattle.rules.specs.Lines.{Rules, Line, Went, went, failed, one, read_line}
 use Rattle.rules.specs.Eols.{zero_run, eols_to, all_eols, skip_to_eol}
 use Rattle.rules.specs.Group3.{untagged, Before, at_line, at_end, searched, missing, checked, check_eob, before, kept, whitened, after_line3, row_from, row3}

@@ -12,7 +12,7 @@ use lib.Dec.{eqb, leb}
 use lib.ListN.{length, drop, replicate, length-drop}
 use borrow.Author.Tests.{lt-ltb, le-leb, lt-leb, eq-eqb, ne_eqb, eqb-true, eqb-false}
 use Rattle.rules.specs.Bits.{front_bit}
-use Rattle.rules.specs.Lines.{Rules, Line, line, Went, went, failed, push, Kind, one, read_line}
+use Rattle.rules.specs.Lines.{Rules, Line, Went, went, failed, push, Kind, one, read_line}
 use Rattle.rules.specs.Eols.{zero_run, eols_to, all_eols, EolAt}
 use Rattle.rules.specs.Group3.{Tagging, untagged, tagged, with_tags, eols3, Before, at_line, at_end, leading, judged, searched, missing, checked, check_eob, before, tagged_line, line3, kept, whitened, recovered, after_line3}
 use Rattle.rules.specs.Rows.{Settings, State, read_mark, recovered_mark, RowOut, row, rules_of}

@@ -1,19 +1,19 @@
 -- The next EOL from a bit on: the ones before it come too soon to end one, and the search goes past them. From a little further on, the next EOL is the
 -- same. Bits without an EOL, put before one, lead to it. Assumes nothing.
 use mathlib.Core.Path.{◌≡◌, refl, sym, ap, ◌∙◌, subst}
-use mathlib.Core.Bool.{Bool, true, false, ◌&&◌}
+use mathlib.Core.Bool.{Bool, true, false}
 use mathlib.Core.List.{List, [], ◌∷◌, ◌++◌, append_assoc}
 use mathlib.Core.Option.{Option, none, some}
 use Prim.Native.Nat.{ℕ, zero, suc, ◌+◌, ◌-◌, ◌≤◌, ◌<◌}
 use native.Mathlib.Omega.{arith}
 use lib.Dec.{leb, ltb}
-use lib.ListN.{length, drop, replicate, length-append, length-replicate, length-drop}
+use lib.ListN.{length, drop, replicate, length-append, length-replicate}
 use lib.Seq.{drop-drop}
 use borrow.Author.Tests.{lt-ltb, ltb-true, leb-true, leb-false}
 use Rattle.rules.specs.Eols.{zero_run, skip, skip_to_eol, EolAt}
 use Rattle.rules.specs.Damage.{found, no_eol, stray}
 use Rattle.rules.proofs.Bits.{both_true, drop-after}
-use Rattle.rules.proofs.Eols.{zeros-inside, eol-inside, skip-here}
+use Rattle.rules.proofs.Eols.{eol-inside, skip-here}
 use Rattle.rules.proofs.PageBack.{Soon}
 use Rattle.rules.proofs.EolChains.{zeros-then}
 

@@ -1,18 +1,18 @@
 -- A13 in bytes: a page of A3's writer in which any lines are bad; and, as 02 has it, one line, whose place in the page is told. Assumes nothing.
 use mathlib.Core.Path.{◌≡◌, refl, sym, ap, ◌∙◌, subst}
-use mathlib.Core.Bool.{Bool, true, false, ◌&&◌}
+use mathlib.Core.Bool.{Bool, true, false}
 use mathlib.Core.List.{List, [], ◌∷◌, ◌++◌, append_assoc}
 use mathlib.Core.Logic.{inl, inr}
-use Prim.Native.Nat.{ℕ, zero, suc, ◌+◌, ◌≤◌, ◌<◌}
+use Prim.Native.Nat.{ℕ, zero, suc, ◌≤◌, ◌<◌}
 use native.Mathlib.Omega.{arith}
 use lib.ListN.{length, replicate, length-append}
 use Rattle.rules.specs.Bits.{bits_of}
 use Rattle.rules.specs.Lines.{one}
 use Rattle.rules.specs.Rows.{Settings}
-use Rattle.rules.specs.Pages.{Answer, most_bytes, ascends, decode, read_page}
+use Rattle.rules.specs.Pages.{Answer, most_bytes, decode, read_page}
 use Rattle.rules.specs.Write.{line_bits, eol_bits}
 use Rattle.rules.specs.WriteGroup3.{filled, CodedLine, coded_lines, framed, page3_bits}
-use Rattle.rules.specs.Damage.{stray, Arrived, own, other, owns, arrived_bits, arrived_lines, arrived_page, up_to, may_arrive, may_all, Spared, no_lines, unchanged, any_row, all_clean, RoomFor, AllButOne}
+use Rattle.rules.specs.Damage.{stray, Arrived, own, other, owns, arrived_bits, arrived_lines, arrived_page, up_to, may_all, Spared, no_lines, unchanged, any_row, all_clean, RoomFor, AllButOne}
 use Rattle.rules.proofs.Ascending.{rises-ascends}
 use Rattle.rules.specs.Rising.{Rows, no_rows, row_then}
 use Rattle.rules.proofs.ExactPages.{exact-off}

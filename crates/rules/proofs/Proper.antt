@@ -23,9 +23,9 @@ use Rattle.rules.specs.Write.{line_bits, eol_bits, page_bits, to_byte, Written, 
 use Rattle.rules.specs.Lines.{Kind, one, two}
 use Rattle.rules.specs.WriteGroup3.{Layout, bare, filled, mixed, CodedLine, kind_next, left_next, coded_lines, tag_of, framed, page3_bits, write_group3}
 use Rattle.rules.specs.Proper.{Writer, t6, t4, most_fill, most_k, writes_for, writes_rows, writer_bits, padded, taken, Proper, IsProper}
-use Rattle.rules.specs.Proper.{layout_by, layout_in, kind_by, tags_along, zeros_first, k_by, writer_in, page_for, parts_at, parts_nowhere, is_proper, parts_in}
+use Rattle.rules.specs.Proper.{layout_by, layout_in, kind_by, tags_along, zeros_first, k_by, writer_in, page_for, parts_at, parts_nowhere, is_proper}
 use Rattle.rules.proofs.Bits.{both_true, length-bits_of, bits_of-inj}
-use Rattle.rules.proofs.PageBack.{eol-zeros, Plain, whole}
+use Rattle.rules.proofs.PageBack.{eol-zeros, Plain}
 use Rattle.rules.proofs.RoundTrip.{bits-split, bits-append, page-returns, page-written}
 use Rattle.rules.proofs.Writes.{wrote}
 use Rattle.rules.proofs.Store.{length-rows_in}

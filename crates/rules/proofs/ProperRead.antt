@@ -1,21 +1,20 @@
 -- What is held against the rows of a store, behind a reading, is what is said of the page that was read. Assumes nothing.
 use mathlib.Core.Path.{◌≡◌, refl, sym, ap, ap₂, ◌∙◌, subst}
 use mathlib.Core.Bool.{Bool, true, false, ◌&&◌}
-use mathlib.Core.List.{List, [], ◌∷◌, ◌++◌}
-use Prim.Native.Nat.{ℕ, suc, ◌+◌, ◌-◌, ◌*◌, ◌≤◌, ◌<◌}
+use mathlib.Core.List.{List, [], ◌∷◌}
+use Prim.Native.Nat.{ℕ, ◌≤◌, ◌<◌}
 use native.Mathlib.Omega.{arith}
-use lib.Dec.{eqb, ltb}
-use lib.ListN.{length, take, length-append, length-replicate, length-take}
+use lib.ListN.{length, take, length-take}
 use borrow.Author.Tests.{eq-eqb, ne_eqb, le-ltb}
 use Rattle.rules.specs.Answers.{complete, bad_width, bad_rows}
 use Rattle.rules.specs.Bits.{bits_of}
 use Rattle.rules.specs.Lookup.{shared}
 use Rattle.rules.specs.Rising.{Rows}
 use Rattle.rules.specs.Rows.{Encoding, group4, group3_1_d, group3_2_d, Settings}
-use Rattle.rules.specs.Pages.{Answer, refusal, most_bytes, is_too_wide, no_line, decode, places_in, changes_after, ends_after}
+use Rattle.rules.specs.Pages.{Answer, refusal, most_bytes, decode, places_in, changes_after, ends_after}
 use Rattle.rules.specs.Write.{eol_bits, eofb, to_byte, page_bits, rows_bits, rows_in, ends_rise, all_ascend}
 use Rattle.rules.specs.Proper.{writes_rows, writer_bits, writer_in, padded, taken, page_for, parts_at, parts_nowhere, Parting, not_asked, parts_from, is_proper, parts_in}
-use Rattle.rules.proofs.Answers.{Refuses, too_wide, too_long, without_columns, Allowed, decode-cases}
+use Rattle.rules.proofs.Answers.{Refuses, too_wide, too_long, without_columns, decode-cases}
 use Rattle.rules.proofs.Store.{length-ends}
 use Rattle.rules.proofs.Stored.{Holds, decode-held, decode-modest, ends-kept, rows-stored, rows-good}
 

@@ -1,6 +1,7 @@
 // The settings of a page (lib.rs), the state between its rows, and what one row answers. The rows stand one behind the other in a lent
 // store of changes, and the last kept row is the reference.
 #![tactic(auto)]
+
 ghost use Rattle.std.specs.Prelude.{◌≡◌, ◌≤◌};
 ghost use Rattle.rules.specs.Pages.{too_few};
 ghost use Rattle.rules.specs.Rows.{aligned_if, finished};

@@ -1,6 +1,5 @@
 -- V0, VR1 and VL1 codes one behind the other: a line that such a code has turned, and the loop over them. Assumes nothing.
 use mathlib.Core.Path.{◌≡◌, refl, sym, ap, ◌∙◌, subst}
-use mathlib.Core.Bool.{Bool}
 use mathlib.Core.List.{List}
 use Prim.Native.Nat.{ℕ, ◌+◌, ◌-◌, ◌*◌, ◌/◌, ◌%◌, ◌^◌, ◌≤◌, ◌<◌}
 use native.Mathlib.Omega.{arith}
@@ -24,7 +23,7 @@ use Rattle.context.proofs.Placing.{seen_next}
 use Rattle.swift_loops.specs.declared.fast_2d.BetweenCodes.{BetweenCodes}
 use Rattle.swift_loops.specs.declared.fast_2d.TakenCode.{TakenCode}
 use Rattle.swift_loops.specs.declared.fast_2d.TakenCode.TheVariants.{On, Other}
-use Rattle.swift_loops.specs.Swift.{room_in, WalkedIn, TookIn, side_mode, TookAhead, Ready, Asks, Sided, Turned, TurnedOn, GoesAlong}
+use Rattle.swift_loops.specs.Swift.{WalkedIn, TookIn, side_mode, TookAhead, Ready, Asks, Sided, Turned, TurnedOn, GoesAlong}
 use Rattle.swift_loops.specs.Swift.{WentStraight, Turns, WalkedTo}
 use Rattle.swift_loops.proofs.Swiftly.{NotedIn, fits-b1, noted-few, after-length, after-placed, after-reference, room-full}
 use Rattle.swift_loops.proofs.Swiftly.{room-same, walked_none, walked_further, sides-bit, side-bit}

@@ -13,7 +13,6 @@ use Rattle.tables.specs.Pairs.{pair_table}
 use Rattle.bit_reader.proofs.Window.{ahead-shift}
 use Rattle.codes.specs.Fronts.{Fronted}
 use Rattle.codes.specs.declared.front.Front.{Front}
-use Rattle.swift_loops.specs.declared.fast_1d.Pair.{Pair}
 use Rattle.swift_loops.specs.Pairs.{Paired, both_of, entry_pair}
 use Rattle.swift_loops.proofs.Fronting.{front-known, front_reads}
 use Rattle.swift_loops.proofs.PairEntries.{entry-both, entry_runs}

@@ -28,10 +28,9 @@ use Rattle.swift_loops.specs.declared.fast_1d.BetweenRuns.{BetweenRuns}
 use Rattle.swift_loops.specs.declared.fast_1d.BeforePair.{BeforePair}
 use Rattle.swift_loops.specs.declared.fast_1d.Pair.{Pair}
 use Rattle.swift_loops.specs.declared.fast_1d.AfterPair.{AfterPair}
-use Rattle.swift_loops.specs.declared.fast_1d.AfterPair.TheVariants as AfterPair
 use Rattle.context.specs.State.{rules_for, ruling, turns, Holds}
-use Rattle.context.specs.Outcome.{Steps, Reads, Runs}
-use Rattle.swift_loops.specs.Pairs.{PairRun, Known, KnownIn, halting, halt_line, start_at, pace_of, Halts, Ran, Paces, BegunTo, Begins, Filled}
+use Rattle.context.specs.Outcome.{Steps, Runs}
+use Rattle.swift_loops.specs.Pairs.{PairRun, KnownIn, halting, halt_line, start_at, pace_of, Halts, Ran, Paces, BegunTo, Begins, Filled}
 use Rattle.context.proofs.State.{line-for, turns-is, overlaid-same, overlaid-set}
 use Rattle.context.proofs.Carried.{Carries, carries-step, front_of, overlaid-over}
 use Rattle.context.proofs.Goes.{recorded-by, run-goes, run_none}

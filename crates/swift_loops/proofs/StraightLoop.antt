@@ -7,7 +7,6 @@ use native.Mathlib.Omega.{arith}
 use lib.ListN.{length, get_or, take, drop, set, length-take, length-drop, length-set}
 use lib.Seq.{get_or-take, get_or-drop}
 use borrow.Author.Tests.{ne_eqb}
-use Rattle.rules.specs.Bits.{bits_of}
 use Rattle.rules.proofs.Bits.{length-bits_of}
 use Rattle.rules.specs.Lines.{head_or, recorded}
 use Rattle.tables.specs.Tables.{colour_of}

@@ -10,14 +10,14 @@ use lib.Seq.{length-take-le}
 use borrow.Author.Tests.{ne_eqb}
 use Rattle.rules.specs.Machine.{Out, more, done, and_then, run, onward, spent}
 use Rattle.rules.specs.Bits.{bits_of}
-use Rattle.rules.specs.Codes.{Colour, opposite}
+use Rattle.rules.specs.Codes.{opposite}
 use Rattle.rules.specs.Runs.{Res, ok, sum, read_run}
-use Rattle.rules.specs.Modes.{Mode, pass, horizontal, VR, VL, Moded, moded, read_mode}
-use Rattle.rules.specs.Lines.{Rules, Line, Went, went, failed, moved_to, recorded, push_run, code_2d, go_on, line_step}
+use Rattle.rules.specs.Modes.{Mode, horizontal, VR, VL, Moded, moded, read_mode}
+use Rattle.rules.specs.Lines.{Rules, Line, Went, went, failed, moved_to, recorded, code_2d, go_on, line_step}
 use Rattle.rules.specs.Counts.{of_second, behind_mode, behind_code, of_code}
 use Rattle.rules.specs.Rows.{Settings}
 use Rattle.rules.specs.Pages.{Answer}
-use Rattle.rules.specs.Units.{each, run_units, in_line, Keeping, Going, going, rules_at, broken, close_row, settle, unit}
+use Rattle.rules.specs.Units.{each, run_units, Keeping, Going, rules_at, broken, close_row, unit}
 use Rattle.rules.proofs.Grows.{Grows, GrowsTo, code_2d-grows}
 use Rattle.rules.proofs.Paced.{Steps, here, there, steps-add, steps-run, lifted}
 use Rattle.rules.proofs.Units.{line-sim}

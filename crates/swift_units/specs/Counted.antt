@@ -1,5 +1,5 @@
 -- The swift codes of a 2D line under the row before it, counted in units (02, A9): where the line stands behind some of them, and which units of the rules they are.
-use Rattle.std.specs.Prelude.{◌≡◌, Bool, List, [], ℕ, ◌+◌, ◌-◌, ◌≤◌, ◌<◌, take, drop}
+use Rattle.std.specs.Prelude.{◌≡◌, Bool, List, [], ℕ, ◌-◌, ◌≤◌, ◌<◌, take, drop}
 use Rattle.rules.specs.Machine.{Out, and_then, run, onward, spent}
 use Rattle.rules.specs.Bits.{bits_of}
 use Rattle.rules.specs.Runs.{ok}

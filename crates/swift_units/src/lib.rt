@@ -1,6 +1,7 @@
 // The swift codes of a 2D line under the row before it, as many units of them as are left (A9): one for a vertical or a pass code, and for
 // a horizontal one its own and those of its runs. They are the codes of `fast_2d`, whose loops count nothing: a page would feel it.
 #![tactic(auto)]
+
 ghost use Rattle.std.specs.Prelude.{◌≡◌, cond, [], ◌+◌, ◌-◌, ◌/◌, ◌^◌, ◌≤◌, ◌<◌, ltb, length};
 ghost use Rattle.rules.specs.Modes.{pass, horizontal};
 ghost use Rattle.bit_reader.specs.Cursor.{most_bits};

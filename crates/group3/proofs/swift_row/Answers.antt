@@ -17,11 +17,10 @@ returns-then-is_white_2d c =
     row-white-2d c.requires.0 (c.is_usual.ensures (not-false _ c.if-not-is_usual.false-raw)).0 (sym c.is_white_2d.ensures ∙ c.if-is_white_2d.true)
 
 pub white_line-requires : goal.white_line-requires
-white_line-requires c =
-    (
-      (line-seen c.requires.0 (c.is_usual.ensures (not-false _ c.if-not-is_usual.false-raw)).0).loading,
-      λ e. (tabled-1d c.args.state.reference refl c.requires.1 e).0.of_white,
-    )
+white_line-requires c = (
+  (line-seen c.requires.0 (c.is_usual.ensures (not-false _ c.if-not-is_usual.false-raw)).0).loading,
+  λ e. (tabled-1d c.args.state.reference refl c.requires.1 e).0.of_white,
+)
 
 pub line_row-requires : goal.line_row-requires
 line_row-requires c =

@@ -6,13 +6,6 @@ use Rattle.rules.specs.Runs.{ok}
 use native.Mathlib.Omega.{arith}
 use Prim.Native.Nat.{◌+◌, ◌*◌, ◌/◌, ◌%◌, ◌^◌}
 use mathlib.Core.Path.{refl, ap, ◌∙◌}
-use Rattle.swift_units.proofs.code.Reads as reads
-use Rattle.swift_units.proofs.code.Lts as lts
-use Rattle.swift_loops.proofs.fast_2d.bit_of.Reads as bit-of-reads
-use Rattle.swift_units.proofs.straight.Reads as straight-reads
-use Rattle.swift_units.proofs.to_b2.Reads as to-b2-reads
-use Rattle.swift_units.proofs.two_runs.Reads as two-runs-reads
-use Rattle.swift_units.proofs.vertical.Reads as vertical-reads
 use Rattle.swift_units.proofs.code.Goals as goal
 
 -- src/lib.rt:248:14

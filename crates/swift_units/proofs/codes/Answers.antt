@@ -2,12 +2,6 @@ use mathlib.Core.Path.{refl}
 use Rattle.swift_units.proofs.Counting.{counted_none, left_of, spent-other, spent-less, spent-on}
 use Rattle.swift_loops.proofs.Swiftly.{kept-long, walked-base, walked_low, walked-asks}
 use native.Mathlib.Omega.{arith}
-use Prim.Native.Nat.{◌-◌}
-use Rattle.swift_units.proofs.codes.Reads as reads
-use Rattle.swift_units.proofs.codes.Lts as lts
-use Rattle.bit_reader.proofs.ahead.Reads as ahead-reads
-use Rattle.context.proofs.reference.change_or.Reads as change-or-reads
-use Rattle.swift_units.proofs.code.Reads as code_Reads
 use Rattle.swift_units.proofs.codes.Goals as goal
 
 -- src/lib.rt:308:9

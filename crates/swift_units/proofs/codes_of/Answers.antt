@@ -2,8 +2,6 @@ use borrow.Author.Tests.{lt-ltb, le-ltb}
 use native.Mathlib.Omega.{arith}
 use mathlib.Core.Bool.{Bool, cond}
 use mathlib.Core.Path.{sym, ap}
-use Rattle.swift_units.proofs.codes_of.Reads as reads
-use Rattle.swift_units.proofs.codes_of.Lts as lts
 use Rattle.swift_units.proofs.codes_of.Goals as goal
 
 -- src/lib.rt:175:1

@@ -8,11 +8,6 @@ use Rattle.rules.specs.Modes.{VR}
 use native.Mathlib.Omega.{arith}
 use Prim.Native.Nat.{◌+◌, ◌-◌}
 use mathlib.Core.Path.{refl}
-use Rattle.swift_units.proofs.straight.Reads as reads
-use Rattle.swift_units.proofs.straight.Lts as lts
-use Rattle.swift_loops.proofs.fast_2d.note.Reads as note-reads
-use Rattle.swift_units.proofs.at_most_64.Reads as at-most-64-reads
-use Rattle.swift_units.proofs.to_each.Reads as to-each-reads
 use Rattle.swift_units.proofs.straight.Goals as goal
 
 -- src/lib.rt:131:9

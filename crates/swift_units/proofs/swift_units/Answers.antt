@@ -4,10 +4,6 @@ use lib.ListN.{length, length-drop}
 use native.Mathlib.Omega.{arith}
 use Prim.Native.Nat.{◌-◌}
 use mathlib.Core.Path.{refl, sym, ◌∙◌}
-use Rattle.swift_units.proofs.swift_units.Reads as reads
-use Rattle.swift_units.proofs.swift_units.Lts as lts
-use Rattle.swift_loops.proofs.fast_2d.has_room.Reads as has-room-reads
-use Rattle.swift_units.proofs.codes.Reads as codes-reads
 use Rattle.swift_units.proofs.swift_units.Goals as goal
 
 -- src/lib.rt:348:8

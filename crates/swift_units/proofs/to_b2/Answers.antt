@@ -3,10 +3,6 @@ use Rattle.swift_loops.proofs.Swiftly.{noted-part, ready-part, pass-code}
 use Rattle.rules.specs.Modes.{pass}
 use Prim.Native.Nat.{◌+◌}
 use mathlib.Core.Path.{refl}
-use Rattle.swift_units.proofs.to_b2.Reads as reads
-use Rattle.swift_units.proofs.to_b2.Lts as lts
-use Rattle.context.proofs.reference.change_or.Reads as change-or-reads
-use Rattle.swift_loops.proofs.fast_2d.note.Reads as note-reads
 use Rattle.swift_units.proofs.to_b2.Goals as goal
 
 -- src/lib.rt:160:9

@@ -1,9 +1,6 @@
 use Rattle.swift_units.proofs.Counting.{each-new, each-went, each_on}
 use Rattle.swift_loops.proofs.StraightLoop.{along-low, kept-inside, kept-index, kept_next}
 use native.Mathlib.Omega.{arith}
-use Prim.Native.Nat.{◌-◌}
-use Rattle.swift_units.proofs.to_each.Reads as reads
-use Rattle.swift_units.proofs.to_each.Lts as lts
 use Rattle.swift_units.proofs.to_each.Goals as goal
 
 -- src/lib.rt:83:15

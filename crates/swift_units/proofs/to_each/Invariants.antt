@@ -1,7 +1,5 @@
 use Rattle.swift_units.proofs.Counting.{EachTo}
 use Prim.Native.Nat.{◌-◌}
-use Rattle.swift_units.proofs.to_each.Reads as reads
-use Rattle.swift_units.proofs.to_each.Lts as lts
 use Rattle.swift_units.proofs.to_each.Given as goal
 
 abbrev pub invariant-loop-rest : goal.invariant-loop-rest

@@ -7,14 +7,7 @@ use Rattle.rules.specs.Lookup.{lookup_table}
 use Rattle.rules.specs.Codes.{opposite}
 use native.Mathlib.Omega.{arith}
 use Prim.Native.Nat.{suc, ◌+◌, ◌-◌, ◌%◌, ◌<◌}
-use mathlib.Core.Path.{◌≡◌, refl, sym, ap, ◌∙◌}
-use Rattle.swift_units.proofs.two_runs.Reads as reads
-use Rattle.swift_units.proofs.two_runs.Lts as lts
-use Rattle.codes.proofs.front.front_run_of.Reads as front-run-of-reads
-use Rattle.codes.proofs.front.top13.Reads as top13-reads
-use Rattle.swift_loops.proofs.fast_2d.note.Reads as note-reads
-use Rattle.swift_loops.proofs.fast_2d.onward.Reads as onward-reads
-use Rattle.swift_units.proofs.codes_of.Reads as codes-of-reads
+use mathlib.Core.Path.{refl, sym, ap, ◌∙◌}
 use Rattle.swift_units.proofs.two_runs.Goals as goal
 
 -- src/lib.rt:196:9

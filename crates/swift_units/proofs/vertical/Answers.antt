@@ -4,10 +4,6 @@ use Rattle.swift_loops.specs.Swift.{side_mode}
 use Rattle.rules.specs.Bits.{bits_of}
 use Prim.Native.Nat.{◌+◌}
 use mathlib.Core.Path.{refl}
-use Rattle.swift_units.proofs.vertical.Reads as reads
-use Rattle.swift_units.proofs.vertical.Lts as lts
-use Rattle.swift_loops.proofs.fast_2d.behind.Reads as behind-reads
-use Rattle.swift_loops.proofs.fast_2d.note.Reads as note-reads
 use Rattle.swift_units.proofs.vertical.Goals as goal
 
 -- src/lib.rt:49:9

@@ -1,5 +1,5 @@
 -- `bit_reader::zeros::first_one` meets its contract. The invariant: no one stands before byte `i`. The measure is the bytes left. Assumes nothing.
-use Prim.Native.Nat.{◌-◌, ◌*◌, ◌%◌, ◌^◌}
+use Prim.Native.Nat.{◌*◌, ◌%◌, ◌^◌}
 use native.Mathlib.Omega.{arith}
 use lib.Count as Count
 use Rattle.bit_reader.proofs.Clear.{first-clear, first_part, word-clear, word-one, all-clear}

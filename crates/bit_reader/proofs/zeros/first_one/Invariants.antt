@@ -1,6 +1,5 @@
 -- `bit_reader::zeros::first_one` meets its contract. The invariant: no one stands before byte `i`. The measure is the bytes left. Assumes nothing.
-use Prim.Native.Nat.{◌-◌, ◌*◌, ◌%◌, ◌^◌}
-use lib.Count as Count
+use Prim.Native.Nat.{◌-◌, ◌*◌}
 use lib.ListN.{length}
 use Rattle.bit_reader.proofs.Clear.{Clear}
 use Rattle.bit_reader.proofs.zeros.first_one.Given as goal

@@ -1,5 +1,4 @@
 -- `codes::eol::read_eols` meets its contract. The invariant: the EOLs counted so far stand before `at`. The measure is the EOLs left. Assumes nothing.
-use Prim.Native.Nat.{◌-◌}
 use native.Mathlib.Omega.{arith}
 use Rattle.codes.proofs.Eols.{unclosed, closed, many, early, plain-eol, twelve-zeros, none_yet, enough, no_one, without_eol, eol}
 use Rattle.codes.proofs.eol.read_eols.Goals as goal

@@ -1,6 +1,5 @@
 -- `codes::eol::skip_to_eol` meets its contract. The search's invariant: it goes on at `at`; the inner loop's: it does, and up to the limit the buffer has the
 -- bits from there on. Both measures are the bits left. Assumes nothing.
-use Prim.Native.Nat.{◌-◌, ◌*◌, ◌≤◌}
 use native.Mathlib.Omega.{arith}
 use Rattle.bit_reader.proofs.Window.{fed}
 use Rattle.codes.proofs.Eols.{search-from, nowhere, here, unclosed, closed, many, loaded, eleven-zeros, few, behind-last}

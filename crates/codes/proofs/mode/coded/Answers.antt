@@ -1,5 +1,5 @@
 -- `codes::mode::coded` meets its contract. Assumes nothing.
-use mathlib.Core.Path.{◌≡◌, refl, sym, ap, ◌∙◌}
+use mathlib.Core.Path.{refl, sym, ap, ◌∙◌}
 use native.Mathlib.Omega.{arith}
 use Rattle.codes.specs.Modes.{offset_mode, kind_of}
 use Rattle.codes.proofs.Modes.{back, mode-moved}

@@ -1,7 +1,6 @@
 -- `codes::plain::code_in` meets its contract. The loop's invariant: going on from the bits taken gives what comparing from the first gives. The measure is
 -- the bits left. Assumes nothing.
-use mathlib.Core.Path.{◌≡◌, ◌∙◌}
-use Prim.Native.Nat.{◌+◌, ◌-◌, ◌*◌, ◌<◌}
+use Prim.Native.Nat.{◌-◌}
 use lib.ListN.{drop}
 use Rattle.rules.specs.Bits.{bits_of}
 use Rattle.codes.specs.Plain.{Listed}

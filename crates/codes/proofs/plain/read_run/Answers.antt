@@ -1,7 +1,7 @@
 -- `codes::plain::read_run` meets its contract. The loop's invariant: what the sum leads to is what the start leads to. The measure is the bits left.
 -- Assumes nothing.
 use mathlib.Core.Path.{◌≡◌, sym, ap, ◌∙◌}
-use Prim.Native.Nat.{◌+◌, ◌-◌, ◌*◌}
+use Prim.Native.Nat.{◌+◌}
 use native.Mathlib.Omega.{arith}
 use lib.ListN.{drop}
 use Rattle.rules.specs.Bits.{bits_of}

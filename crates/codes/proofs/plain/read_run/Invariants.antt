@@ -1,9 +1,7 @@
 -- `codes::plain::read_run` meets its contract. The loop's invariant: what the sum leads to is what the start leads to. The measure is the bits left.
 -- Assumes nothing.
-use mathlib.Core.Path.{◌≡◌, ◌∙◌}
-use Prim.Native.Nat.{◌+◌, ◌-◌, ◌*◌}
+use Prim.Native.Nat.{◌-◌, ◌*◌}
 use lib.ListN.{length}
-use Rattle.rules.specs.Runs.{sum}
 use Rattle.tables.specs.Tables.{colour_of}
 use Rattle.codes.proofs.Comparing.{Adding}
 use Rattle.codes.proofs.plain.read_run.Given as goal

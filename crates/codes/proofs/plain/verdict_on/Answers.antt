@@ -1,7 +1,6 @@
 -- `codes::plain::verdict_on` meets its contract. The loop's invariant: what was met, and what the codes from the i-th on say, is what all say. The measure is
 -- the rows left. Assumes nothing.
 use mathlib.Core.Path.{◌≡◌, sym, ap, ◌∙◌}
-use Prim.Native.Nat.{◌-◌}
 use Rattle.rules.specs.Plain.{is_code, no_code}
 use Rattle.codes.specs.Plain.{codes_in}
 use Rattle.codes.proofs.Verdicts.{saying, with_met, look-first, look-last, asked-count, Turn, turn-words, turn-is-code, turn-met, turn_on}

@@ -1,6 +1,5 @@
 -- `codes::plain::verdict_on` meets its contract. The loop's invariant: what was met, and what the codes from the i-th on say, is what all say. The measure is
 -- the rows left. Assumes nothing.
-use mathlib.Core.Path.{◌≡◌, ◌∙◌}
 use Prim.Native.Nat.{◌-◌}
 use Rattle.codes.specs.Plain.{codes_in}
 use Rattle.codes.proofs.Verdicts.{Looking}

@@ -1,7 +1,7 @@
 -- `codes::run::read_run` meets its contract. The loop's invariant: what the sum and the buffer lead to is what the start leads to. The measure is
 -- the bits left. Assumes nothing.
 use mathlib.Core.Path.{subst}
-use Prim.Native.Nat.{◌+◌, ◌-◌, ◌*◌}
+use Prim.Native.Nat.{◌+◌}
 use native.Mathlib.Omega.{arith}
 use Rattle.tables.specs.Tables.{colour_of}
 use Rattle.bit_reader.specs.Loaded.{LoadedAt, fed_at}

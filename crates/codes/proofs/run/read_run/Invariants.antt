@@ -1,6 +1,6 @@
 -- `codes::run::read_run` meets its contract. The loop's invariant: what the sum and the buffer lead to is what the start leads to. The measure is
 -- the bits left. Assumes nothing.
-use Prim.Native.Nat.{◌+◌, ◌-◌, ◌*◌}
+use Prim.Native.Nat.{◌-◌, ◌*◌}
 use lib.ListN.{length}
 use Rattle.tables.specs.Tables.{colour_of}
 use Rattle.codes.proofs.Runs.{Going}

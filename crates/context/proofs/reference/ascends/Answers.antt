@@ -1,7 +1,7 @@
 -- The invariant: what was noted, and the test of what is left, are the test of the whole row, below the width that every change of 32 bits
 -- is below. The measure is what is left.
-use mathlib.Core.Path.{◌≡◌, sym, ap, ◌∙◌}
-use Prim.Native.Nat.{ℕ, ◌+◌, ◌-◌, ◌≤◌}
+use mathlib.Core.Path.{sym, ap, ◌∙◌}
+use Prim.Native.Nat.{ℕ, ◌+◌}
 use native.Mathlib.Omega.{arith}
 use Rattle.context.proofs.RowTest.{left_test, first-left, past-left, noted-left, next-left}
 use Rattle.context.proofs.RowTest.{ascends_none, ascends-out, ascends-narrow}

@@ -1,7 +1,7 @@
 -- The invariant: what was noted, and the test of what is left, are the test of the whole row, below the width that every change of 32 bits
 -- is below. The measure is what is left.
-use mathlib.Core.Path.{◌≡◌, ◌∙◌}
-use Prim.Native.Nat.{ℕ, ◌+◌, ◌-◌, ◌≤◌}
+use mathlib.Core.Path.{◌≡◌}
+use Prim.Native.Nat.{ℕ, ◌-◌, ◌≤◌}
 use lib.ListN.{length}
 use Rattle.rules.specs.Pages.{ascends_from}
 use Rattle.context.proofs.RowTest.{left_test}

@@ -1,5 +1,4 @@
 -- The invariant: each change before the place lies left of the bound. The measure is what is left of the reference.
-use Prim.Native.Nat.{◌-◌}
 use native.Mathlib.Omega.{arith}
 use Rattle.context.proofs.Search.{passed-more}
 use Rattle.context.proofs.reference.scan.Goals as goal

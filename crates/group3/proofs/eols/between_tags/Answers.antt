@@ -1,7 +1,7 @@
 -- `group3::eols::between_tags` meets its contract. The loop's invariant: the EOLs joined so far; the measure is the bits left. Assumes nothing.
 use mathlib.Core.Path.{◌≡◌, sym, ◌∙◌}
 use mathlib.Core.Bool.{true}
-use Prim.Native.Nat.{◌+◌, ◌-◌, ◌*◌}
+use Prim.Native.Nat.{◌+◌}
 use native.Mathlib.Omega.{arith}
 use lib.ListN.{drop}
 use Rattle.rules.specs.Bits.{bits_of, front_bit}

@@ -1,6 +1,5 @@
 -- `group3::eols::between_tags` meets its contract. The loop's invariant: the EOLs joined so far; the measure is the bits left. Assumes nothing.
-use mathlib.Core.Path.{◌≡◌, ◌∙◌}
-use Prim.Native.Nat.{◌+◌, ◌-◌, ◌*◌}
+use Prim.Native.Nat.{◌-◌, ◌*◌}
 use lib.ListN.{length}
 use Rattle.group3.proofs.TagBits.{Joined}
 use Rattle.group3.proofs.eols.between_tags.Given as goal

@@ -1,5 +1,4 @@
 -- The invariant is `Standing`, and each way through a turn is a law of it. The measure is what is left of the data.
-use Prim.Native.Nat.{◌-◌, ◌*◌}
 use native.Mathlib.Omega.{arith}
 use Rattle.swift_loops.proofs.Swiftly.{kept-long}
 use Rattle.one_line.proofs.SwiftLine.{standing-new, standing-length, standing-room, standing-back, standing-place}

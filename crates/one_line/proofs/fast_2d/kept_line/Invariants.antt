@@ -2,7 +2,6 @@
 use Prim.Native.Nat.{◌-◌, ◌*◌}
 use mathlib.Core.List.{[]}
 use lib.ListN.{length}
-use borrow.Author.Rules.{rules}
 use Rattle.context.specs.declared.reference.Reference.TheVariants.{Kept}
 use Rattle.one_line.proofs.SwiftLine.{Standing}
 use Rattle.one_line.proofs.fast_2d.kept_line.Given as goal

@@ -1,5 +1,4 @@
 -- The invariant is `Standing`, as of a line under the row before it. The measure is what is left of the data.
-use Prim.Native.Nat.{◌-◌, ◌*◌}
 use native.Mathlib.Omega.{arith}
 use Rattle.one_line.proofs.SwiftLine.{walks-part, walked-part, standing-new, standing-length, standing-room, standing-back}
 use Rattle.one_line.proofs.SwiftLine.{standing-place, standing-walks, standing-walked, standing-done, standing-codes}

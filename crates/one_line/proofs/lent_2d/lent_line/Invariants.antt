@@ -1,7 +1,6 @@
 -- The invariant is `Standing`, as of a line under the row before it. The measure is what is left of the data.
 use Prim.Native.Nat.{◌-◌, ◌*◌}
 use lib.ListN.{length}
-use borrow.Author.Rules.{rules}
 use Rattle.context.specs.declared.reference.Reference.TheVariants.{Lent}
 use Rattle.one_line.proofs.SwiftLine.{Standing}
 use Rattle.one_line.proofs.lent_2d.lent_line.Given as goal

@@ -2,7 +2,6 @@
 use native.Mathlib.Omega.{arith}
 use Rattle.rules.proofs.Bits.{length-bits_of}
 use Rattle.swift_loops.proofs.Running.{ran-holds, ran-done, ran-rest}
-use borrow.Author.Rules.{rules}
 use Rattle.one_line.proofs.line_1d.decode_1d_line.Goals as goal
 
 pub pairs-s-requires : goal.pairs-s-requires

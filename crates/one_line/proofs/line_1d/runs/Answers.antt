@@ -1,6 +1,5 @@
 -- The invariant is `Going`, and each way through a turn is a law of it. What falls is the bits left.
 use mathlib.Core.Path.{sym, ◌∙◌}
-use Prim.Native.Nat.{◌-◌, ◌*◌}
 use native.Mathlib.Omega.{arith}
 use Rattle.one_line.proofs.RunLoop.{going-new, going-length, going-holds, going_done, going-bad, going_less, going-stop, going-coloured, going_on}
 use Rattle.one_line.proofs.line_1d.runs.Goals as goal

@@ -1,8 +1,6 @@
 -- The invariant is `Going`, and each way through a turn is a law of it. What falls is the bits left.
-use mathlib.Core.Path.{◌∙◌}
 use Prim.Native.Nat.{◌-◌, ◌*◌}
 use lib.ListN.{length}
-use borrow.Author.Rules.{rules}
 use Rattle.one_line.proofs.RunLoop.{Going}
 use Rattle.one_line.proofs.line_1d.runs.Given as goal
 

@@ -1,6 +1,5 @@
 -- Each mode by its law.
 use mathlib.Core.Path.{sym, ◌∙◌}
-use borrow.Author.Rules.{rules}
 use Rattle.one_line.proofs.ModeCode.{comes-coloured, mode-inside, mode-offset, mode-bad, mode-horizontal, mode-pass, mode-over, mode-unmoved, mode-vertical}
 use Rattle.one_line.proofs.line_2d.code_2d.Goals as goal
 

@@ -1,5 +1,4 @@
 -- The two runs, and then the test.
-use borrow.Author.Rules.{rules}
 use Rattle.context.proofs.Idle.{runs-tested}
 use Rattle.one_line.proofs.line_2d.horizontal.Goals as goal
 

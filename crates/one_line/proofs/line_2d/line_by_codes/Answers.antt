@@ -1,5 +1,4 @@
 -- The invariant is `Reading`, and each way through a turn is a law of it. What falls is the bits left.
-use Prim.Native.Nat.{◌-◌, ◌*◌}
 use native.Mathlib.Omega.{arith}
 use Rattle.one_line.proofs.LineLoop.{reading-new, reading-length, reading-done, reading-seeks, reading-codes, reading-stop, reading-less, reading-on, reading-room, reading-back}
 use Rattle.one_line.proofs.line_2d.line_by_codes.Goals as goal

@@ -1,7 +1,6 @@
 -- The invariant is `Reading`, and each way through a turn is a law of it. What falls is the bits left.
 use Prim.Native.Nat.{◌-◌, ◌*◌}
 use lib.ListN.{length}
-use borrow.Author.Rules.{rules}
 use Rattle.one_line.proofs.LineLoop.{Reading}
 use Rattle.one_line.proofs.line_2d.line_by_codes.Given as goal
 

@@ -1,6 +1,5 @@
 use Rattle.one_line.proofs.OneCode.{run-ended}
 use Rattle.one_line.proofs.ModeCode.{comes-coloured}
-use borrow.Author.Rules.{rules}
 use Rattle.one_line.proofs.one_code.end_run.Goals as goal
 
 pub after_push-requires : goal.after_push-requires

@@ -1,7 +1,6 @@
 use Rattle.one_line.proofs.OneCode.{runs-at, bad-no-runs, pass-no-runs, vertical-no-runs}
 use Rattle.one_line.proofs.ModeCode.{comes-coloured, mode-offset, mode-bad, mode-pass, mode-over, mode-unmoved, mode-vertical}
 use mathlib.Core.Path.{sym, refl, ◌∙◌}
-use borrow.Author.Rules.{rules}
 use Rattle.one_line.proofs.one_code.mode_code.Goals as goal
 
 pub after_push-requires : goal.after_push-requires

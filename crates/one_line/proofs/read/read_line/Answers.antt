@@ -20,7 +20,7 @@ pub returns-then-at-end : goal.returns-then-at-end
 returns-then-at-end c = rw c.past.ensures (past_end c.if-columns-eq0.false c.if-columns-eq-MOST_PIXELS.false c.if-src-gt-MOST_BYTES.false (sym c.ascends.ensures ∙ not-false _ c.if-not-ascends.false-raw) c.if-at-end.true)
 
 pub decode_2d_line-requires : goal.decode_2d_line-requires
-decode_2d_line-requires c = (line-asked ((let h-opened : Open c.args.src.now c.args.at c.args.columns c.args.reference.now = record { some = c.if-columns-eq0.false; narrow = c.if-columns-eq-MOST_PIXELS.false; small = c.ranges.columns.fits; short = c.if-src-gt-MOST_BYTES.false; rising = sym c.ascends.ensures ∙ not-false _ c.if-not-ascends.false-raw; inside = c.if-at-end.false; } in h-opened)), tt)
+decode_2d_line-requires c = (line-asked ((let h-opened : Open c.args.src.now c.args.at c.args.columns c.args.reference.now = record { some = c.if-columns-eq0.false; narrow = c.if-columns-eq-MOST_PIXELS.false; small = c.ranges.columns.fits; short = c.if-src-gt-MOST_BYTES.false; rising = sym c.ascends.ensures ∙ not-false _ c.if-not-ascends.false-raw; inside = c.if-at-end.false } in h-opened)), tt)
 
 pub returns : goal.returns
-returns c = line_read ((let h-opened : Open c.args.src.now c.args.at c.args.columns c.args.reference.now = record { some = c.if-columns-eq0.false; narrow = c.if-columns-eq-MOST_PIXELS.false; small = c.ranges.columns.fits; short = c.if-src-gt-MOST_BYTES.false; rising = sym c.ascends.ensures ∙ not-false _ c.if-not-ascends.false-raw; inside = c.if-at-end.false; } in h-opened)) c.args.strict c.args.changes.now c.decode_2d_line.ensures c.answer.ensures
+returns c = line_read ((let h-opened : Open c.args.src.now c.args.at c.args.columns c.args.reference.now = record { some = c.if-columns-eq0.false; narrow = c.if-columns-eq-MOST_PIXELS.false; small = c.ranges.columns.fits; short = c.if-src-gt-MOST_BYTES.false; rising = sym c.ascends.ensures ∙ not-false _ c.if-not-ascends.false-raw; inside = c.if-at-end.false } in h-opened)) c.args.strict c.args.changes.now c.decode_2d_line.ensures c.answer.ensures

@@ -1,9 +1,8 @@
 -- The first run, and pairs behind it.
 use mathlib.Core.Path.{◌≡◌, subst}
 use mathlib.Core.List.{List}
-use Prim.Native.Nat.{ℕ, ◌-◌, ◌*◌}
+use Prim.Native.Nat.{ℕ}
 use native.Mathlib.Omega.{arith}
-use lib.ListN.{length}
 use borrow.Author.Tests.{not-false}
 use Rattle.rules.proofs.Bits.{length-bits_of}
 use Rattle.swift_loops.specs.declared.fast_1d.AfterPair.{AfterPair}

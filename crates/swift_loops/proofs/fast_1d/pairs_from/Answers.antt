@@ -1,6 +1,5 @@
 -- What holds of the line at each turn: pairs took it there, and it is before a pair.
 use mathlib.Core.Path.{subst}
-use Prim.Native.Nat.{◌-◌}
 use native.Mathlib.Omega.{arith}
 use Rattle.rules.proofs.Bits.{length-bits_of}
 use Rattle.swift_loops.specs.declared.fast_1d.AfterPair.{AfterPair}

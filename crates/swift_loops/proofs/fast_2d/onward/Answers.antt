@@ -1,6 +1,5 @@
 -- The invariant: every change two places or more before the place lies at the position or left of it. The measure is what is left of the reference.
-use mathlib.Core.Path.{◌≡◌, refl}
-use Prim.Native.Nat.{◌+◌, ◌-◌, ◌%◌, ◌≤◌}
+use mathlib.Core.Path.{refl}
 use native.Mathlib.Omega.{arith}
 use Rattle.context.proofs.Placing.{left-more}
 use Rattle.swift_loops.proofs.fast_2d.onward.Goals as goal

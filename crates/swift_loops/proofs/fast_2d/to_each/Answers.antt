@@ -1,5 +1,4 @@
 -- The invariant is `Along`, which a one takes a code further. The measure is what is left of the reference.
-use Prim.Native.Nat.{◌-◌}
 use native.Mathlib.Omega.{arith}
 use Rattle.swift_loops.proofs.StraightLoop.{along-new, along-went, along-low, kept-inside, kept-index, kept_next, kept_on}
 use Rattle.swift_loops.proofs.fast_2d.to_each.Goals as goal

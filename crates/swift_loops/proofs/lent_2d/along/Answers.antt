@@ -1,5 +1,4 @@
 -- The invariant is `Nearing`, which V0 codes and one beside b1 take further. The measure is what is left up to `stop`.
-use Prim.Native.Nat.{◌-◌}
 use native.Mathlib.Omega.{arith}
 use Rattle.swift_loops.proofs.Beside.{nearing-new, nearing-done, nearing-few, nearing-low, nearing-other, nearing-short}
 use Rattle.swift_loops.proofs.Beside.{nearing-on, nearing-less}

@@ -1,5 +1,4 @@
 -- The invariant: codes have walked here. The measure is what is left of the data.
-use Prim.Native.Nat.{◌-◌, ◌*◌}
 use native.Mathlib.Omega.{arith}
 use Rattle.swift_loops.proofs.Swiftly.{walks-none, walked_low, walked-asks, took-other, took-on, took-less}
 use Rattle.swift_loops.proofs.lent_2d.codes.Goals as goal

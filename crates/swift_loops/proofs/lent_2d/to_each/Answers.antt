@@ -1,6 +1,5 @@
 -- The invariant is `Along`, which a one takes a code further. The measure is what is left of the reference.
 use mathlib.Core.Path.{refl}
-use Prim.Native.Nat.{◌-◌}
 use native.Mathlib.Omega.{arith}
 use Rattle.swift_loops.proofs.StraightLoop.{along-new, along-went, along-low, along-room, along-on}
 use Rattle.swift_loops.proofs.Swiftly.{stored-whole}
