@@ -19,8 +19,7 @@ use Rattle.listing_text.specs.declared.settings_line.Parsed.TheVariants.{Setting
 use Rattle.listing_text.proofs.Standing.{begins-once, begins-short}
 use Rattle.rules.proofs.Stored.{Holds, decode-held, rows-stored, marks-kept}
 use Rattle.listing_text.proofs.Stored.{can-list}
-use Rattle.io.specs.Counts.{IsPrefixLen}
-use Rattle.listing.specs.Program.{most_data, most_input, listed, page_text, room, Asks, Answers, AnswersRead}
+use Rattle.listing.specs.Program.{IsPrefixLen, most_data, most_input, listed, page_text, room, Asks, Answers, AnswersRead}
 
 -- ---- A page from its store
 

@@ -24,6 +24,10 @@ page_text S src = listed S (decode S src 8192 2048)
 abbrev pub room : ℕ
 room = 77 + 50 * 2048 + 11 * 8192
 
+-- `&xs[..n]` is in bounds and has n bytes
+abbrev pub IsPrefixLen : ℕ → List ℕ → Type 0
+IsPrefixLen n xs = (n ≤ length xs) × (n ≡ length (take n xs))
+
 -- an input with a line of settings, and then no more data than that. It may ask for either engine: the answer is the same.
 pub record Asks (input : List ℕ) (S : Settings) (src : List ℕ) : Type 0 where
   pub plain : Bool

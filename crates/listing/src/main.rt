@@ -1,13 +1,15 @@
 // Lists a page of standard input: a line of settings, and then the data.
 #![tactic(auto)]
-ghost use Rattle.std.specs.Prelude.{◌≤◌, length, take};
-ghost use Rattle.io.specs.Counts.{IsPrefixLen};
+
+ghost use Rattle.std.specs.Prelude.{◌≤◌, length, take, IfOk};
 ghost use Rattle.settings.specs.Settings.{settings_of};
 ghost use Rattle.listing_text.specs.Listed.{Prints};
-ghost use Rattle.listing.specs.Program.{room, most_input, page_text, Answers, AnswersRead};
+ghost use Rattle.listing.specs.Program.{IsPrefixLen, room, most_input, page_text, Answers, AnswersRead};
 
 use listing_text::settings_line::Parsed;
 use settings::DecodeSettings;
+use std::io;
+use std::io::Read;
 
 fn page(src: &[u8], settings: DecodeSettings, out: &mut [u8]) -> usize
     requires { room ≤ length out.old }
@@ -45,10 +47,25 @@ fn answer(input: &[u8], got: usize, out: &mut [u8]) -> usize
     text(&input[..got], out)
 }
 
-fn main() {
+// Reads until `buf` is full or the input ends, and answers how many bytes it has then.
+fn read_full<R: Read>(reader: &mut R, buf: &mut [u8]) -> io::Result<usize>
+    ensures { IfOk result (λ n. IsPrefixLen n buf.new) }
+{
+    let mut got = 0;
+    while got < buf.len() {
+        let n = reader.read(&mut buf[got..])?;
+        if n == 0 {
+            break;
+        }
+        got += n;
+    }
+    Ok(got)
+}
+
+fn main(rt: HostRuntime) -> io::Result<()> {
     let mut input = [0u8; 16421];
-    let got = io::read_full(libc::STDIN_FILENO, &mut input);
+    let got = read_full(&mut rt.reader(), &mut input)?;
     let mut out = [0u8; 196608];
     let n = answer(&input, got, &mut out);
-    io::write_all(libc::STDOUT_FILENO, &out[..n]);
+    rt.write_all(&out[..n])
 }

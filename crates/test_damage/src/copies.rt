@@ -75,21 +75,17 @@ fn low(n: usize) -> u8 {
 // Other bytes at so many places.
 fn scatter(out: &mut [u8], size: usize, count: usize, seed: u64) {
     let mut state = seed;
-    let mut left = count;
-    while 0 < left {
+    for _ in 0..count {
         let place = next(state);
         state = next(place);
         put(out, drawn(place, size), 0, low(drawn(state, 256)));
-        left -= 1;
     }
 }
 
 // Zeros at so many places from one on.
 fn blank(out: &mut [u8], from: usize, count: usize) {
-    let mut left = count;
-    while 0 < left {
-        left -= 1;
-        put(out, from, left, 0);
+    for k in 0..count {
+        put(out, from, k, 0);
     }
 }
 
@@ -106,21 +102,17 @@ fn byte(src: &[u8], from: usize, k: usize) -> u8 {
 
 // All that stands from one place on goes to another, with zeros behind it.
 pub(crate) fn shift(src: &[u8], from: usize, out: &mut [u8], to: usize) {
-    let mut left = src.len();
-    while 0 < left {
-        left -= 1;
-        put(out, to, left, byte(src, from, left));
+    for k in 0..src.len() {
+        put(out, to, k, byte(src, from, k));
     }
 }
 
 // Drawn bytes at so many places from one on.
 fn fill(out: &mut [u8], from: usize, count: usize, seed: u64) {
     let mut state = seed;
-    let mut left = count;
-    while 0 < left {
-        left -= 1;
+    for k in (0..count).rev() {
         state = next(state);
-        put(out, from, left, low(drawn(state, 256)));
+        put(out, from, k, low(drawn(state, 256)));
     }
 }
 
@@ -170,7 +162,8 @@ pub(crate) fn damaged(src: &[u8], damage: Damage, seed: u64, out: &mut [u8]) -> 
     if out.len() < src.len() {
         return 0;
     }
-    let size = bytes::copy(src, out);
+    let size = src.len();
+    out[..size].copy_from_slice(src);
     let first = start(damage, seed);
     let second = next(first);
     let third = next(second);

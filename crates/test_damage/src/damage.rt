@@ -1,5 +1,4 @@
 // What happens to a form on its way: to its picture before it is written, or to its bytes.
-use libc::STDOUT_FILENO;
 
 // The picture's come first. Rows that have slid lie one box lower, as many as before: what lies in a box lies in the next one.
 #[derive(Clone, Copy)]
@@ -38,20 +37,21 @@ pub(crate) fn number(damage: Damage) -> u64 {
     }
 }
 
-pub(crate) fn print(damage: Damage) {
+// What a line says of it.
+pub(crate) fn name(damage: Damage) -> &'static str {
     match damage {
-        Damage::Nothing => io::write_all(STDOUT_FILENO, b"\tnone"),
-        Damage::RowLost => io::write_all(STDOUT_FILENO, b"\ta row lost"),
-        Damage::RowDoubled => io::write_all(STDOUT_FILENO, b"\ta row doubled"),
-        Damage::Slid => io::write_all(STDOUT_FILENO, b"\tall rows one box lower"),
-        Damage::SecondTick => io::write_all(STDOUT_FILENO, b"\ta second tick in a column"),
-        Damage::NoTick => io::write_all(STDOUT_FILENO, b"\tno tick in a column"),
-        Damage::Bit => io::write_all(STDOUT_FILENO, b"\tone bit"),
-        Damage::Byte => io::write_all(STDOUT_FILENO, b"\tone byte"),
-        Damage::Bytes => io::write_all(STDOUT_FILENO, b"\tup to 16 bytes"),
-        Damage::Zeros => io::write_all(STDOUT_FILENO, b"\tup to 32 zeros in a row"),
-        Damage::Cut => io::write_all(STDOUT_FILENO, b"\tcut"),
-        Damage::Lost => io::write_all(STDOUT_FILENO, b"\t1 to 16 bytes lost"),
-        Damage::PutIn => io::write_all(STDOUT_FILENO, b"\t1 to 16 bytes put in"),
-    };
+        Damage::Nothing => "none",
+        Damage::RowLost => "a row lost",
+        Damage::RowDoubled => "a row doubled",
+        Damage::Slid => "all rows one box lower",
+        Damage::SecondTick => "a second tick in a column",
+        Damage::NoTick => "no tick in a column",
+        Damage::Bit => "one bit",
+        Damage::Byte => "one byte",
+        Damage::Bytes => "up to 16 bytes",
+        Damage::Zeros => "up to 32 zeros in a row",
+        Damage::Cut => "cut",
+        Damage::Lost => "1 to 16 bytes lost",
+        Damage::PutIn => "1 to 16 bytes put in",
+    }
 }

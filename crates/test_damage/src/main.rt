@@ -5,6 +5,7 @@
 // A copy that the desk counts with other heads has a line of its own, with its seed. Behind the forms that lie at their places come
 // those that lie aside of them and are looked for.
 #![tactic(auto)]
+
 mod asked;
 mod copies;
 mod damage;
@@ -14,8 +15,8 @@ mod tally;
 
 use crate::damage::Damage;
 use crate::tally::{Outcome, Tally};
-use libc::STDOUT_FILENO;
 use settings::EncodingMode;
+use std::io;
 
 // How many copies have their bytes damaged in one way, and how many their picture.
 const OF_BYTES: u64 = 800;
@@ -27,20 +28,23 @@ const FILL: u32 = 3;
 
 const K: u32 = 4;
 
-fn field(n: u64) {
-    io::write_all(STDOUT_FILENO, b"\t");
-    io::print_decimal(STDOUT_FILENO, n);
+fn name(encoding: EncodingMode) -> &'static str {
+    match encoding {
+        EncodingMode::Group4 => "Group 4",
+        EncodingMode::Group3_1D => "Group 3 1D",
+        EncodingMode::Group3_2D => "Group 3 2D",
+    }
 }
 
-fn name(encoding: EncodingMode, aside: bool) {
-    match encoding {
-        EncodingMode::Group4 => io::write_all(STDOUT_FILENO, b"Group 4"),
-        EncodingMode::Group3_1D => io::write_all(STDOUT_FILENO, b"Group 3 1D"),
-        EncodingMode::Group3_2D => io::write_all(STDOUT_FILENO, b"Group 3 2D"),
-    };
-    if aside {
-        io::write_all(STDOUT_FILENO, b", looked for");
-    }
+// What a line begins with: the encoding, whether the form is looked for, and the damage.
+fn tell_kind(
+    rt: &impl Print,
+    encoding: EncodingMode,
+    aside: bool,
+    damage: Damage,
+) -> io::Result<()> {
+    let place = if aside { ", looked for" } else { "" };
+    print!(rt; "{}{place}\t{}", name(encoding), damage::name(damage))
 }
 
 // Writes a page; how many bytes it has.
@@ -87,75 +91,93 @@ fn copy(encoding: EncodingMode, aside: bool, damage: Damage, seed: u64, out: &mu
     copies::damaged(copies::front(&page, size), damage, seed, out)
 }
 
-fn tell_wrong(encoding: EncodingMode, aside: bool, damage: Damage, seed: u64) {
-    io::write_all(STDOUT_FILENO, b"wrong\t");
-    name(encoding, aside);
-    damage::print(damage);
-    field(seed);
-    io::write_all(STDOUT_FILENO, b"\n");
+fn tell_wrong(
+    rt: &impl Print,
+    encoding: EncodingMode,
+    aside: bool,
+    damage: Damage,
+    seed: u64,
+) -> io::Result<()> {
+    print!(rt; "wrong\t")?;
+    tell_kind(rt, encoding, aside, damage)?;
+    println!(rt; "\t{seed}")
 }
 
 // What came of one copy, by the desk and by the old tests.
-fn tried(tally: Tally, encoding: EncodingMode, aside: bool, damage: Damage, seed: u64) -> Tally {
+fn tried(
+    rt: &impl Print,
+    tally: Tally,
+    encoding: EncodingMode,
+    aside: bool,
+    damage: Damage,
+    seed: u64,
+) -> io::Result<Tally> {
     let mut out = [0u8; 8224];
     let size = copy(encoding, aside, damage, seed, &mut out);
     let src = copies::front(&out, size);
     let heads = may(damage, heads_of(seed));
     let came = tally::came(asked::by_desk(src, encoding, aside), heads);
-    match came {
-        Outcome::Wrong => tell_wrong(encoding, aside, damage, seed),
-        _ => {}
+    if let Outcome::Wrong = came {
+        tell_wrong(rt, encoding, aside, damage, seed)?;
     }
     let old = asked::by_old_tests(src, encoding);
-    tally::counted_old(tally::counted(tally, came), old, heads)
+    Ok(tally::counted_old(tally::counted(tally, came), old, heads))
 }
 
-fn all(encoding: EncodingMode, aside: bool, damage: Damage, copies: u64) -> Tally {
+fn all(
+    rt: &impl Print,
+    encoding: EncodingMode,
+    aside: bool,
+    damage: Damage,
+    copies: u64,
+) -> io::Result<Tally> {
     let mut tally = tally::none();
-    let mut seed: u64 = 0;
-    while seed < copies {
-        tally = tried(tally, encoding, aside, damage, seed);
-        seed += 1;
+    for seed in 0..copies {
+        tally = tried(rt, tally, encoding, aside, damage, seed)?;
     }
-    tally
+    Ok(tally)
 }
 
-fn line(encoding: EncodingMode, aside: bool, damage: Damage, copies: u64) {
-    let tally = all(encoding, aside, damage, copies);
-    name(encoding, aside);
-    damage::print(damage);
-    field(copies);
-    field(tally.right);
-    field(tally.reading);
-    field(tally.page);
-    field(tally.pixels);
-    field(tally.ticks);
-    field(tally.wrong);
-    field(tally.old);
-    io::write_all(STDOUT_FILENO, b"\n");
+fn line(
+    rt: &impl Print,
+    encoding: EncodingMode,
+    aside: bool,
+    damage: Damage,
+    copies: u64,
+) -> io::Result<()> {
+    let tally = all(rt, encoding, aside, damage, copies)?;
+    tell_kind(rt, encoding, aside, damage)?;
+    print!(rt;
+        "\t{copies}\t{}\t{}\t{}",
+        tally.right, tally.reading, tally.page
+    )?;
+    println!(rt;
+        "\t{}\t{}\t{}\t{}",
+        tally.pixels, tally.ticks, tally.wrong, tally.old
+    )
 }
 
-fn lines(encoding: EncodingMode, aside: bool) {
-    line(encoding, aside, Damage::Nothing, OF_PICTURES);
-    line(encoding, aside, Damage::RowLost, OF_PICTURES);
-    line(encoding, aside, Damage::RowDoubled, OF_PICTURES);
-    line(encoding, aside, Damage::Slid, OF_PICTURES);
-    line(encoding, aside, Damage::SecondTick, OF_PICTURES);
-    line(encoding, aside, Damage::NoTick, OF_PICTURES);
-    line(encoding, aside, Damage::Bit, OF_BYTES);
-    line(encoding, aside, Damage::Byte, OF_BYTES);
-    line(encoding, aside, Damage::Bytes, OF_BYTES);
-    line(encoding, aside, Damage::Zeros, OF_BYTES);
-    line(encoding, aside, Damage::Cut, OF_BYTES);
-    line(encoding, aside, Damage::Lost, OF_BYTES);
-    line(encoding, aside, Damage::PutIn, OF_BYTES);
+fn lines(rt: &impl Print, encoding: EncodingMode, aside: bool) -> io::Result<()> {
+    line(rt, encoding, aside, Damage::Nothing, OF_PICTURES)?;
+    line(rt, encoding, aside, Damage::RowLost, OF_PICTURES)?;
+    line(rt, encoding, aside, Damage::RowDoubled, OF_PICTURES)?;
+    line(rt, encoding, aside, Damage::Slid, OF_PICTURES)?;
+    line(rt, encoding, aside, Damage::SecondTick, OF_PICTURES)?;
+    line(rt, encoding, aside, Damage::NoTick, OF_PICTURES)?;
+    line(rt, encoding, aside, Damage::Bit, OF_BYTES)?;
+    line(rt, encoding, aside, Damage::Byte, OF_BYTES)?;
+    line(rt, encoding, aside, Damage::Bytes, OF_BYTES)?;
+    line(rt, encoding, aside, Damage::Zeros, OF_BYTES)?;
+    line(rt, encoding, aside, Damage::Cut, OF_BYTES)?;
+    line(rt, encoding, aside, Damage::Lost, OF_BYTES)?;
+    line(rt, encoding, aside, Damage::PutIn, OF_BYTES)
 }
 
-fn main() {
-    lines(EncodingMode::Group4, false);
-    lines(EncodingMode::Group3_1D, false);
-    lines(EncodingMode::Group3_2D, false);
-    lines(EncodingMode::Group4, true);
-    lines(EncodingMode::Group3_1D, true);
-    lines(EncodingMode::Group3_2D, true);
+fn main(rt: HostRuntime) -> io::Result<()> {
+    lines(&rt, EncodingMode::Group4, false)?;
+    lines(&rt, EncodingMode::Group3_1D, false)?;
+    lines(&rt, EncodingMode::Group3_2D, false)?;
+    lines(&rt, EncodingMode::Group4, true)?;
+    lines(&rt, EncodingMode::Group3_1D, true)?;
+    lines(&rt, EncodingMode::Group3_2D, true)
 }

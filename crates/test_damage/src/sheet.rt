@@ -212,11 +212,9 @@ fn put_end(ends: &mut [u64], y: usize, at: usize) {
 // Draws a form from the top down.
 pub(crate) fn draw(form: Filled, rows: u32, changes: &mut [u32], ends: &mut [u64]) {
     let mut at: usize = 0;
-    let mut y: u32 = 0;
-    while y < rows {
+    for y in 0..rows {
         at = row(form, row_for(form, y), changes, at);
         put_end(ends, y as usize, at);
-        y += 1;
     }
 }
 

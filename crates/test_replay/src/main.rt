@@ -1,24 +1,42 @@
 // Replays a sample of the crate's answers: reads what was asked, and prints what reading it answers here. `stdout` has what the crate
 // answered; compare/README.md says how both files were made, and what a line of each has.
 #![tactic(auto)]
+
 mod asked;
 mod told;
 
-use libc::STDIN_FILENO;
+ghost use Rattle.std.specs.Prelude.{◌≤◌, length, IfOk};
 
-// The first number says how many questions follow.
-fn replay_all(input: &[u8]) {
-    let mut count = [0u32; 1];
-    let mut at = asked::numbers(input, 0, 1, &mut count);
-    let mut left = count[0];
-    while 0 < left {
-        at = told::replay(input, at);
-        left -= 1;
+use std::io;
+use std::io::Read;
+
+// Reads until `buf` is full or the input ends, and answers how many bytes it has then.
+fn read_full<R: Read>(reader: &mut R, buf: &mut [u8]) -> io::Result<usize>
+    ensures { IfOk result (λ n. n ≤ length buf.new) }
+{
+    let mut got = 0;
+    while got < buf.len() {
+        let n = reader.read(&mut buf[got..])?;
+        if n == 0 {
+            break;
+        }
+        got += n;
     }
+    Ok(got)
 }
 
-fn main() {
+// The first number says how many questions follow.
+fn replay_all(rt: &impl Print, input: &[u8]) -> io::Result<()> {
+    let mut count = [0u32; 1];
+    let mut at = asked::numbers(input, 0, 1, &mut count);
+    for _ in 0..count[0] {
+        at = told::replay(rt, input, at)?;
+    }
+    Ok(())
+}
+
+fn main(rt: HostRuntime) -> io::Result<()> {
     let mut input = [0u8; 131072];
-    let got = io::read_full(STDIN_FILENO, &mut input);
-    replay_all(&input[..got]);
+    let got = read_full(&mut rt.reader(), &mut input)?;
+    replay_all(&rt, &input[..got])
 }

@@ -3,8 +3,8 @@ ghost use Rattle.std.specs.Prelude.{◌≤◌};
 
 use crate::asked;
 use answer::Answer;
-use libc::STDOUT_FILENO;
 use settings::{DecodeSettings, EncodingMode};
+use std::io;
 
 fn joined(high: u32, low: u32) -> u64 {
     high as u64 * 4294967296 + low as u64
@@ -86,69 +86,58 @@ fn ask_within(
     )
 }
 
-fn number(n: u64) {
-    io::print_decimal(STDOUT_FILENO, n);
-    io::write_all(STDOUT_FILENO, b" ");
-}
-
 // No change and no row end is 4294967295: an entry that still has it was left alone.
-fn entry(n: u64) {
-    io::write_all(STDOUT_FILENO, b" ");
+fn entry(rt: &impl Print, n: u64) -> io::Result<()> {
     if n == 4294967295 {
-        io::write_all(STDOUT_FILENO, b"-");
-        return;
+        return print!(rt; " -");
     }
-    io::print_decimal(STDOUT_FILENO, n);
+    print!(rt; " {n}")
 }
 
-// The first `n` changes of an array, and the first `n` row ends. There are no generic functions, so each kind of element has its loop.
-fn entries(array: &[u32], n: u32) {
-    io::write_all(STDOUT_FILENO, b":");
-    let end = within(n, array.len());
-    let mut k = 0;
-    while k < end {
-        entry(array[k] as u64);
-        k += 1;
+// The first `n` changes of an array, the first `n` row ends, and the first `n` marks.
+fn entries(rt: &impl Print, array: &[u32], n: u32) -> io::Result<()> {
+    print!(rt; ":")?;
+    for change in &array[..within(n, array.len())] {
+        entry(rt, u64::from(*change))?;
     }
+    Ok(())
 }
 
-fn row_ends(array: &[u64], n: u32) {
-    io::write_all(STDOUT_FILENO, b":");
-    let end = within(n, array.len());
-    let mut k = 0;
-    while k < end {
-        entry(array[k]);
-        k += 1;
+fn row_ends(rt: &impl Print, array: &[u64], n: u32) -> io::Result<()> {
+    print!(rt; ":")?;
+    for end in &array[..within(n, array.len())] {
+        entry(rt, *end)?;
     }
+    Ok(())
 }
 
 // No mark is 255.
-fn mark(n: u8) {
+fn mark(rt: &impl Print, n: u8) -> io::Result<()> {
     if n == 255 {
-        io::write_all(STDOUT_FILENO, b" -");
-        return;
+        return print!(rt; " -");
     }
-    entry(n as u64);
+    entry(rt, u64::from(n))
 }
 
-fn row_marks(array: &[u8], n: u32) {
-    io::write_all(STDOUT_FILENO, b":");
-    let end = within(n, array.len());
-    let mut k = 0;
-    while k < end {
-        mark(array[k]);
-        k += 1;
+fn row_marks(rt: &impl Print, array: &[u8], n: u32) -> io::Result<()> {
+    print!(rt; ":")?;
+    for one in &array[..within(n, array.len())] {
+        mark(rt, *one)?;
     }
+    Ok(())
 }
 
-fn tell(answer: Answer) {
-    number(answer.number as u64);
-    number(answer.mark as u64);
-    number(answer.rows);
-    number(answer.entries);
-    number(answer.loose);
-    number(answer.bytes);
-    number(answer.place);
+fn tell(rt: &impl Print, answer: Answer) -> io::Result<()> {
+    let Answer {
+        number,
+        mark,
+        rows,
+        entries,
+        loose,
+        bytes,
+        place,
+    } = answer;
+    print!(rt; "{number} {mark} {rows} {entries} {loose} {bytes} {place} ")
 }
 
 fn low_byte(word: u32) -> u8 {
@@ -173,7 +162,7 @@ fn narrow(words: &[u32], out: &mut [u8]) {
 
 // Asks the question that begins at a place, and prints the answer. Answers the place behind the question: its fifteen numbers, the
 // reference, the data.
-pub(crate) fn replay(input: &[u8], from: usize) -> usize {
+pub(crate) fn replay(rt: &impl Print, input: &[u8], from: usize) -> io::Result<usize> {
     let mut n = [0u32; 15];
     let mut reference = [0u32; 32];
     let mut words = [0u32; 128];
@@ -185,12 +174,13 @@ pub(crate) fn replay(input: &[u8], from: usize) -> usize {
     let data = asked::numbers(input, head, n[13], &mut reference);
     let next = asked::numbers(input, data, n[14], &mut words);
     narrow(&words, &mut src);
-    tell(ask_within(&n, &src, &reference, &mut changes, &mut ends, &mut marks));
-    entries(&changes, n[11]);
-    io::write_all(STDOUT_FILENO, b" ");
-    row_ends(&ends, n[12]);
-    io::write_all(STDOUT_FILENO, b" ");
-    row_marks(&marks, n[12]);
-    io::write_all(STDOUT_FILENO, b"\n");
-    next
+    let answer = ask_within(&n, &src, &reference, &mut changes, &mut ends, &mut marks);
+    tell(rt, answer)?;
+    entries(rt, &changes, n[11])?;
+    print!(rt; " ")?;
+    row_ends(rt, &ends, n[12])?;
+    print!(rt; " ")?;
+    row_marks(rt, &marks, n[12])?;
+    println!(rt)?;
+    Ok(next)
 }

@@ -2,6 +2,7 @@
 // each EOL are too few: the bit 1 and the zeros behind it are read as white 3, ten zeros are left, which is no EOL, and the second
 // row is lost. With three it is kept. And a bad line that is marked clean: white 1, and a one.
 use settings::{DecodeSettings, EncodingMode};
+use std::io;
 
 fn leniently(encoding: EncodingMode) -> DecodeSettings {
     let mut settings = crate::strictly(encoding, 1, 2, true, false);
@@ -10,58 +11,65 @@ fn leniently(encoding: EncodingMode) -> DecodeSettings {
     settings
 }
 
-pub(crate) fn pages() {
+pub(crate) fn pages(rt: &impl Print) -> io::Result<()> {
     let lenient = leniently(EncodingMode::Group3_1D);
     crate::parting(
-        b"a bad line, two zeros of fill",
+        rt,
+        "a bad line, two zeros of fill",
         b"\x00\x06\x00\x08\xE0\x00\x80\x08\x00\x80\x08\x00\x80\x08",
         lenient,
-    );
+    )?;
     crate::parting(
-        b"a bad line, three zeros of fill",
+        rt,
+        "a bad line, three zeros of fill",
         b"\x00\x03\x00\x02\x38\x00\x10\x01\x00\x10\x01\x00\x10\x01",
         lenient,
-    );
+    )?;
     crate::parting(
-        b"a bad line that reads clean",
+        rt,
+        "a bad line that reads clean",
         b"\x00\x02\x3C\x00\x08\xE0\x00\x40\x04\x00\x40\x04\x00\x40\x04",
         lenient,
-    );
+    )
 }
 
 // The same with tag bits, three zeros of fill before each EOL: a tag bit 1 alone stands between two EOLs as in an RTC, and its row
 // is lost; with a one behind it it is kept. A tag bit 0 and ten zeros before a one are an EOL, and a row is lost; with nine none
 // is.
-pub(crate) fn with_tags() {
+pub(crate) fn with_tags(rt: &impl Print) -> io::Result<()> {
     let lenient = leniently(EncodingMode::Group3_2D);
     crate::parting(
-        b"a tag bit alone",
+        rt,
+        "a tag bit alone",
         b"\x00\x03\x1C\x00\x0C\x00\x0C\x00\x60\x03\x00\x18\x00\xC0\x06",
         lenient,
-    );
+    )?;
     crate::parting(
-        b"a tag bit and a one",
+        rt,
+        "a tag bit and a one",
         b"\x00\x03\x1C\x00\x0E\x00\x06\x00\x30\x01\x80\x0C\x00\x60\x03",
         lenient,
-    );
+    )?;
     crate::parting(
-        b"eleven zeros with the tag bit",
+        rt,
+        "eleven zeros with the tag bit",
         b"\x00\x02\x00\x20\x00\x63\x80\x01\x80\x0C\x00\x60\x03\x00\x18\x00\xC0",
         lenient,
-    );
+    )?;
     crate::parting(
-        b"ten zeros with the tag bit",
+        rt,
+        "ten zeros with the tag bit",
         b"\x00\x02\x00\x40\x00\xC7\x00\x03\x00\x18\x00\xC0\x06\x00\x30\x01\x80",
         lenient,
-    );
+    )
 }
 
 // Two white rows of two columns by the 1D writer with EOLs, without fill, cut right behind the first line: 0, and one clean row;
 // read exactly it is 14.
-pub(crate) fn cut_between() {
+pub(crate) fn cut_between(rt: &impl Print) -> io::Result<()> {
     let mut settings = crate::strictly(EncodingMode::Group3_1D, 2, 2, true, false);
     settings.end_of_line = true;
-    crate::parting(b"cut between two lines", b"\x00\x17", settings);
+    crate::parting(rt, "cut between two lines", b"\x00\x17", settings)?;
     settings.exact = true;
-    crate::parting(b"cut between two lines, exact", b"\x00\x17", settings);
+    crate::parting(rt, "cut between two lines, exact", b"\x00\x17", settings)
 }

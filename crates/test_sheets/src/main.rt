@@ -5,6 +5,7 @@
 // where none was stored; and the changes, those of kept rows first. Behind them the booking forms of examples/ (parties.rt), the
 // forms that take a reference (lent_forms.rt), and packed rows (bitmaps.rt).
 #![tactic(auto)]
+
 mod bad_lines;
 mod bitmaps;
 mod engines;
@@ -15,13 +16,8 @@ mod parties;
 mod places;
 
 use answer::Answer;
-use libc::STDOUT_FILENO;
 use settings::{DecodeSettings, EncodingMode};
-
-pub(crate) fn field(n: u64) {
-    io::write_all(STDOUT_FILENO, b"\t");
-    io::print_decimal(STDOUT_FILENO, n);
-}
+use std::io;
 
 // Whether a change is one of the kept rows or a loose one behind them.
 fn is_stored(i: u64, entries: u64, loose: u64) -> bool {
@@ -32,42 +28,54 @@ fn is_stored(i: u64, entries: u64, loose: u64) -> bool {
 }
 
 // The changes of a store that an answer counts.
-fn fields(changes: &[u32], entries: u64, loose: u64) {
-    let mut i = 0;
-    while i < changes.len() {
+fn fields(rt: &impl Print, changes: &[u32], entries: u64, loose: u64) -> io::Result<()> {
+    for (i, change) in changes.iter().enumerate() {
         if is_stored(i as u64, entries, loose) {
-            field(changes[i] as u64);
+            print!(rt; "\t{change}")?;
         }
-        i += 1;
     }
+    Ok(())
 }
 
-pub(crate) fn show(name: &[u8], answer: Answer, mark: u8, changes: &[u32]) {
-    io::write_all(STDOUT_FILENO, name);
-    field(answer.number as u64);
-    field(answer.rows);
-    field(answer.entries);
-    field(answer.loose);
-    field(answer.bytes);
-    field(answer.place);
-    field(mark as u64);
-    fields(changes, answer.entries, answer.loose);
-    io::write_all(STDOUT_FILENO, b"\n");
+pub(crate) fn show(
+    rt: &impl Print,
+    name: &str,
+    answer: Answer,
+    mark: u8,
+    changes: &[u32],
+) -> io::Result<()> {
+    print!(rt;
+        "{name}\t{}\t{}\t{}",
+        answer.number, answer.rows, answer.entries
+    )?;
+    print!(rt;
+        "\t{}\t{}\t{}\t{mark}",
+        answer.loose, answer.bytes, answer.place
+    )?;
+    fields(rt, changes, answer.entries, answer.loose)?;
+    println!(rt)
 }
 
-fn sheet(name: &[u8], src: &[u8], settings: DecodeSettings, changes: &mut [u32], ends: &mut [u64]) {
+fn sheet(
+    rt: &impl Print,
+    name: &str,
+    src: &[u8],
+    settings: DecodeSettings,
+    changes: &mut [u32],
+    ends: &mut [u64],
+) -> io::Result<()> {
     let mut marks = [3u8; 8];
     let answer = ccitt::decode(src, settings, changes, ends, &mut marks);
-    show(name, answer, marks[0], changes);
+    show(rt, name, answer, marks[0], changes)
 }
 
 // A place for the row's end, and none for its mark.
-fn no_mark(name: &[u8], src: &[u8], settings: DecodeSettings) {
+fn no_mark(rt: &impl Print, name: &str, src: &[u8], settings: DecodeSettings) -> io::Result<()> {
     let mut changes = [0u32; 2];
     let mut ends = [0u64; 1];
     let mut marks = [0u8; 0];
     let answer = ccitt::decode(src, settings, &mut changes, &mut ends, &mut marks);
-    show(name, answer, 3, &changes);
+    show(rt, name, answer, 3, &changes)
 }
 
 pub(crate) fn group4(strict: bool) -> DecodeSettings {
@@ -98,83 +106,37 @@ pub(crate) fn group3(rows: u32, end_of_line: bool, strict: bool) -> DecodeSettin
     }
 }
 
-fn group4_sheets() {
+fn group4_sheets(rt: &impl Print) -> io::Result<()> {
     let mut two = [0u32; 2];
     let mut one = [0u32; 1];
     let mut end = [0u64; 1];
     let mut none = [0u64; 0];
-    sheet(b"60, strict", b"\x60", group4(true), &mut two, &mut end);
-    sheet(b"60, lenient", b"\x60", group4(false), &mut two, &mut end);
-    sheet(
-        b"31 C0, two entries",
-        b"\x31\xC0",
-        group4(false),
-        &mut two,
-        &mut end,
-    );
-    sheet(
-        b"31 C0, one entry",
-        b"\x31\xC0",
-        group4(false),
-        &mut one,
-        &mut end,
-    );
-    sheet(
-        b"31 C0, no row end",
-        b"\x31\xC0",
-        group4(false),
-        &mut two,
-        &mut none,
-    );
-    no_mark(b"31 C0, no mark", b"\x31\xC0", group4(false));
-    sheet(
-        b"33 40, a run cut to nothing",
-        b"\x33\x40",
-        group4(false),
-        &mut two,
-        &mut end,
-    );
+    let lenient = group4(false);
+    sheet(rt, "60, strict", b"\x60", group4(true), &mut two, &mut end)?;
+    sheet(rt, "60, lenient", b"\x60", lenient, &mut two, &mut end)?;
+    let src = b"\x31\xC0";
+    sheet(rt, "31 C0, two entries", src, lenient, &mut two, &mut end)?;
+    sheet(rt, "31 C0, one entry", src, lenient, &mut one, &mut end)?;
+    sheet(rt, "31 C0, no row end", src, lenient, &mut two, &mut none)?;
+    no_mark(rt, "31 C0, no mark", src, lenient)?;
+    let cut = "33 40, a run cut to nothing";
+    sheet(rt, cut, b"\x33\x40", lenient, &mut two, &mut end)
 }
 
-fn group3_sheets() {
+fn group3_sheets(rt: &impl Print) -> io::Result<()> {
     let mut two = [0u32; 2];
     let mut end = [0u64; 1];
-    sheet(
-        b"98, rows 1",
-        b"\x98",
-        group3(1, false, false),
-        &mut two,
-        &mut end,
-    );
-    sheet(
-        b"98, rows 0",
-        b"\x98",
-        group3(0, false, false),
-        &mut two,
-        &mut end,
-    );
-    sheet(
-        b"empty, end_of_line",
-        b"",
-        group3(0, true, false),
-        &mut two,
-        &mut end,
-    );
-    sheet(b"empty", b"", group3(0, false, false), &mut two, &mut end);
-    sheet(
-        b"00 01, lenient",
-        b"\x00\x01",
-        group3(0, false, false),
-        &mut two,
-        &mut end,
-    );
-    sheet(
-        b"00 01, strict",
-        b"\x00\x01",
-        group3(0, false, true),
-        &mut two,
-        &mut end,
-    );
+    let one_row = group3(1, false, false);
+    sheet(rt, "98, rows 1", b"\x98", one_row, &mut two, &mut end)?;
+    let any_rows = group3(0, false, false);
+    sheet(rt, "98, rows 0", b"\x98", any_rows, &mut two, &mut end)?;
+    let with_eols = group3(0, true, false);
+    sheet(rt, "empty, end_of_line", b"", with_eols, &mut two, &mut end)?;
+    sheet(rt, "empty", b"", any_rows, &mut two, &mut end)?;
+    let src = b"\x00\x01";
+    sheet(rt, "00 01, lenient", src, any_rows, &mut two, &mut end)?;
+    let strict = group3(0, false, true);
+    sheet(rt, "00 01, strict", src, strict, &mut two, &mut end)
 }
 
 // Settings for an input that parts from the standard: it is read all the same, though strictly.
@@ -198,191 +160,227 @@ pub(crate) fn strictly(
     }
 }
 
-pub(crate) fn parting(name: &[u8], src: &[u8], settings: DecodeSettings) {
+pub(crate) fn parting(
+    rt: &impl Print,
+    name: &str,
+    src: &[u8],
+    settings: DecodeSettings,
+) -> io::Result<()> {
     let mut changes = [0u32; 4];
     let mut ends = [0u64; 8];
-    sheet(name, src, settings, &mut changes, &mut ends);
+    sheet(rt, name, src, settings, &mut changes, &mut ends)
 }
 
 pub(crate) fn group4_parting(
-    name: &[u8],
+    rt: &impl Print,
+    name: &str,
     src: &[u8],
     rows: u32,
     end_of_block: bool,
     aligned: bool,
-) {
+) -> io::Result<()> {
     parting(
+        rt,
         name,
         src,
         strictly(EncodingMode::Group4, 8, rows, end_of_block, aligned),
-    );
+    )
 }
 
 pub(crate) fn group3_parting(
-    name: &[u8],
+    rt: &impl Print,
+    name: &str,
     src: &[u8],
     rows: u32,
     end_of_block: bool,
     aligned: bool,
-) {
+) -> io::Result<()> {
     parting(
+        rt,
         name,
         src,
         strictly(EncodingMode::Group3_1D, 8, rows, end_of_block, aligned),
-    );
+    )
 }
 
-pub(crate) fn group3_2d_parting(name: &[u8], src: &[u8], rows: u32, end_of_block: bool) {
+pub(crate) fn group3_2d_parting(
+    rt: &impl Print,
+    name: &str,
+    src: &[u8],
+    rows: u32,
+    end_of_block: bool,
+) -> io::Result<()> {
     parting(
+        rt,
         name,
         src,
         strictly(EncodingMode::Group3_2D, 8, rows, end_of_block, false),
-    );
+    )
 }
 
 // Codes of runs and of lines.
-fn code_partings() {
+fn code_partings(rt: &impl Print) -> io::Result<()> {
     parting(
-        b"64 and 64",
+        rt,
+        "64 and 64",
         b"\xDE\xCD\x40",
         strictly(EncodingMode::Group3_1D, 128, 1, false, false),
-    );
+    )?;
     parting(
-        b"64 before 2560",
+        rt,
+        "64 before 2560",
         b"\xD8\x0F\x9A\x80",
         strictly(EncodingMode::Group3_1D, 2624, 1, false, false),
-    );
-    group3_parting(b"extension in 1D", b"\x00\xF0", 1, false, false);
-    group4_parting(b"uncompressed mode", b"\x03\xC0", 1, false, false);
-    group3_parting(b"no black between", b"\x80\xDF\x00", 1, false, false);
+    )?;
+    group3_parting(rt, "extension in 1D", b"\x00\xF0", 1, false, false)?;
+    group4_parting(rt, "uncompressed mode", b"\x03\xC0", 1, false, false)?;
+    group3_parting(rt, "no black between", b"\x80\xDF\x00", 1, false, false)?;
     group4_parting(
-        b"two runs of nothing, strict",
+        rt,
+        "two runs of nothing, strict",
         b"\x26\xA1\xBC",
         1,
         false,
         false,
-    );
-    group4_parting(b"pass to the end", b"\x10", 1, false, false);
-    group4_parting(b"horizontal for V0", b"\x33\x0D\xC0", 1, false, false);
-    group4_parting(b"VR3 past b2", b"\x2E\xA0\xE0", 2, false, false);
+    )?;
+    group4_parting(rt, "pass to the end", b"\x10", 1, false, false)?;
+    group4_parting(rt, "horizontal for V0", b"\x33\x0D\xC0", 1, false, false)?;
+    group4_parting(rt, "VR3 past b2", b"\x2E\xA0\xE0", 2, false, false)
 }
 
 // What stands between the lines of a Group 4 page, and at its end.
-fn group4_partings() {
-    group4_parting(b"an EOL in Group 4", b"\x00\x18", 1, false, false);
-    group4_parting(b"no EOFB", b"\xFF", 0, true, false);
+fn group4_partings(rt: &impl Print) -> io::Result<()> {
+    group4_parting(rt, "an EOL in Group 4", b"\x00\x18", 1, false, false)?;
+    group4_parting(rt, "no EOFB", b"\xFF", 0, true, false)?;
     group4_parting(
-        b"EOFB without end_of_block",
+        rt,
+        "EOFB without end_of_block",
         b"\x80\x08\x00\x80",
         0,
         false,
         false,
-    );
-    group4_parting(b"aligned Group 4", b"\x80\x80", 2, false, true);
-    group4_parting(b"bits behind EOFB", b"\x80\x08\x00\x80\xFF", 0, true, false);
-    group4_parting(b"bits behind the rows", b"\xFF", 1, false, false);
-    group4_parting(b"fill before EOFB", b"\x80\x01\x00\x10", 0, true, false);
-    group4_parting(b"fill in EOFB", b"\x80\x08\x00\x10", 0, true, false);
+    )?;
+    group4_parting(rt, "aligned Group 4", b"\x80\x80", 2, false, true)?;
+    group4_parting(
+        rt,
+        "bits behind EOFB",
+        b"\x80\x08\x00\x80\xFF",
+        0,
+        true,
+        false,
+    )?;
+    group4_parting(rt, "bits behind the rows", b"\xFF", 1, false, false)?;
+    group4_parting(rt, "fill before EOFB", b"\x80\x01\x00\x10", 0, true, false)?;
+    group4_parting(rt, "fill in EOFB", b"\x80\x08\x00\x10", 0, true, false)
 }
 
 // What stands between the lines of a Group 3 page.
-fn group3_partings() {
-    group3_parting(b"no EOL", b"\x98", 1, false, false);
+fn group3_partings(rt: &impl Print) -> io::Result<()> {
+    group3_parting(rt, "no EOL", b"\x98", 1, false, false)?;
     group3_parting(
-        b"EOLs behind some lines",
+        rt,
+        "EOLs behind some lines",
         b"\x98\x00\xCE\x60",
         3,
         false,
         false,
-    );
+    )?;
     group3_parting(
-        b"two EOLs in a row",
+        rt,
+        "two EOLs in a row",
         b"\x00\x19\x80\x08\x00\xCC",
         2,
         true,
         false,
-    );
-    group3_parting(b"aligned Group 3", b"\x98\x98", 2, false, true);
+    )?;
+    group3_parting(rt, "aligned Group 3", b"\x98\x98", 2, false, true)?;
     group3_parting(
-        b"fill before the page",
+        rt,
+        "fill before the page",
         b"\x00\x00\x00\x00\x01\x98",
         1,
         false,
         false,
-    );
-    group3_2d_parting(b"2D lines alone", b"\x55", 0, false);
+    )?;
+    group3_2d_parting(rt, "2D lines alone", b"\x55", 0, false)
 }
 
 // What stands at its end.
-fn group3_ends() {
-    group3_parting(b"no RTC", b"\x00\x19\x80\x01", 0, true, false);
+fn group3_ends(rt: &impl Print) -> io::Result<()> {
+    group3_parting(rt, "no RTC", b"\x00\x19\x80\x01", 0, true, false)?;
     group3_parting(
-        b"seven EOLs as RTC",
+        rt,
+        "seven EOLs as RTC",
         b"\x00\x19\x80\x08\x00\x80\x08\x00\x80\x08\x00\x80\x08",
         0,
         true,
         false,
-    );
+    )?;
     group3_parting(
-        b"bits behind RTC",
+        rt,
+        "bits behind RTC",
         b"\x00\x19\x80\x08\x00\x80\x08\x00\x80\x08\x00\x80\xFF",
         0,
         true,
         false,
-    );
+    )?;
     group3_parting(
-        b"RTC alone",
+        rt,
+        "RTC alone",
         b"\x00\x10\x01\x00\x10\x01\x00\x10\x01",
         0,
         true,
         false,
-    );
+    )?;
     group3_parting(
-        b"RTC without end_of_block",
+        rt,
+        "RTC without end_of_block",
         b"\x00\x19\x80\x08\x00\x80\x08\x00\x80\x08\x00\xCC",
         2,
         false,
         false,
-    );
+    )
 }
 
 // The same with tag bits.
-fn ends_with_tags() {
+fn ends_with_tags(rt: &impl Print) -> io::Result<()> {
     group3_2d_parting(
-        b"RTC without tags",
+        rt,
+        "RTC without tags",
         b"\x00\x1C\xC0\x04\x00\x40\x04\x00\x40\x04\x00\x40",
         0,
         true,
-    );
+    )?;
     group3_2d_parting(
-        b"RTC alone in 2D",
+        rt,
+        "RTC alone in 2D",
         b"\x00\x18\x00\xC0\x06\x00\x30\x01\x80\x0C",
         0,
         true,
-    );
+    )
 }
 
-fn main() {
-    group4_sheets();
-    group3_sheets();
-    code_partings();
-    group4_partings();
-    group3_partings();
-    group3_ends();
-    ends_with_tags();
-    lenient::pages();
-    lenient::with_tags();
-    places::in_group4();
-    places::in_group3();
-    places::of_a_line();
-    exact::idle_codes();
-    exact::short_pages();
-    exact::strict_implied();
-    engines::pages();
-    bad_lines::pages();
-    bad_lines::with_tags();
-    bad_lines::cut_between();
-    parties::forms();
-    lent_forms::forms();
-    bitmaps::rows();
+fn main(rt: HostRuntime) -> io::Result<()> {
+    group4_sheets(&rt)?;
+    group3_sheets(&rt)?;
+    code_partings(&rt)?;
+    group4_partings(&rt)?;
+    group3_partings(&rt)?;
+    group3_ends(&rt)?;
+    ends_with_tags(&rt)?;
+    lenient::pages(&rt)?;
+    lenient::with_tags(&rt)?;
+    places::in_group4(&rt)?;
+    places::in_group3(&rt)?;
+    places::of_a_line(&rt)?;
+    exact::idle_codes(&rt)?;
+    exact::short_pages(&rt)?;
+    exact::strict_implied(&rt)?;
+    engines::pages(&rt)?;
+    bad_lines::pages(&rt)?;
+    bad_lines::with_tags(&rt)?;
+    bad_lines::cut_between(&rt)?;
+    parties::forms(&rt)?;
+    lent_forms::forms(&rt)?;
+    bitmaps::rows(&rt)
 }

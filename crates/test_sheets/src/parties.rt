@@ -1,9 +1,9 @@
 // The booking forms of examples/, whose bytes are the standard input, one behind the other: what is ticked on them. A line has its
 // name, the number and the rows of the reading, and the number, the heads and the quota left of the heads.
-use crate::field;
 use heads::Box;
-use libc::{STDIN_FILENO, STDOUT_FILENO};
 use settings::{DecodeSettings, EncodingMode};
+use std::io;
+use std::io::{Input, Read};
 
 // The insides of the twenty boxes (examples/README.md): for each digit its tens box and its units box.
 fn boxes_of(top: u32, bottom: u32) -> [Box; 2] {
@@ -52,60 +52,67 @@ fn settings(encoding: EncodingMode, end_of_line: bool) -> DecodeSettings {
     }
 }
 
-fn signed(n: i32) {
-    let wide = n as i64;
-    if wide < 0 {
-        io::write_all(STDOUT_FILENO, b"\t-");
-        io::print_decimal(STDOUT_FILENO, (0 - wide) as u64);
-        return;
-    }
-    field(wide as u64);
-}
-
 // A tick has 54 black pixels, and a box without one has none.
-fn party(name: &[u8], src: &[u8], settings: DecodeSettings, quota: i32) {
+fn party(
+    rt: &impl Print,
+    name: &str,
+    src: &[u8],
+    settings: DecodeSettings,
+    quota: i32,
+) -> io::Result<()> {
     let mut changes = [0u32; 8192];
     let mut ends = [0u64; 400];
     let mut marks = [0u8; 400];
     let answer = ccitt::decode(src, settings, &mut changes, &mut ends, &mut marks);
     let said = heads::heads(settings.columns, &changes, &ends, &marks, form(), 20, quota);
-    io::write_all(STDOUT_FILENO, name);
-    field(answer.number as u64);
-    field(answer.rows);
-    field(said.number as u64);
-    field(said.heads as u64);
-    signed(said.left);
-    io::write_all(STDOUT_FILENO, b"\n");
+    print!(rt; "{name}\t{}\t{}", answer.number, answer.rows)?;
+    println!(rt; "\t{}\t{}\t{}", said.number, said.heads, said.left)
 }
 
-pub(crate) fn forms() {
+// Reads until `buf` is full or the input ends.
+fn fill<R: Read>(reader: &mut R, buf: &mut [u8]) -> io::Result<()> {
+    let mut got = 0;
+    while got < buf.len() {
+        let n = reader.read(&mut buf[got..])?;
+        if n == 0 {
+            break;
+        }
+        got += n;
+    }
+    Ok(())
+}
+
+pub(crate) fn forms(rt: &(impl Print + Input)) -> io::Result<()> {
     let mut forty = [0u8; 972];
-    io::read_full(STDIN_FILENO, &mut forty);
+    fill(&mut rt.reader(), &mut forty)?;
     let group4 = settings(EncodingMode::Group4, false);
-    party(b"forty.g4, quota 100", &forty, group4, 100);
-    party(b"forty.g4, quota 39", &forty, group4, 39);
+    party(rt, "forty.g4, quota 100", &forty, group4, 100)?;
+    party(rt, "forty.g4, quota 39", &forty, group4, 39)?;
     let mut seventeen = [0u8; 3999];
-    io::read_full(STDIN_FILENO, &mut seventeen);
+    fill(&mut rt.reader(), &mut seventeen)?;
     let group3 = settings(EncodingMode::Group3_1D, true);
-    party(b"seventeen.g31d, quota 17", &seventeen, group3, 17);
+    party(rt, "seventeen.g31d, quota 17", &seventeen, group3, 17)?;
     party(
-        b"seventeen.g31d, quota 1000001",
+        rt,
+        "seventeen.g31d, quota 1000001",
         &seventeen,
         group3,
         1000001,
-    );
+    )?;
     seventeen[189] = 0;
     party(
-        b"seventeen.g31d, a bad line above the boxes",
+        rt,
+        "seventeen.g31d, a bad line above the boxes",
         &seventeen,
         group3,
         17,
-    );
+    )?;
     seventeen[1294] = 0;
     party(
-        b"seventeen.g31d, a bad line under a box",
+        rt,
+        "seventeen.g31d, a bad line under a box",
         &seventeen,
         group3,
         17,
-    );
+    )
 }

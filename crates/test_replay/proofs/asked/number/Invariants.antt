@@ -1,5 +1,5 @@
 -- The invariant: the number so far is below 2^32. Assumes nothing.
-use Prim.Native.Nat.{◌-◌, ◌<◌}
+use Rattle.std.proofs.Common.{◌-◌, ◌<◌}
 use lib.ListN.{length}
 use Rattle.test_replay.proofs.asked.number.Given as goal
 

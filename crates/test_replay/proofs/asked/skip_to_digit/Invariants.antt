@@ -1,5 +1,5 @@
 -- The invariant: the place only rises. Assumes nothing.
-use Prim.Native.Nat.{◌-◌, ◌≤◌}
+use Rattle.std.proofs.Common.{◌-◌, ◌≤◌}
 use lib.ListN.{length}
 use Rattle.test_replay.proofs.asked.skip_to_digit.Given as goal
 

@@ -1,6 +1,6 @@
 -- The invariant: the place stays within the array, whose length stays. Assumes nothing.
 use mathlib.Core.Path.{◌≡◌}
-use Prim.Native.Nat.{◌-◌, ◌≤◌}
+use Rattle.std.proofs.Common.{◌-◌, ◌≤◌}
 use lib.ListN.{length}
 use Rattle.test_replay.proofs.told.narrow.Given as goal
 
