@@ -6,7 +6,7 @@ use mathlib.Core.List.{List, []}
 use Prim.Native.Nat.{ℕ, ◌≤◌, ◌<◌}
 use native.Mathlib.Omega.{arith}
 use lib.ListN.{length}
-use Rattle.rules.specs.Lines.{Line, Went, went, failed, two, read_line}
+use Rattle.rules.specs.Lines.{Went, went, failed, two, read_line}
 use Rattle.rules.specs.Rows.{Encoding, group4, group3_1_d, group3_2_d, Settings, State, recovered_mark, RowOut, row, stop, rules_of}
 use Rattle.rules.specs.Group4.{eols_before, after_line4}
 use Rattle.rules.specs.Group3.{Tagging, untagged, tagged, kept, after_line3, row3}

@@ -1,6 +1,7 @@
 // The row form (02, A1): one row a call, into one of two lent line arrays, under the row that the call before it left in the other.
 // The same two arrays are lent in the same order at each call, and the state is handed back as left.
 #![tactic(auto)]
+
 ghost use Rattle.std.specs.Prelude.{◌≡◌, ◌≤◌};
 ghost use Rattle.rules.specs.Pages.{most_bytes};
 ghost use Rattle.rules.specs.ByRow.{ended, row_start};

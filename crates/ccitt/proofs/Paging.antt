@@ -13,8 +13,6 @@ use Rattle.rules.specs.Machine.{Out, more, done, ends}
 use Rattle.rules.specs.Bits.{bits_of}
 use Rattle.rules.specs.Rows as Rule
 use Rattle.rules.specs.Rows.{Encoding, Settings, RowOut, row, stop}
-use Rattle.rules.specs.Group4.{row4}
-use Rattle.rules.specs.Group3.{row3}
 use Rattle.rules.specs.Pages as Page
 use Rattle.rules.specs.Pages.{most_bytes, entries, none_kept, with_row, end_with, row_of, rows_left, page_of, read_page, too_few, short_of, unless_short, decode, places_in, overlaid, joined, ends_from, changes_after, ends_after, marks_after}
 use Rattle.rules.proofs.Machine.{ends_more, ends-done}
@@ -30,7 +28,6 @@ use Rattle.rules.proofs.Store.{length-overlaid, overlaid-nothing, overlaid-behin
 use Rattle.tables.specs.Pairs.{pair_table}
 use Rattle.tables.specs.Tables.{Lookups}
 use Rattle.context.specs.declared.reference.Reference.{Reference}
-use Rattle.context.specs.declared.reference.Reference.TheVariants as Reference
 use Rattle.context.specs.Coding.{Placed, PairedFor}
 use Rattle.answer.specs.Answer.{answer_of}
 use Rattle.answer.specs.declared.Answer.{Answer}
@@ -38,12 +35,10 @@ use Rattle.settings.specs.declared.DecodeSettings.{DecodeSettings}
 use Rattle.settings.specs.declared.State.{State}
 use Rattle.settings.specs.declared.Row.{Row}
 use Rattle.settings.specs.declared.Row.TheVariants.{Kept, Stop}
-use Rattle.settings.specs.declared.EncodingMode.{EncodingMode}
-use Rattle.settings.specs.declared.EncodingMode.TheVariants.{Group4, Group3_1D, Group3_2D}
-use Rattle.settings.specs.Settings.{encoding_of, settings_of, strict_for}
-use Rattle.settings.specs.Between.{state_of, row_for, changes_in, RowFrom, RowGives, Rowed}
+use Rattle.settings.specs.Settings.{settings_of, strict_for}
+use Rattle.settings.specs.Between.{state_of, row_for, changes_in, RowFrom, Rowed}
 use Rattle.ccitt.specs.declared.Watched.{Watched}
-use Rattle.ccitt.specs.Decode.{counted, behind_row, Behind, PageFrom, Gives, Reads, Sees, told_of, short_for, refused_with, Watches}
+use Rattle.ccitt.specs.Decode.{counted, behind_row, Behind, PageFrom, Gives, Sees, told_of, short_for, refused_with, Watches}
 
 -- ---- What an answer of the code says of the outcome
 

@@ -1,5 +1,6 @@
 // The page form (`decode` of lib.rs): all three encodings, one loop, rows kept in lent arrays.
 #![tactic(auto)]
+
 ghost use Rattle.std.specs.Prelude.{◌≡◌, ◌||◌, [], min};
 ghost use Rattle.tables.specs.Pairs.{pair_table};
 ghost use Rattle.tables.specs.Tables.{Lookups};

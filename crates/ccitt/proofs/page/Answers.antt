@@ -1,5 +1,4 @@
 -- `ccitt::page` meets its contract. The invariant: the machine stands where the arrays say, `expected` whether EOLs were behind one of its rows, and `places` is the shorter of the two. Assumes nothing.
-use mathlib.Core.Path.{◌≡◌}
 use Rattle.ccitt.proofs.Paging.{turn-start, turn-asked, kept-paired, turn_stopped, turn-full, turn-marked, turn-behind, turn-next, turn-falls}
 use native.Mathlib.Omega.{arith}
 use Rattle.ccitt.proofs.page.Goals as goal
