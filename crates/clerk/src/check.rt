@@ -54,8 +54,7 @@ fn agree(
 ) -> bool {
     let mut one = by_row::row_start();
     let mut two = by_row::row_start();
-    let mut left = walk::calls(src.len());
-    while 0 < left {
+    for _ in 0..walk::calls(src.len()) {
         let both = call_both(
             src, settings, others, one, two, first, second, third, fourth,
         );
@@ -66,15 +65,14 @@ fn agree(
         one = a;
         let b = both.two;
         two = b;
-        left -= 1;
     }
     false
 }
 
-fn counted(good: bool, name: &[u8], n: u64) -> bool {
-    let good = say::text(good, b"\t");
-    let good = say::text(good, name);
-    say::field(good, n)
+fn counted(rt: &HostRuntime, good: bool, name: &[u8], n: u64) -> bool {
+    let good = say::text(rt, good, b"\t");
+    let good = say::text(rt, good, name);
+    say::field(rt, good, n)
 }
 
 // The row behind so many; a page of 16 MiB has fewer than 134,217,730.
@@ -82,18 +80,18 @@ fn row_behind(rows: u64) -> u64 {
     if rows < 4294967296 { rows + 1 } else { rows }
 }
 
-fn reason(good: bool, v: Verdict) -> bool {
+fn reason(rt: &HostRuntime, good: bool, v: Verdict) -> bool {
     let mut words = room::text();
     let n = ledger::put_reason(&mut words, v);
-    say::bytes(good, &words, n)
+    say::bytes(rt, good, &words, n)
 }
 
 // How a reading ended, in the words that a page's line has for it.
-fn ended(good: bool, answer: Answer) -> bool {
+fn ended(rt: &HostRuntime, good: bool, answer: Answer) -> bool {
     let mut v: Verdict = ledger::unread(answer.number);
     v.place = answer.place;
     v.row = row_behind(answer.rows);
-    reason(good, v)
+    reason(rt, good, v)
 }
 
 // A part of the answer: whether it could be written, whether all is well so far, and how the reading ended.
@@ -106,6 +104,7 @@ struct Part {
 
 // How another reading ends, and whether it agrees with the first.
 fn other_reading(
+    rt: &HostRuntime,
     before: Part,
     name: &[u8],
     src: &[u8],
@@ -118,6 +117,7 @@ fn other_reading(
     let mut third = room::line();
     let mut fourth = room::line();
     let read = walk::page(
+        rt,
         src,
         others,
         walk::Show::Nothing,
@@ -135,7 +135,7 @@ fn other_reading(
         &mut third,
         &mut fourth,
     );
-    let good = told(before.good, name, agrees, end);
+    let good = told(rt, before.good, name, agrees, end);
     Part {
         good,
         well: if agrees { before.well } else { false },
@@ -143,29 +143,29 @@ fn other_reading(
     }
 }
 
-fn told(good: bool, name: &[u8], agrees: bool, end: Answer) -> bool {
-    let good = say::text(good, name);
+fn told(rt: &HostRuntime, good: bool, name: &[u8], agrees: bool, end: Answer) -> bool {
+    let good = say::text(rt, good, name);
     let good = if agrees {
-        say::text(good, b"\tagrees\t")
+        say::text(rt, good, b"\tagrees\t")
     } else {
-        say::text(good, b"\tdiffers\t")
+        say::text(rt, good, b"\tdiffers\t")
     };
-    ended(good, end)
+    ended(rt, good, end)
 }
 
 // The strict reading says where the first fault is.
-fn fault(before: Part, strict: Answer) -> Part {
-    let good = say::text(before.good, b"fault\t");
+fn fault(rt: &HostRuntime, before: Part, strict: Answer) -> Part {
+    let good = say::text(rt, before.good, b"fault\t");
     let end = before.end;
     if strict.number == answer::COMPLETE {
         return Part {
-            good: say::text(good, b"none\n"),
+            good: say::text(rt, good, b"none\n"),
             well: before.well,
             end,
         };
     }
     Part {
-        good: ended(good, strict),
+        good: ended(rt, good, strict),
         well: false,
         end,
     }
@@ -173,26 +173,32 @@ fn fault(before: Part, strict: Answer) -> Part {
 
 // Whether a page is proper, or the bit at which it parts from what would be written, in the words of a page's line; of a page that is not
 // read to its end neither is known. That it is not proper is no fault: not all that write pages write them alike.
-fn proper_told(good: bool, checked: Checked) -> bool {
+fn proper_told(rt: &HostRuntime, good: bool, checked: Checked) -> bool {
     let end = checked.answer;
     if end.number != answer::COMPLETE {
-        return say::text(good, b"proper\t-\n");
+        return say::text(rt, good, b"proper\t-\n");
     }
     if checked.proper {
-        return say::text(good, b"proper\tyes\n");
+        return say::text(rt, good, b"proper\tyes\n");
     }
-    let good = say::text(good, b"proper\tno\t");
+    let good = say::text(rt, good, b"proper\tno\t");
     let mut v: Verdict = ledger::unread(ledger::NOT_PROPER);
     v.count = checked.parts;
-    reason(good, v)
+    reason(rt, good, v)
 }
 
 // EOLs that were given up are told, and then the page is to be looked at.
-fn checked(before: Part, src: &[u8], settings: DecodeSettings, changes: &mut [u32]) -> Part {
+fn checked(
+    rt: &HostRuntime,
+    before: Part,
+    src: &[u8],
+    settings: DecodeSettings,
+    changes: &mut [u32],
+) -> Part {
     let mut ends = room::ends();
     let mut marks = room::marks();
     let read = proper::check(src, settings, changes, &mut ends, &mut marks);
-    let good = proper_told(before.good, read);
+    let good = proper_told(rt, before.good, read);
     let end = before.end;
     if !read.gave_up {
         return Part {
@@ -201,9 +207,9 @@ fn checked(before: Part, src: &[u8], settings: DecodeSettings, changes: &mut [u3
             end,
         };
     }
-    let good = say::text(good, b"marks\t");
+    let good = say::text(rt, good, b"marks\t");
     Part {
-        good: reason(good, ledger::unread(ledger::GAVE_UP)),
+        good: reason(rt, good, ledger::unread(ledger::GAVE_UP)),
         well: false,
         end,
     }
@@ -218,25 +224,25 @@ fn read_as(settings: DecodeSettings, strict: bool, exact: bool, plain: bool) -> 
     other
 }
 
-fn rows_told(read: Counts) -> bool {
+fn rows_told(rt: &HostRuntime, read: Counts) -> bool {
     let end = read.end;
-    let good = say::text(true, b"rows");
-    let good = say::field(good, end.rows);
-    let good = counted(good, b"clean", read.clean);
-    let good = counted(good, b"cut", read.cut);
-    let good = counted(good, b"recovered", read.recovered);
-    say::text(good, b"\n")
+    let good = say::text(rt, true, b"rows");
+    let good = say::field(rt, good, end.rows);
+    let good = counted(rt, good, b"clean", read.clean);
+    let good = counted(rt, good, b"cut", read.cut);
+    let good = counted(rt, good, b"recovered", read.recovered);
+    say::text(rt, good, b"\n")
 }
 
 // How many bytes the page has, and how many are left behind it; of a page that is not read to its end neither is known.
-fn bytes_told(good: bool, end: Answer, behind: u64) -> bool {
+fn bytes_told(rt: &HostRuntime, good: bool, end: Answer, behind: u64) -> bool {
     if end.number != answer::COMPLETE {
-        return say::text(good, b"bytes\t-\tbehind\t-\n");
+        return say::text(rt, good, b"bytes\t-\tbehind\t-\n");
     }
-    let good = say::text(good, b"bytes");
-    let good = say::field(good, end.bytes);
-    let good = counted(good, b"behind", behind);
-    say::text(good, b"\n")
+    let good = say::text(rt, good, b"bytes");
+    let good = say::field(rt, good, end.bytes);
+    let good = counted(rt, good, b"behind", behind);
+    say::text(rt, good, b"\n")
 }
 
 fn left_behind(size: usize, bytes: u64) -> u64 {
@@ -257,10 +263,11 @@ fn is_well(read: Counts, behind: u64) -> bool {
 }
 
 // How many rows are clean, cut and recovered where the page is read leniently, how many bytes it has, and how that ends.
-fn lenient(src: &[u8], settings: DecodeSettings, out: &mut [u8]) -> Part {
+fn lenient(rt: &HostRuntime, src: &[u8], settings: DecodeSettings, out: &mut [u8]) -> Part {
     let mut first = room::line();
     let mut second = room::line();
     let read = walk::page(
+        rt,
         src,
         settings,
         walk::Show::Nothing,
@@ -270,32 +277,45 @@ fn lenient(src: &[u8], settings: DecodeSettings, out: &mut [u8]) -> Part {
     );
     let end = read.end;
     let behind = left_behind(src.len(), end.bytes);
-    let good = rows_told(read);
-    let good = bytes_told(good, end, behind);
-    let good = say::text(good, b"lenient\tread\t");
+    let good = rows_told(rt, read);
+    let good = bytes_told(rt, good, end, behind);
+    let good = say::text(rt, good, b"lenient\tread\t");
     Part {
-        good: ended(good, end),
+        good: ended(rt, good, end),
         well: is_well(read, behind),
         end,
     }
 }
 
-fn exact_and_plain(before: Part, src: &[u8], settings: DecodeSettings, out: &mut [u8]) -> Part {
+fn exact_and_plain(
+    rt: &HostRuntime,
+    before: Part,
+    src: &[u8],
+    settings: DecodeSettings,
+    out: &mut [u8],
+) -> Part {
     let exact = read_as(settings, true, true, false);
     let plain = read_as(settings, false, false, true);
-    let part = other_reading(before, b"exact", src, settings, exact, out);
-    other_reading(part, b"plain", src, settings, plain, out)
+    let part = other_reading(rt, before, b"exact", src, settings, exact, out);
+    other_reading(rt, part, b"plain", src, settings, plain, out)
 }
 
-fn others(before: Part, src: &[u8], settings: DecodeSettings, out: &mut [u8]) -> Part {
+fn others(
+    rt: &HostRuntime,
+    before: Part,
+    src: &[u8],
+    settings: DecodeSettings,
+    out: &mut [u8],
+) -> Part {
     let strict = read_as(settings, true, false, false);
-    let part = other_reading(before, b"strict", src, settings, strict, out);
+    let part = other_reading(rt, before, b"strict", src, settings, strict, out);
     let end = part.end;
-    let rest = exact_and_plain(part, src, settings, out);
-    fault(rest, end)
+    let rest = exact_and_plain(rt, part, src, settings, out);
+    fault(rt, rest, end)
 }
 
 pub(crate) fn page(
+    rt: &HostRuntime,
     src: &[u8],
     settings: DecodeSettings,
     name: &[u8],
@@ -303,13 +323,13 @@ pub(crate) fn page(
     out: &mut [u8],
 ) -> u32 {
     let base = read_as(settings, false, false, false);
-    let read = lenient(src, base, out);
+    let read = lenient(rt, src, base, out);
     let end = read.end;
-    reading::hint(src, settings, end.number, end.place, name);
-    let rest = others(read, src, base, out);
-    let all = checked(rest, src, base, changes);
+    reading::hint(rt, src, settings, end.number, end.place, name);
+    let rest = others(rt, read, src, base, out);
+    let all = checked(rt, rest, src, base, changes);
     if all.well {
-        return say::status_of(all.good, say::WELL);
+        return say::status_of(rt, all.good, say::WELL);
     }
-    say::status_of(all.good, say::LOOK)
+    say::status_of(rt, all.good, say::LOOK)
 }

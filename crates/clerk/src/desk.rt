@@ -1,9 +1,11 @@
 // The heads on the pages of a call, one after the other (02, A11): each page's line is written as soon as the page was read.
 use crate::done::Run;
+use crate::files::Source;
 use crate::names::Names;
 use crate::options::Options;
-use crate::{done, feed, files, lines, names, reading, room, say};
+use crate::{done, feed, files, lines, names, options, reading, room, say};
 use ledger::{Entered, Ledger, Verdict};
+use std::io::IsTerminal;
 
 // How the form's pages are read: as the desk does, or as the options ask.
 pub(crate) fn how(o: Options) -> u32 {
@@ -28,6 +30,7 @@ fn unread(number: u32, name: &[u8], b: Ledger, line: &mut [u8]) -> Entered {
 
 // The verdict on a page whose bytes are at hand.
 fn judged(
+    rt: &HostRuntime,
     o: Options,
     form: &[u8],
     name: &[u8],
@@ -57,7 +60,7 @@ fn judged(
         line,
     );
     let verdict = booked.verdict;
-    reading::hint(src, settings, verdict.number, verdict.place, name);
+    reading::hint(rt, src, settings, verdict.number, verdict.place, name);
     let after = booked.ledger;
     Entered {
         ledger: after,
@@ -66,18 +69,18 @@ fn judged(
 }
 
 // Whether the standard input is the list of the pages, and this page too.
-fn is_taken(name: &[u8], list: i32) -> bool {
-    if list == libc::STDIN_FILENO {
-        files::is_input(name)
-    } else {
-        false
+fn is_taken(name: &[u8], list: &Option<Source>) -> bool {
+    match list {
+        Some(Source::Input(_)) => files::is_input(name),
+        _ => false,
     }
 }
 
 fn page(
+    rt: &HostRuntime,
     o: Options,
     form: &[u8],
-    list: i32,
+    list: &Option<Source>,
     name: &[u8],
     b: Ledger,
     input: &mut [u8],
@@ -91,15 +94,16 @@ fn page(
     if is_taken(name, list) {
         return unread(ledger::UNREADABLE_FILE, name, b, line);
     }
-    let got = files::read(name, input, 0);
-    if got.fault != 0 {
-        return unread(got.fault, name, b, line);
-    }
+    let bytes = match files::read(rt, name, input, 0) {
+        Ok(bytes) => bytes,
+        Err(fault) => return unread(fault, name, b, line),
+    };
     judged(
+        rt,
         o,
         form,
         name,
-        lines::front(input, got.bytes),
+        lines::front(input, bytes),
         b,
         changes,
         line,
@@ -113,19 +117,19 @@ struct Outcome {
     ledger: Ledger,
 }
 
-fn told(entered: Entered, line: &[u8]) -> Outcome {
+fn told(rt: &HostRuntime, entered: Entered, line: &[u8]) -> Outcome {
     let after = entered.ledger;
     if entered.text == 0 {
-        say::complain(b"the books have no room for a page more");
+        say::complain(rt, b"the books have no room for a page more");
         return Outcome {
             good: false,
             ledger: after,
         };
     }
-    cleared();
-    let good = say::bytes(true, line, entered.text);
+    cleared(rt);
+    let good = say::bytes(rt, true, line, entered.text);
     if !good {
-        say::complain(b"the output cannot be written");
+        say::complain(rt, b"the output cannot be written");
     }
     Outcome {
         good,
@@ -133,28 +137,28 @@ fn told(entered: Entered, line: &[u8]) -> Outcome {
     }
 }
 
-fn is_watched() -> bool {
-    libc::isatty(libc::STDERR_FILENO) == 1
+fn is_watched(rt: &HostRuntime) -> bool {
+    rt.stderr().is_terminal()
 }
 
 // The line of the terminal is emptied, so that nothing of the progress is left on it.
-fn cleared() {
-    if is_watched() {
-        io::write_all(libc::STDERR_FILENO, b"\r\x1b[K");
+fn cleared(rt: &HostRuntime) {
+    if is_watched(rt) {
+        say::message(rt, b"\r\x1b[K");
     }
 }
 
 // Where a terminal shows standard error, it shows the total so far, on one line that the next one overwrites.
-fn progress(b: Ledger, line: &mut [u8]) {
-    if !is_watched() {
+fn progress(rt: &HostRuntime, b: Ledger, line: &mut [u8]) {
+    if !is_watched(rt) {
         return;
     }
     let n = ledger::put_total(line, b);
     if n == 0 {
         return;
     }
-    io::write_all(libc::STDERR_FILENO, lines::front(line, n - 1));
-    io::write_all(libc::STDERR_FILENO, b"\r");
+    say::message(rt, lines::front(line, n - 1));
+    say::message(rt, b"\r");
 }
 
 fn stopped(run: Run, names: Names, good: bool) -> Run {
@@ -170,9 +174,10 @@ fn stopped(run: Run, names: Names, good: bool) -> Run {
 
 // A page that has a name.
 fn next_page(
+    rt: &HostRuntime,
     o: Options,
     form: &[u8],
-    list: i32,
+    list: &Option<Source>,
     run: Run,
     names: Names,
     name: &[u8],
@@ -181,10 +186,10 @@ fn next_page(
     line: &mut [u8],
 ) -> Run {
     let b = run.ledger;
-    let entered = page(o, form, list, name, b, input, changes, line);
-    let told = told(entered, line);
+    let entered = page(rt, o, form, list, name, b, input, changes, line);
+    let told = told(rt, entered, line);
     let after = told.ledger;
-    progress(after, line);
+    progress(rt, after, line);
     Run {
         names,
         ledger: after,
@@ -196,9 +201,10 @@ fn next_page(
 
 // What a name, or that there is none, makes of the run.
 fn named_page(
+    rt: &HostRuntime,
     o: Options,
     form: &[u8],
-    list: i32,
+    list: &Option<Source>,
     run: Run,
     names: Names,
     what: u32,
@@ -211,17 +217,18 @@ fn named_page(
         return stopped(run, names, true);
     }
     if what == feed::FAILED {
-        say::complain(b"the list of the pages cannot be read");
+        say::complain(rt, b"the list of the pages cannot be read");
         return stopped(run, names, false);
     }
-    next_page(o, form, list, run, names, name, input, changes, line)
+    next_page(rt, o, form, list, run, names, name, input, changes, line)
 }
 
 // The next page, if there is one.
 fn turn(
+    rt: &HostRuntime,
     o: Options,
     form: &[u8],
-    list: i32,
+    list: &mut Option<Source>,
     count: usize,
     run: Run,
     input: &mut [u8],
@@ -231,9 +238,10 @@ fn turn(
     memory: &mut [u8],
 ) -> Run {
     let names = run.names;
-    let named = names::next(names, count, names::mark(o.null), memory, name);
+    let named = names::next(rt, names, count, list, names::mark(o.null), memory, name);
     let next = named.names;
     named_page(
+        rt,
         o,
         form,
         list,
@@ -249,9 +257,10 @@ fn turn(
 
 // Page after page; a call has fewer than 4,294,967,296 of them, which the books hold.
 fn turns(
+    rt: &HostRuntime,
     o: Options,
     form: &[u8],
-    list: i32,
+    list: &mut Option<Source>,
     count: usize,
     begun: Run,
     input: &mut [u8],
@@ -261,14 +270,12 @@ fn turns(
     memory: &mut [u8],
 ) -> Run {
     let mut run = begun;
-    let mut left: u64 = 4294967296;
-    while 0 < left {
-        left -= 1;
+    for _ in 0..4294967296u64 {
         if !run.more {
             break;
         }
         let next = turn(
-            o, form, list, count, run, input, changes, line, name, memory,
+            rt, o, form, list, count, run, input, changes, line, name, memory,
         );
         run = next;
     }
@@ -276,27 +283,28 @@ fn turns(
 }
 
 // The total's line, once every page has its own.
-fn ended(run: Run, line: &mut [u8]) -> u32 {
-    cleared();
+fn ended(rt: &HostRuntime, run: Run, line: &mut [u8]) -> u32 {
+    cleared(rt);
     if !run.good {
         return say::FAILED;
     }
     let b = run.ledger;
     if b.pages as u64 != run.pages {
-        say::complain(b"there are not as many lines as pages");
+        say::complain(rt, b"there are not as many lines as pages");
         return say::FAILED;
     }
     let n = ledger::put_total(line, b);
-    let good = say::bytes(0 < n, line, n);
-    say::status_of(good, ledger::status(b))
+    let good = say::bytes(rt, 0 < n, line, n);
+    say::status_of(rt, good, ledger::status(b))
 }
 
 // The pages, behind those that a stopped run has done.
 fn all_pages(
+    rt: &HostRuntime,
     o: Options,
     form: &[u8],
-    list: i32,
-    ledger: i32,
+    list: &mut Option<Source>,
+    ledger: Option<Source>,
     count: usize,
     begun: Run,
     input: &mut [u8],
@@ -305,28 +313,30 @@ fn all_pages(
     name: &mut [u8],
     memory: &mut [u8],
 ) -> u32 {
-    let run = done::skipped(o.null, ledger, count, begun, line, name, memory);
+    let run = done::skipped(rt, o.null, ledger, count, list, begun, line, name, memory);
     let run = turns(
-        o, form, list, count, run, input, changes, line, name, memory,
+        rt, o, form, list, count, run, input, changes, line, name, memory,
     );
-    ended(run, line)
+    ended(rt, run, line)
 }
 
 fn pages(
+    rt: &HostRuntime,
     o: Options,
     form: &[u8],
-    list: i32,
-    ledger: i32,
+    list: &mut Option<Source>,
+    ledger: Option<Source>,
     count: usize,
     first: usize,
     input: &mut [u8],
     changes: &mut [u32],
 ) -> u32 {
     let mut line = room::text();
-    let mut name = io::buffer();
-    let mut memory = io::large_buffer();
-    let begun = done::begun(o.quota, first, list);
+    let mut name = room::word();
+    let mut memory = room::memory();
+    let begun = done::begun(o.quota, first);
     all_pages(
+        rt,
         o,
         form,
         list,
@@ -372,40 +382,35 @@ fn on_form(o: Options, text: &[u8]) -> Verdict {
 }
 
 // What is wrong with a form is told, and no page is read.
-fn is_form(o: Options, name: &[u8], text: &[u8]) -> bool {
+fn is_form(rt: &HostRuntime, o: Options, name: &[u8], text: &[u8]) -> bool {
     let verdict = on_form(o, text);
     if !is_of_form(verdict.number) {
         return true;
     }
     let mut words = room::text();
     let n = ledger::put_reason(&mut words, verdict);
-    say::reason(name, &words, n);
+    say::reason(rt, name, &words, n);
     false
 }
 
-// A list that is opened; -1 stands for none, and -2 for one that cannot be.
-fn opened(at: usize) -> i32 {
+// The list that a word names, which may be none; one that cannot be opened is told.
+fn opened(rt: &HostRuntime, at: usize) -> Result<Option<Source>, u32> {
     if at == 0 {
-        return NO_LIST;
+        return Ok(None);
     }
-    let mut name = io::buffer();
-    let n = os::arg(at, &mut name);
-    if files::is_input(&name[..n]) {
-        return libc::STDIN_FILENO;
+    let mut name = room::word();
+    let n = options::copy_word(rt, at, &mut name);
+    match files::open(rt, &name[..n]) {
+        Ok(list) => Ok(Some(list)),
+        Err(fault) => {
+            say::complain_of_file(rt, &name[..n], fault);
+            Err(say::FAILED)
+        }
     }
-    let fd = os::open_read(&name[..n]);
-    if 0 <= fd {
-        return fd;
-    }
-    say::complain_of_file(&name[..n], files::missing());
-    UNOPENED
 }
 
-pub(crate) const NO_LIST: i32 = -1;
-
-const UNOPENED: i32 = -2;
-
 fn with_lists(
+    rt: &HostRuntime,
     o: Options,
     form: &[u8],
     count: usize,
@@ -413,15 +418,15 @@ fn with_lists(
     input: &mut [u8],
     changes: &mut [u32],
 ) -> u32 {
-    let list = opened(o.from);
-    if list == UNOPENED {
-        return say::FAILED;
-    }
-    let ledger = opened(o.done);
-    if ledger == UNOPENED {
-        return say::FAILED;
-    }
-    pages(o, form, list, ledger, count, first, input, changes)
+    let mut list = match opened(rt, o.from) {
+        Ok(list) => list,
+        Err(status) => return status,
+    };
+    let ledger = match opened(rt, o.done) {
+        Ok(ledger) => ledger,
+        Err(status) => return status,
+    };
+    pages(rt, o, form, &mut list, ledger, count, first, input, changes)
 }
 
 // A file that is too long for a page is too long for a form.
@@ -434,78 +439,97 @@ fn as_form(fault: u32) -> u32 {
 }
 
 // The bytes of the form's text, or a message and 0.
-pub(crate) fn read_form(o: Options, name: &[u8], form: &mut [u8]) -> usize {
-    let got = files::read(name, form, 0);
-    if got.fault != 0 {
-        say::complain_of_file(name, as_form(got.fault));
-        return 0;
-    }
-    if !is_form(o, name, lines::front(form, got.bytes)) {
-        return 0;
-    }
-    got.bytes
-}
-
-fn with_form(o: Options, count: usize, first: usize, input: &mut [u8], changes: &mut [u32]) -> u32 {
-    let mut name = io::buffer();
-    let n = os::arg(o.form, &mut name);
-    let mut form = room::form();
-    let bytes = read_form(o, &name[..n], &mut form);
-    if bytes == 0 {
-        return say::FAILED;
-    }
-    with_lists(o, lines::front(&form, bytes), count, first, input, changes)
-}
-
-// The options that a call needs, and those that do not go together.
-fn is_whole(o: Options) -> bool {
-    if o.form == 0 {
-        say::complain(b"--form is missing");
-        return false;
-    }
-    if !o.has_quota {
-        say::complain(b"--quota is missing");
-        return false;
-    }
-    if o.files == 0 {
-        if o.from == 0 {
-            say::complain(b"heads needs a page: ./fax help heads");
-            return false;
+pub(crate) fn read_form(rt: &HostRuntime, o: Options, name: &[u8], form: &mut [u8]) -> usize {
+    let bytes = match files::read(rt, name, form, 0) {
+        Ok(bytes) => bytes,
+        Err(fault) => {
+            say::complain_of_file(rt, name, as_form(fault));
+            return 0;
         }
+    };
+    if is_form(rt, o, name, lines::front(form, bytes)) {
+        bytes
+    } else {
+        0
     }
-    if o.null {
-        if o.from == 0 {
-            say::complain(b"--null is for the names of --from");
-            return false;
-        }
-    }
-    is_one_reading(o)
 }
 
-pub(crate) fn is_one_reading(o: Options) -> bool {
-    if !o.lenient {
-        return true;
-    }
-    if o.strict {
-        say::complain(b"--lenient and --strict are two readings");
-        return false;
-    }
-    if o.exact {
-        say::complain(b"--lenient and --exact are two readings");
-        return false;
-    }
-    true
-}
-
-pub(crate) fn command(
+fn with_form(
+    rt: &HostRuntime,
     o: Options,
     count: usize,
     first: usize,
     input: &mut [u8],
     changes: &mut [u32],
 ) -> u32 {
-    if !is_whole(o) {
+    let mut name = room::word();
+    let n = options::copy_word(rt, o.form, &mut name);
+    let mut form = room::form();
+    let bytes = read_form(rt, o, &name[..n], &mut form);
+    if bytes == 0 {
         return say::FAILED;
     }
-    with_form(o, count, first, input, changes)
+    with_lists(
+        rt,
+        o,
+        lines::front(&form, bytes),
+        count,
+        first,
+        input,
+        changes,
+    )
+}
+
+// The options that a call needs, and those that do not go together.
+fn is_whole(rt: &HostRuntime, o: Options) -> bool {
+    if o.form == 0 {
+        say::complain(rt, b"--form is missing");
+        return false;
+    }
+    if !o.has_quota {
+        say::complain(rt, b"--quota is missing");
+        return false;
+    }
+    if o.files == 0 {
+        if o.from == 0 {
+            say::complain(rt, b"heads needs a page: ./fax help heads");
+            return false;
+        }
+    }
+    if o.null {
+        if o.from == 0 {
+            say::complain(rt, b"--null is for the names of --from");
+            return false;
+        }
+    }
+    is_one_reading(rt, o)
+}
+
+pub(crate) fn is_one_reading(rt: &HostRuntime, o: Options) -> bool {
+    if !o.lenient {
+        return true;
+    }
+    if o.strict {
+        say::complain(rt, b"--lenient and --strict are two readings");
+        return false;
+    }
+    if o.exact {
+        say::complain(rt, b"--lenient and --exact are two readings");
+        return false;
+    }
+    true
+}
+
+pub(crate) fn command(
+    rt: &HostRuntime,
+    o: Options,
+    count: usize,
+    first: usize,
+    input: &mut [u8],
+    changes: &mut [u32],
+) -> u32 {
+    if !is_whole(rt, o) {
+        return say::FAILED;
+    }
+    with_form(rt, o, count, first, input, changes)
 }

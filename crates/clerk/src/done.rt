@@ -1,8 +1,9 @@
 // What a stopped run has done: the lines of its ledger are those of the first pages, and are written again as they stand, so that the
 // two runs write together what one would have written.
 use crate::feed::Feed;
+use crate::files::Source;
 use crate::names::Names;
-use crate::{desk, feed, lines, names, say, text};
+use crate::{feed, lines, names, room, say, text};
 use ledger::Ledger;
 
 // A run: the names that are left, the books, how many pages there were, and whether more may come. One that is not good has said why.
@@ -29,13 +30,12 @@ fn books(quota: i32) -> Ledger {
 }
 
 // Before the first page.
-pub(crate) fn begun(quota: i32, first: usize, list: i32) -> Run {
+pub(crate) fn begun(quota: i32, first: usize) -> Run {
     Run {
         names: Names {
             at: first,
             after: false,
-            listed: list != desk::NO_LIST,
-            feed: feed::of(list),
+            feed: feed::begun(),
         },
         ledger: books(quota),
         pages: 0,
@@ -56,18 +56,19 @@ fn failed(run: Run) -> Run {
     }
 }
 
-fn written(line: &[u8], bytes: usize) -> bool {
-    let good = say::bytes(true, line, bytes);
-    let good = say::text(good, b"\n");
+fn written(rt: &HostRuntime, line: &[u8], bytes: usize) -> bool {
+    let good = say::bytes(rt, true, line, bytes);
+    let good = say::text(rt, good, b"\n");
     if !good {
-        say::complain(b"the output cannot be written");
+        say::complain(rt, b"the output cannot be written");
     }
     good
 }
 
 // A line that is not that of the page whose turn it is.
-fn misfit(run: Run) -> Run {
+fn misfit(rt: &HostRuntime, run: Run) -> Run {
     say::complain_with(
+        rt,
         b"line ",
         one_more(run.pages),
         b" of the ledger of --skip-done is not that of this page, with this quota",
@@ -76,14 +77,14 @@ fn misfit(run: Run) -> Run {
 }
 
 // The line is written again as it stands, if it is that of the page.
-fn kept(run: Run, names: Names, line: &[u8], name: &[u8]) -> Run {
+fn kept(rt: &HostRuntime, run: Run, names: Names, line: &[u8], name: &[u8]) -> Run {
     let b = run.ledger;
     let resumed = ledger_file::resume(line, name, b);
     if !resumed.good {
-        return misfit(run);
+        return misfit(rt, run);
     }
     let after = resumed.ledger;
-    let good = written(line, line.len());
+    let good = written(rt, line, line.len());
     Run {
         names,
         ledger: after,
@@ -102,20 +103,22 @@ fn is_name(what: u32) -> bool {
 
 // The next name, whose line is at hand.
 fn next_kept(
+    rt: &HostRuntime,
     null: bool,
     count: usize,
+    list: &mut Option<Source>,
     run: Run,
     line: &[u8],
     name: &mut [u8],
     memory: &mut [u8],
 ) -> Run {
     let names = run.names;
-    let named = names::next(names, count, names::mark(null), memory, name);
+    let named = names::next(rt, names, count, list, names::mark(null), memory, name);
     if !is_name(named.what) {
-        return misfit(run);
+        return misfit(rt, run);
     }
     let next = named.names;
-    kept(run, next, line, lines::front(name, named.bytes))
+    kept(rt, run, next, line, lines::front(name, named.bytes))
 }
 
 // Whether a line is one of a page that was done: a last one that was cut is done anew, and the total's ends a ledger.
@@ -136,8 +139,10 @@ struct Pass {
 
 // The run behind a line of the ledger.
 fn behind(
+    rt: &HostRuntime,
     null: bool,
     count: usize,
+    list: &mut Option<Source>,
     run: Run,
     what: u32,
     rest: Feed,
@@ -146,7 +151,7 @@ fn behind(
     memory: &mut [u8],
 ) -> Pass {
     if what == feed::FAILED {
-        say::complain(b"the ledger of --skip-done cannot be read");
+        say::complain(rt, b"the ledger of --skip-done cannot be read");
         return Pass {
             run: failed(run),
             feed: rest,
@@ -160,7 +165,7 @@ fn behind(
             more: false,
         };
     }
-    let after = next_kept(null, count, run, line, name, memory);
+    let after = next_kept(rt, null, count, list, run, line, name, memory);
     Pass {
         run: after,
         feed: rest,
@@ -169,20 +174,25 @@ fn behind(
 }
 
 fn turn(
+    rt: &HostRuntime,
     null: bool,
     count: usize,
+    list: &mut Option<Source>,
     run: Run,
-    ledger: Feed,
+    ledger: &mut Source,
+    feed: Feed,
     lines_memory: &mut [u8],
     line: &mut [u8],
     name: &mut [u8],
     memory: &mut [u8],
 ) -> Pass {
-    let fed = feed::next(ledger, b'\n', lines_memory, line);
+    let fed = feed::next(ledger, feed, b'\n', lines_memory, line);
     let rest = fed.feed;
     behind(
+        rt,
         null,
         count,
+        list,
         run,
         fed.what,
         rest,
@@ -193,21 +203,33 @@ fn turn(
 }
 
 fn turns(
+    rt: &HostRuntime,
     null: bool,
     count: usize,
+    list: &mut Option<Source>,
     begun: Run,
-    ledger: i32,
+    ledger: &mut Source,
     lines_memory: &mut [u8],
     line: &mut [u8],
     name: &mut [u8],
     memory: &mut [u8],
 ) -> Run {
     let mut run = begun;
-    let mut feed = feed::of(ledger);
-    let mut left: u64 = 4294967296;
-    while 0 < left {
-        left -= 1;
-        let turn = turn(null, count, run, feed, lines_memory, line, name, memory);
+    let mut feed = feed::begun();
+    for _ in 0..4294967296u64 {
+        let turn = turn(
+            rt,
+            null,
+            count,
+            list,
+            run,
+            ledger,
+            feed,
+            lines_memory,
+            line,
+            name,
+            memory,
+        );
         let next = turn.run;
         run = next;
         if !turn.more {
@@ -221,23 +243,27 @@ fn turns(
 
 // The run behind the pages that a ledger has; where there is no ledger, the run as it is.
 pub(crate) fn skipped(
+    rt: &HostRuntime,
     null: bool,
-    ledger: i32,
+    ledger: Option<Source>,
     count: usize,
+    list: &mut Option<Source>,
     begun: Run,
     line: &mut [u8],
     name: &mut [u8],
     memory: &mut [u8],
 ) -> Run {
-    if ledger == desk::NO_LIST {
+    let Some(mut ledger) = ledger else {
         return begun;
-    }
-    let mut lines_memory = io::large_buffer();
+    };
+    let mut lines_memory = room::memory();
     turns(
+        rt,
         null,
         count,
+        list,
         begun,
-        ledger,
+        &mut ledger,
         &mut lines_memory,
         line,
         name,

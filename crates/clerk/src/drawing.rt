@@ -8,14 +8,20 @@ use ledger::{Ledger, Verdict};
 // So many bytes of a picture are coded at a time; three divides it, so that the parts one behind the other are the code of the whole.
 const PART: usize = 12288;
 
-pub(crate) fn words(name: &[u8], v: Verdict, b: Ledger, piece: &mut [u8]) -> bool {
+pub(crate) fn words(
+    rt: &HostRuntime,
+    name: &[u8],
+    v: Verdict,
+    b: Ledger,
+    piece: &mut [u8],
+) -> bool {
     let n = look::put_page(piece, name, v, b);
-    written(piece, n)
+    written(rt, piece, n)
 }
 
-fn read(columns: u32, marks: &[u8], piece: &mut [u8]) -> bool {
+fn read(rt: &HostRuntime, columns: u32, marks: &[u8], piece: &mut [u8]) -> bool {
     let n = look::put_read(piece, columns, marks);
-    written(piece, n)
+    written(rt, piece, n)
 }
 
 fn has_shift(form: Form) -> bool {
@@ -33,12 +39,12 @@ fn is_lost(form: Form, lies: Lies) -> bool {
 }
 
 // Where the form lies, or that it fits nowhere.
-fn found(form: Form, lies: Lies, piece: &mut [u8]) -> bool {
+fn found(rt: &HostRuntime, form: Form, lies: Lies, piece: &mut [u8]) -> bool {
     if is_lost(form, lies) {
-        return part(look::NOT_FOUND, piece);
+        return part(rt, look::NOT_FOUND, piece);
     }
     let n = look::put_found(piece, lies.across, lies.down, form.across, form.down);
-    written(piece, n)
+    written(rt, piece, n)
 }
 
 // The rows that a verdict's reading kept, of which the program holds 65,536.
@@ -59,25 +65,23 @@ fn painted(columns: u32, changes: &[u32], ends: &[u64], picture: &mut [u8]) -> u
     ((answer.bytes + 3) / 4 * 4) as usize
 }
 
-fn coded_part(bytes: &[u8], piece: &mut [u8]) -> bool {
+fn coded_part(rt: &HostRuntime, bytes: &[u8], piece: &mut [u8]) -> bool {
     let n = look::put_base64(piece, bytes);
-    written(piece, n)
+    written(rt, piece, n)
 }
 
-fn head(columns: u32, rows: u32, piece: &mut [u8]) -> bool {
+fn head(rt: &HostRuntime, columns: u32, rows: u32, piece: &mut [u8]) -> bool {
     let bytes = look::bitmap_head(columns, rows);
-    coded_part(&bytes, piece)
+    coded_part(rt, &bytes, piece)
 }
 
-fn coded(bytes: &[u8], piece: &mut [u8]) -> bool {
+fn coded(rt: &HostRuntime, bytes: &[u8], piece: &mut [u8]) -> bool {
     let mut at = 0;
-    let mut left: u64 = 4294967296;
-    while 0 < left {
-        left -= 1;
+    for _ in 0..4294967296u64 {
         if bytes.len() <= at {
             return true;
         }
-        if !coded_part(lines::front(lines::rest(bytes, at), PART), piece) {
+        if !coded_part(rt, lines::front(lines::rest(bytes, at), PART), piece) {
             return false;
         }
         at = files::sum(at, PART, bytes.len());
@@ -85,42 +89,56 @@ fn coded(bytes: &[u8], piece: &mut [u8]) -> bool {
     false
 }
 
-fn over_picture(columns: u32, rows: u32, most: u32, piece: &mut [u8]) -> bool {
+fn over_picture(rt: &HostRuntime, columns: u32, rows: u32, most: u32, piece: &mut [u8]) -> bool {
     let n = look::put_drawing(piece, columns, rows, most);
-    written(piece, n)
+    written(rt, piece, n)
 }
 
-fn opened(pictured: bool, columns: u32, rows: u32, most: u32, piece: &mut [u8]) -> bool {
+fn opened(
+    rt: &HostRuntime,
+    pictured: bool,
+    columns: u32,
+    rows: u32,
+    most: u32,
+    piece: &mut [u8],
+) -> bool {
     let n = look::put_sheet(piece, pictured, columns, rows, most);
-    written(piece, n)
+    written(rt, piece, n)
 }
 
-fn sheet(columns: u32, rows: u32, most: u32, bytes: &[u8], piece: &mut [u8]) -> bool {
-    if !opened(bytes.len() != 0, columns, rows, most, piece) {
+fn sheet(
+    rt: &HostRuntime,
+    columns: u32,
+    rows: u32,
+    most: u32,
+    bytes: &[u8],
+    piece: &mut [u8],
+) -> bool {
+    if !opened(rt, bytes.len() != 0, columns, rows, most, piece) {
         return false;
     }
     if bytes.len() == 0 {
         return true;
     }
-    if !head(columns, rows, piece) {
+    if !head(rt, columns, rows, piece) {
         return false;
     }
-    if !coded(bytes, piece) {
+    if !coded(rt, bytes, piece) {
         return false;
     }
-    over_picture(columns, rows, most, piece)
+    over_picture(rt, columns, rows, most, piece)
 }
 
 // A row that is clean has no band, and nothing is written.
-fn band(columns: u32, marks: &[u8], y: u32, piece: &mut [u8]) -> bool {
+fn band(rt: &HostRuntime, columns: u32, marks: &[u8], y: u32, piece: &mut [u8]) -> bool {
     let n = look::put_band(piece, columns, marks, y);
-    say::bytes(true, piece, n)
+    say::bytes(rt, true, piece, n)
 }
 
-fn bands(columns: u32, marks: &[u8], rows: u32, piece: &mut [u8]) -> bool {
+fn bands(rt: &HostRuntime, columns: u32, marks: &[u8], rows: u32, piece: &mut [u8]) -> bool {
     let mut y: u32 = 0;
     while y < rows {
-        if !band(columns, marks, y, piece) {
+        if !band(rt, columns, marks, y, piece) {
             return false;
         }
         y += 1;
@@ -129,6 +147,7 @@ fn bands(columns: u32, marks: &[u8], rows: u32, piece: &mut [u8]) -> bool {
 }
 
 fn place(
+    rt: &HostRuntime,
     columns: u32,
     changes: &[u32],
     ends: &[u64],
@@ -137,10 +156,11 @@ fn place(
     piece: &mut [u8],
 ) -> bool {
     let n = look::put_place(piece, columns, changes, ends, places, k);
-    written(piece, n)
+    written(rt, piece, n)
 }
 
 fn all_places(
+    rt: &HostRuntime,
     columns: u32,
     changes: &[u32],
     ends: &[u64],
@@ -150,7 +170,7 @@ fn all_places(
 ) -> bool {
     let mut k: u32 = 0;
     while k < count {
-        if !place(columns, changes, ends, places, k, piece) {
+        if !place(rt, columns, changes, ends, places, k, piece) {
             return false;
         }
         k += 1;
@@ -159,6 +179,7 @@ fn all_places(
 }
 
 fn one_box(
+    rt: &HostRuntime,
     columns: u32,
     changes: &[u32],
     ends: &[u64],
@@ -169,10 +190,11 @@ fn one_box(
     piece: &mut [u8],
 ) -> bool {
     let n = look::put_box(piece, columns, changes, ends, boxes, k, doubt, tick);
-    written(piece, n)
+    written(rt, piece, n)
 }
 
 fn all_boxes(
+    rt: &HostRuntime,
     columns: u32,
     changes: &[u32],
     ends: &[u64],
@@ -183,7 +205,7 @@ fn all_boxes(
 ) -> bool {
     let mut k: u32 = 0;
     while k < 20 {
-        if !one_box(columns, changes, ends, boxes, k, doubt, tick, piece) {
+        if !one_box(rt, columns, changes, ends, boxes, k, doubt, tick, piece) {
             return false;
         }
         k += 1;
@@ -192,12 +214,13 @@ fn all_boxes(
 }
 
 // A verdict that is about no row has no such line.
-fn row_mark(columns: u32, v: Verdict, piece: &mut [u8]) -> bool {
+fn row_mark(rt: &HostRuntime, columns: u32, v: Verdict, piece: &mut [u8]) -> bool {
     let n = look::put_row_mark(piece, columns, v);
-    say::bytes(true, piece, n)
+    say::bytes(rt, true, piece, n)
 }
 
 fn drawn(
+    rt: &HostRuntime,
     columns: u32,
     form: Form,
     boxes: &[u32],
@@ -207,19 +230,22 @@ fn drawn(
     ends: &[u64],
     piece: &mut [u8],
 ) -> bool {
-    if !all_places(columns, changes, ends, places, form.places, piece) {
+    if !all_places(rt, columns, changes, ends, places, form.places, piece) {
         return false;
     }
-    if !all_boxes(columns, changes, ends, boxes, form.doubt, form.tick, piece) {
+    if !all_boxes(
+        rt, columns, changes, ends, boxes, form.doubt, form.tick, piece,
+    ) {
         return false;
     }
-    if !row_mark(columns, v, piece) {
+    if !row_mark(rt, columns, v, piece) {
         return false;
     }
-    part(look::PICTURE_END, piece)
+    part(rt, look::PICTURE_END, piece)
 }
 
 fn shown(
+    rt: &HostRuntime,
     columns: u32,
     rows: u32,
     form: Form,
@@ -230,14 +256,15 @@ fn shown(
     picture: &mut [u8],
     piece: &mut [u8],
 ) -> bool {
-    if !read(columns, marks, piece) {
+    if !read(rt, columns, marks, piece) {
         return false;
     }
-    if !found(form, lies, piece) {
+    if !found(rt, form, lies, piece) {
         return false;
     }
     let bytes = painted(columns, changes, ends, picture);
     if !sheet(
+        rt,
         columns,
         rows,
         form.most,
@@ -246,11 +273,12 @@ fn shown(
     ) {
         return false;
     }
-    bands(columns, marks, rows, piece)
+    bands(rt, columns, marks, rows, piece)
 }
 
 // The form is drawn where it lies; where it cannot be moved there, at its own place.
 fn drawn_at(
+    rt: &HostRuntime,
     columns: u32,
     rows: u32,
     form: Form,
@@ -276,6 +304,7 @@ fn drawn_at(
     );
     if moved {
         return drawn(
+            rt,
             columns,
             form,
             &moved_boxes,
@@ -286,11 +315,12 @@ fn drawn_at(
             piece,
         );
     }
-    drawn(columns, form, boxes, places, v, changes, ends, piece)
+    drawn(rt, columns, form, boxes, places, v, changes, ends, piece)
 }
 
 // What is behind the words of a page that was read.
 pub(crate) fn page(
+    rt: &HostRuntime,
     columns: u32,
     form: Form,
     boxes: &[u32],
@@ -306,6 +336,7 @@ pub(crate) fn page(
     let kept = lines::front_ends(ends, rows as usize);
     let lies = booking::lies_at(columns, changes, kept, form, boxes, places);
     if !shown(
+        rt,
         columns,
         rows,
         form,
@@ -319,6 +350,6 @@ pub(crate) fn page(
         return false;
     }
     drawn_at(
-        columns, rows, form, lies, boxes, places, v, changes, kept, piece,
+        rt, columns, rows, form, lies, boxes, places, v, changes, kept, piece,
     )
 }

@@ -1,9 +1,10 @@
 // The lines of a file that may be long: names of pages, and the lines of a ledger, one at a time.
+use crate::files::Source;
+use std::io::Read;
 
 // Where the next bytes are: read already, from `from` to `to` in the lent memory, or still in the file.
 #[derive(Clone, Copy)]
 pub(crate) struct Feed {
-    pub(crate) fd: i32,
     pub(crate) from: usize,
     pub(crate) to: usize,
 }
@@ -26,8 +27,9 @@ pub(crate) struct Fed {
     pub(crate) bytes: usize,
 }
 
-pub(crate) fn of(fd: i32) -> Feed {
-    Feed { fd, from: 0, to: 0 }
+// Before the first byte.
+pub(crate) fn begun() -> Feed {
+    Feed { from: 0, to: 0 }
 }
 
 fn come(feed: Feed, what: u32, bytes: usize) -> Fed {
@@ -35,20 +37,14 @@ fn come(feed: Feed, what: u32, bytes: usize) -> Fed {
 }
 
 // More bytes of the file, if none are left; `to` is 0 at its end.
-fn filled(feed: Feed, memory: &mut [u8]) -> Fed {
+fn filled(source: &mut Source, feed: Feed, memory: &mut [u8]) -> Fed {
     if feed.from < feed.to {
         return come(feed, LINE, 0);
     }
-    let moved = libc::read(feed.fd, memory);
-    if moved < 0 {
+    let Ok(n) = source.read(memory) else {
         return come(feed, FAILED, 0);
-    }
-    let n = io::count(moved, memory);
-    let next = Feed {
-        fd: feed.fd,
-        from: 0,
-        to: n,
     };
+    let next = Feed { from: 0, to: n };
     if n == 0 {
         return come(next, NOTHING, 0);
     }
@@ -61,7 +57,6 @@ fn byte(memory: &[u8], at: usize) -> u8 {
 
 fn passed(feed: Feed) -> Feed {
     Feed {
-        fd: feed.fd,
         from: if feed.from < 4294967296 {
             feed.from + 1
         } else {
@@ -96,14 +91,18 @@ fn more(n: usize) -> usize {
 }
 
 // The next line, up to its mark, into `line`; of one that is longer, as much as there is room for.
-pub(crate) fn next(feed: Feed, mark: u8, memory: &mut [u8], line: &mut [u8]) -> Fed {
+pub(crate) fn next(
+    source: &mut Source,
+    feed: Feed,
+    mark: u8,
+    memory: &mut [u8],
+    line: &mut [u8],
+) -> Fed {
     let mut here = feed;
     let mut bytes = 0;
     let mut long = false;
-    let mut left: u64 = 4294967296;
-    while 0 < left {
-        left -= 1;
-        let turn = filled(here, memory);
+    for _ in 0..4294967296u64 {
+        let turn = filled(source, here, memory);
         let next = turn.feed;
         if turn.what != LINE {
             return come(next, last(turn.what, bytes), bytes);

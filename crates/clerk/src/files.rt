@@ -1,19 +1,23 @@
 // A file into lent memory: to its end, or why not, in the numbers of the verdicts.
 use crate::text;
+use std::fs::File;
+use std::io;
+use std::io::{ErrorKind, Read, Seek, SeekFrom};
 
-// How many bytes there are, or the number of what is wrong.
-#[derive(Clone, Copy)]
-pub(crate) struct Got {
-    pub(crate) fault: u32,
-    pub(crate) bytes: usize,
+// Where bytes come from: the standard input, or a file.
+#[derive(Drop)]
+pub(crate) enum Source {
+    Input(io::Stdin),
+    Opened(File),
 }
 
-// A read that gave bytes, the end, or a failure.
-#[derive(Clone, Copy)]
-enum Moved {
-    Bytes(usize),
-    End,
-    Failed,
+impl Read for Source {
+    fn read(&mut self, into: &mut [u8]) -> io::Result<usize> {
+        match self {
+            Source::Input(input) => input.read(into),
+            Source::Opened(file) => file.read(into),
+        }
+    }
 }
 
 // `-` is the standard input.
@@ -21,48 +25,48 @@ pub(crate) fn is_input(name: &[u8]) -> bool {
     text::is(name, b"-")
 }
 
-fn so_far(fault: u32, bytes: usize) -> Got {
-    Got { fault, bytes }
-}
-
-fn turn(fd: i32, into: &mut [u8], at: usize) -> Moved {
-    if into.len() <= at {
-        return Moved::End;
-    }
-    let part = &mut into[at..];
-    let moved = libc::read(fd, part);
-    if moved < 0 {
-        return Moved::Failed;
-    }
-    let n = io::count(moved, part);
-    if n == 0 {
-        return Moved::End;
-    }
-    Moved::Bytes(n)
-}
-
-// Why a read failed: an interrupted one is tried again.
-fn why() -> u32 {
-    let error = os::errno();
-    if error == libc::EINTR {
-        return 0;
-    }
-    if error == libc::EISDIR {
-        return ledger::A_FOLDER;
-    }
-    ledger::UNREADABLE_FILE
-}
-
 // Why a file could not be opened.
-pub(crate) fn missing() -> u32 {
-    let error = os::errno();
-    if error == libc::ENOENT {
-        return ledger::NO_FILE;
+fn missing(error: io::Error) -> u32 {
+    match error.kind() {
+        ErrorKind::NotFound | ErrorKind::NotADirectory => ledger::NO_FILE,
+        _ => ledger::UNREADABLE_FILE,
     }
-    if error == libc::ENOTDIR {
-        return ledger::NO_FILE;
+}
+
+// A file by its name, or the number of what is wrong.
+fn open_file(rt: &HostRuntime, name: &[u8]) -> Result<File, u32> {
+    let Ok(path) = str::from_utf8(name) else {
+        return Err(ledger::UNREADABLE_FILE);
+    };
+    match File::open(rt, path) {
+        Ok(file) => Ok(file),
+        Err(error) => Err(missing(error)),
     }
-    ledger::UNREADABLE_FILE
+}
+
+// What a name stands for, to be read from its beginning.
+pub(crate) fn open(rt: &HostRuntime, name: &[u8]) -> Result<Source, u32> {
+    if is_input(name) {
+        return Ok(Source::Input(rt.stdin()));
+    }
+    Ok(Source::Opened(open_file(rt, name)?))
+}
+
+// One read behind so many bytes of the memory; 0 at the end of the file or of the memory.
+fn turn(source: &mut Source, into: &mut [u8], at: usize) -> io::Result<usize> {
+    if into.len() <= at {
+        return Ok(0);
+    }
+    source.read(&mut into[at..])
+}
+
+// Why a read failed; an interrupted one is tried again.
+fn why(error: io::Error) -> Option<u32> {
+    match error.kind() {
+        ErrorKind::Interrupted => None,
+        ErrorKind::IsADirectory => Some(ledger::A_FOLDER),
+        _ => Some(ledger::UNREADABLE_FILE),
+    }
 }
 
 pub(crate) fn sum(at: usize, n: usize, most: usize) -> usize {
@@ -72,92 +76,73 @@ pub(crate) fn sum(at: usize, n: usize, most: usize) -> usize {
     if most - at < n { most } else { at + n }
 }
 
-// The bytes from a place on, to the end of the file or of the memory.
-fn fill(fd: i32, into: &mut [u8], from: usize) -> Got {
+// The bytes from a place on, to the end of the file or of the memory: where they end, or what is wrong.
+fn fill(source: &mut Source, into: &mut [u8], from: usize) -> Result<usize, u32> {
     let mut at = from;
-    let mut turns: u64 = 4294967296;
-    while 0 < turns {
-        turns -= 1;
+    for _ in 0..4294967296u64 {
         let most = into.len();
-        let turn = turn(fd, into, at);
-        match turn {
-            Moved::Bytes(n) => at = sum(at, n, most),
-            Moved::End => return so_far(0, at),
-            Moved::Failed => {
-                let fault = why();
-                if fault != 0 {
-                    return so_far(fault, at);
+        match turn(source, into, at) {
+            Ok(0) => return Ok(at),
+            Ok(n) => at = sum(at, n, most),
+            Err(error) => {
+                if let Some(fault) = why(error) {
+                    return Err(fault);
                 }
             }
         }
     }
-    so_far(ledger::UNREADABLE_FILE, at)
+    Err(ledger::UNREADABLE_FILE)
 }
 
 // Whether the file goes on behind what the memory holds.
-fn goes_on(fd: i32) -> bool {
-    let mut one = [0u8; 1];
-    io::read_full(fd, &mut one) == 1
+fn goes_on(source: &mut Source) -> bool {
+    source.read_exact(&mut [0]).is_ok()
 }
 
-// Whether a file has more than was read; a pipe does not say, and has -1.
-fn is_short(bytes: usize, size: i64) -> bool {
-    if size < 0 {
-        return false;
+// Whether a file has more than was read; a pipe does not say how much it has.
+fn is_short(bytes: usize, size: Option<u64>) -> bool {
+    match size {
+        Some(size) => (bytes as u64) < size,
+        None => false,
     }
-    (bytes as u64) < size as u64
 }
 
-// What was read of a file of so many bytes.
-fn judged(filled: Got, longer: bool, size: i64, from: usize) -> Got {
-    if filled.fault != 0 {
-        return filled;
-    }
+// What was read of a file of so many bytes, up to a place.
+fn judged(at: usize, longer: bool, size: Option<u64>, from: usize) -> Result<usize, u32> {
     if longer {
-        return so_far(ledger::LONG_FILE, filled.bytes);
+        return Err(ledger::LONG_FILE);
     }
-    if filled.bytes <= from {
-        return so_far(ledger::EMPTY_FILE, filled.bytes);
+    if at <= from {
+        return Err(ledger::EMPTY_FILE);
     }
-    if is_short(filled.bytes - from, size) {
-        return so_far(ledger::CUT_FILE, filled.bytes);
+    if is_short(at - from, size) {
+        return Err(ledger::CUT_FILE);
     }
-    filled
-}
-
-fn read_from(fd: i32, size: i64, into: &mut [u8], from: usize) -> Got {
-    let filled = fill(fd, into, from);
-    let longer = if filled.fault == 0 {
-        goes_on(fd)
-    } else {
-        false
-    };
-    judged(filled, longer, size, from)
+    Ok(at)
 }
 
 // How many bytes a file has that can be gone about in; the place is its beginning again.
-fn size_of(fd: i32) -> i64 {
-    let size = libc::lseek(fd, 0, libc::SEEK_END);
-    if size < 0 {
-        return -1;
+fn size_of(source: &mut Source) -> Option<u64> {
+    let Source::Opened(file) = source else {
+        return None;
+    };
+    let size = file.seek(SeekFrom::End(0)).ok()?;
+    match file.seek(SeekFrom::Start(0)) {
+        Ok(0) => Some(size),
+        _ => None,
     }
-    if libc::lseek(fd, 0, libc::SEEK_SET) != 0 {
-        return -1;
-    }
-    size
 }
 
-// A whole file behind the first `from` bytes of the memory.
-pub(crate) fn read(name: &[u8], into: &mut [u8], from: usize) -> Got {
-    if is_input(name) {
-        return read_from(libc::STDIN_FILENO, -1, into, from);
-    }
-    let fd = os::open_read(name);
-    if fd < 0 {
-        return so_far(missing(), from);
-    }
-    let size = size_of(fd);
-    let read = read_from(fd, size, into, from);
-    libc::close(fd);
-    read
+// A whole file behind the first `from` bytes of the memory: where its bytes end, or the number of what is wrong.
+pub(crate) fn read(
+    rt: &HostRuntime,
+    name: &[u8],
+    into: &mut [u8],
+    from: usize,
+) -> Result<usize, u32> {
+    let mut source = open(rt, name)?;
+    let size = size_of(&mut source);
+    let at = fill(&mut source, into, from)?;
+    let longer = goes_on(&mut source);
+    judged(at, longer, size, from)
 }

@@ -7,37 +7,37 @@ fn wide(n: u32) -> u64 {
     n as u64
 }
 
-fn changes(begun: bool, row: &[u32], count: usize) -> bool {
+fn changes(rt: &HostRuntime, begun: bool, row: &[u32], count: usize) -> bool {
     let mut good = begun;
     let mut k = 0;
     while k < count {
-        good = say::field(good, wide(lines::change(row, 0, k, 0)));
+        good = say::field(rt, good, wide(lines::change(row, 0, k, 0)));
         k += 1;
     }
     good
 }
 
-pub(crate) fn row(answer: Answer, row: &[u32], count: usize) -> bool {
-    let good = say::text(true, b"row");
-    let good = say::field(good, answer.rows);
-    let good = say::field(good, answer.mark as u64);
-    let good = say::field(good, count as u64);
-    let good = changes(good, row, count);
-    say::text(good, b"\n")
+pub(crate) fn row(rt: &HostRuntime, answer: Answer, row: &[u32], count: usize) -> bool {
+    let good = say::text(rt, true, b"row");
+    let good = say::field(rt, good, answer.rows);
+    let good = say::field(rt, good, answer.mark as u64);
+    let good = say::field(rt, good, count as u64);
+    let good = changes(rt, good, row, count);
+    say::text(rt, good, b"\n")
 }
 
-fn stop(good: bool, answer: Answer) -> bool {
-    let good = say::text(good, b"stop");
-    let good = say::field(good, answer.number as u64);
-    let good = say::field(good, answer.rows);
-    let good = say::field(good, answer.bytes);
-    say::text(good, b"\n")
+fn stop(rt: &HostRuntime, good: bool, answer: Answer) -> bool {
+    let good = say::text(rt, good, b"stop");
+    let good = say::field(rt, good, answer.number as u64);
+    let good = say::field(rt, good, answer.rows);
+    let good = say::field(rt, good, answer.bytes);
+    say::text(rt, good, b"\n")
 }
 
-fn head(columns: u32) -> bool {
-    let good = say::text(true, b"columns");
-    let good = say::field(good, columns as u64);
-    say::text(good, b"\n")
+fn head(rt: &HostRuntime, columns: u32) -> bool {
+    let good = say::text(rt, true, b"columns");
+    let good = say::field(rt, good, columns as u64);
+    say::text(rt, good, b"\n")
 }
 
 // The page's status, and how its reading ended.
@@ -48,19 +48,20 @@ pub(crate) struct Listed {
 }
 
 pub(crate) fn page(
+    rt: &HostRuntime,
     src: &[u8],
     settings: DecodeSettings,
     first: &mut [u32],
     second: &mut [u32],
     out: &mut [u8],
 ) -> Listed {
-    let headed = head(settings.columns);
-    let read = walk::page(src, settings, walk::Show::Line, first, second, out);
+    let headed = head(rt, settings.columns);
+    let read = walk::page(rt, src, settings, walk::Show::Line, first, second, out);
     let end = read.end;
     let good = if headed { read.good } else { false };
-    let good = stop(good, end);
+    let good = stop(rt, good, end);
     Listed {
-        status: say::status_of(good, say::WELL),
+        status: say::status_of(rt, good, say::WELL),
         end,
     }
 }

@@ -1,12 +1,14 @@
 // The names of the pages: those among the arguments, and then those of a list.
 use crate::feed::Feed;
+use crate::files::Source;
 use crate::{feed, options};
+use std::env::FillError;
+use std::rt::Env;
 
 #[derive(Clone, Copy)]
 pub(crate) struct Names {
     pub(crate) at: usize,
     pub(crate) after: bool,
-    pub(crate) listed: bool,
     pub(crate) feed: Feed,
 }
 
@@ -23,12 +25,12 @@ pub(crate) fn mark(null: bool) -> u8 {
     if null { 0 } else { b'\n' }
 }
 
-pub(crate) fn argument(at: usize, name: &mut [u8]) -> usize {
-    let n = os::arg(at, name);
-    if os::errno() == libc::ENAMETOOLONG {
-        return name.len();
+pub(crate) fn argument(rt: &HostRuntime, at: usize, name: &mut [u8]) -> usize {
+    match rt.arg(at, name) {
+        Ok(n) => n,
+        Err(FillError::TooLong) => name.len(),
+        Err(FillError::NotPresent) => 0,
     }
-    n
 }
 
 pub(crate) fn next_word(at: usize) -> usize {
@@ -37,27 +39,21 @@ pub(crate) fn next_word(at: usize) -> usize {
 
 fn among(names: Names, at: usize, after: bool) -> Names {
     let feed = names.feed;
-    Names {
-        at,
-        after,
-        listed: names.listed,
-        feed,
-    }
+    Names { at, after, feed }
 }
 
 fn behind(names: Names, feed: Feed) -> Names {
     Names {
         at: names.at,
         after: names.after,
-        listed: names.listed,
         feed,
     }
 }
 
 // One line of the list; an empty one names nothing.
-fn listed(names: Names, mark: u8, memory: &mut [u8], name: &mut [u8]) -> Named {
+fn listed(list: &mut Source, names: Names, mark: u8, memory: &mut [u8], name: &mut [u8]) -> Named {
     let feed = names.feed;
-    let fed = feed::next(feed, mark, memory, name);
+    let fed = feed::next(list, feed, mark, memory, name);
     let next = fed.feed;
     Named {
         names: behind(names, next),
@@ -74,12 +70,16 @@ fn is_empty(what: u32, bytes: usize) -> bool {
     }
 }
 
-fn from_list(names: Names, mark: u8, memory: &mut [u8], name: &mut [u8]) -> Named {
+fn from_list(
+    list: &mut Source,
+    names: Names,
+    mark: u8,
+    memory: &mut [u8],
+    name: &mut [u8],
+) -> Named {
     let mut here = names;
-    let mut left: u64 = 4294967296;
-    while 0 < left {
-        left -= 1;
-        let named = listed(here, mark, memory, name);
+    for _ in 0..4294967296u64 {
+        let named = listed(list, here, mark, memory, name);
         if !is_empty(named.what, named.bytes) {
             return named;
         }
@@ -94,27 +94,29 @@ fn from_list(names: Names, mark: u8, memory: &mut [u8], name: &mut [u8]) -> Name
 }
 
 pub(crate) fn next(
+    rt: &HostRuntime,
     names: Names,
     count: usize,
+    list: &mut Option<Source>,
     mark: u8,
     memory: &mut [u8],
     name: &mut [u8],
 ) -> Named {
-    let place = options::next_file(names.at, count, names.after);
+    let place = options::next_file(rt, names.at, count, names.after);
     if place.found {
         return Named {
             names: among(names, next_word(place.at), place.after),
             what: feed::LINE,
-            bytes: argument(place.at, name),
+            bytes: argument(rt, place.at, name),
         };
     }
     let here = among(names, count, place.after);
-    if names.listed {
-        return from_list(here, mark, memory, name);
-    }
-    Named {
-        names: here,
-        what: feed::NOTHING,
-        bytes: 0,
+    match list {
+        Some(list) => from_list(list, here, mark, memory, name),
+        None => Named {
+            names: here,
+            what: feed::NOTHING,
+            bytes: 0,
+        },
     }
 }

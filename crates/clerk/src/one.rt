@@ -6,23 +6,37 @@ use settings::DecodeSettings;
 // A fax page is 1,728 pixels wide (T.4, 2.1).
 const USUAL_WIDTH: u32 = 1728;
 
-fn listed(src: &[u8], settings: DecodeSettings, name: &[u8], out: &mut [u8]) -> u32 {
+fn listed(
+    rt: &HostRuntime,
+    src: &[u8],
+    settings: DecodeSettings,
+    name: &[u8],
+    out: &mut [u8],
+) -> u32 {
     let mut first = room::line();
     let mut second = room::line();
-    let listed = list::page(src, settings, &mut first, &mut second, out);
+    let listed = list::page(rt, src, settings, &mut first, &mut second, out);
     let end = listed.end;
-    reading::hint(src, settings, end.number, end.place, name);
+    reading::hint(rt, src, settings, end.number, end.place, name);
     listed.status
 }
 
-fn shown(src: &[u8], settings: DecodeSettings, marks: bool, name: &[u8], out: &mut [u8]) -> u32 {
+fn shown(
+    rt: &HostRuntime,
+    src: &[u8],
+    settings: DecodeSettings,
+    marks: bool,
+    name: &[u8],
+    out: &mut [u8],
+) -> u32 {
     let mut first = room::line();
     let mut second = room::line();
-    picture::page(src, settings, marks, name, &mut first, &mut second, out)
+    picture::page(rt, src, settings, marks, name, &mut first, &mut second, out)
 }
 
 // What a command answers of a page.
 fn of_page(
+    rt: &HostRuntime,
     command: u32,
     src: &[u8],
     settings: DecodeSettings,
@@ -32,31 +46,39 @@ fn of_page(
     out: &mut [u8],
 ) -> u32 {
     if command == options::LIST {
-        return listed(src, settings, name, out);
+        return listed(rt, src, settings, name, out);
     }
     if command == options::PICTURE {
-        return shown(src, settings, marks, name, out);
+        return shown(rt, src, settings, marks, name, out);
     }
-    check::page(src, settings, name, changes, out)
+    check::page(rt, src, settings, name, changes, out)
 }
 
 // The bytes of the file, or a message.
-fn read(name: &[u8], input: &mut [u8]) -> usize {
-    let got = files::read(name, input, 0);
-    if got.fault == 0 {
-        return got.bytes;
+fn read(rt: &HostRuntime, name: &[u8], input: &mut [u8]) -> usize {
+    match files::read(rt, name, input, 0) {
+        Ok(bytes) => bytes,
+        Err(fault) => {
+            say::complain_of_file(rt, name, fault);
+            0
+        }
     }
-    say::complain_of_file(name, got.fault);
-    0
 }
 
-fn is_one(o: Options, command: &[u8]) -> bool {
+fn is_one(rt: &HostRuntime, o: Options, command: &[u8]) -> bool {
     if o.files == 0 {
-        say::complain_of_two(b"", command, b" needs a file: ./fax help ", command, b"");
+        say::complain_of_two(
+            rt,
+            b"",
+            command,
+            b" needs a file: ./fax help ",
+            command,
+            b"",
+        );
         return false;
     }
     if 1 < o.files {
-        say::complain_of(b"", command, b" takes one file");
+        say::complain_of(rt, b"", command, b" takes one file");
         return false;
     }
     true
@@ -64,6 +86,7 @@ fn is_one(o: Options, command: &[u8]) -> bool {
 
 // A page, by its name.
 pub(crate) fn page(
+    rt: &HostRuntime,
     command: u32,
     o: Options,
     word: &[u8],
@@ -71,26 +94,28 @@ pub(crate) fn page(
     changes: &mut [u32],
     out: &mut [u8],
 ) -> u32 {
-    if !is_one(o, word) {
+    if !is_one(rt, o, word) {
         return say::FAILED;
     }
-    let mut name = io::buffer();
-    let n = os::arg(o.file, &mut name);
+    let mut name = room::word();
+    let n = options::copy_word(rt, o.file, &mut name);
     let settled = reading::settle(o, &name[..n], USUAL_WIDTH);
     if !settled.known {
         say::complain_of(
+            rt,
             b"--encoding is missing, and the name '",
             &name[..n],
             b"' does not say it",
         );
         return say::FAILED;
     }
-    let bytes = read(&name[..n], input);
+    let bytes = read(rt, &name[..n], input);
     if bytes == 0 {
         return say::FAILED;
     }
     let settings = settled.settings;
     of_page(
+        rt,
         command,
         lines::front(input, bytes),
         settings,
@@ -102,35 +127,36 @@ pub(crate) fn page(
 }
 
 // Fill and missing EOLs are for 1D pages, K for 2D ones.
-fn is_fitting(o: Options) -> bool {
+fn is_fitting(rt: &HostRuntime, o: Options) -> bool {
     if o.encoding == options::UNNAMED {
-        say::complain(b"--encoding is missing");
+        say::complain(rt, b"--encoding is missing");
         return false;
     }
     if o.encoding != options::G31D {
         if o.has_fill {
-            say::complain(b"--fill is for --encoding g31d");
+            say::complain(rt, b"--fill is for --encoding g31d");
             return false;
         }
         if o.no_eols {
-            say::complain(b"--no-eols is for --encoding g31d");
+            say::complain(rt, b"--no-eols is for --encoding g31d");
             return false;
         }
     }
     if o.encoding != options::G32D {
         if o.has_k {
-            say::complain(b"--k is for --encoding g32d");
+            say::complain(rt, b"--k is for --encoding g32d");
             return false;
         }
     }
     true
 }
 
-fn written(o: Options, data: &[u8], changes: &mut [u32], out: &mut [u8]) -> u32 {
+fn written(rt: &HostRuntime, o: Options, data: &[u8], changes: &mut [u32], out: &mut [u8]) -> u32 {
     let mut ends = room::ends();
     let mut first = room::line();
     let mut second = room::line();
     write::page(
+        rt,
         data,
         reading::mode(o.encoding),
         o.fill,
@@ -146,23 +172,24 @@ fn written(o: Options, data: &[u8], changes: &mut [u32], out: &mut [u8]) -> u32 
 
 // A bitmap, by its name.
 pub(crate) fn bitmap(
+    rt: &HostRuntime,
     o: Options,
     word: &[u8],
     input: &mut [u8],
     changes: &mut [u32],
     out: &mut [u8],
 ) -> u32 {
-    if !is_one(o, word) {
+    if !is_one(rt, o, word) {
         return say::FAILED;
     }
-    if !is_fitting(o) {
+    if !is_fitting(rt, o) {
         return say::FAILED;
     }
-    let mut name = io::buffer();
-    let n = os::arg(o.file, &mut name);
-    let bytes = read(&name[..n], input);
+    let mut name = room::word();
+    let n = options::copy_word(rt, o.file, &mut name);
+    let bytes = read(rt, &name[..n], input);
     if bytes == 0 {
         return say::FAILED;
     }
-    written(o, lines::front(input, bytes), changes, out)
+    written(rt, o, lines::front(input, bytes), changes, out)
 }

@@ -1,5 +1,9 @@
 // The words of a command: its options, and the files that it is given.
-use crate::{say, text};
+ghost use Rattle.std.specs.Prelude.{◌≤◌, length};
+
+use crate::{room, say, text};
+use std::env::FillError;
+use std::rt::Env;
 
 // The commands, as main.rt numbers them.
 pub(crate) const LIST: u32 = 0;
@@ -182,6 +186,26 @@ pub(crate) fn command(word: &[u8]) -> u32 {
     if k < 7 { k as u32 } else { NO_COMMAND }
 }
 
+// How many words there are, the program's own name among them.
+pub(crate) fn count(rt: &HostRuntime) -> usize {
+    for at in 0..4294967296usize {
+        if let Err(FillError::NotPresent) = rt.arg(at, &mut [0]) {
+            return at;
+        }
+    }
+    4294967296
+}
+
+// A word to the beginning of the memory: how many bytes it has, or 0 where it is missing or longer than the memory.
+pub(crate) fn copy_word(rt: &HostRuntime, at: usize, into: &mut [u8]) -> usize
+    ensures { result ≤ length into.new }
+{
+    match rt.arg(at, into) {
+        Ok(n) => n,
+        Err(_) => 0,
+    }
+}
+
 // What a word is: a file, the two dashes behind which all are files, or an option.
 #[derive(Clone, Copy)]
 enum Word {
@@ -321,21 +345,29 @@ fn with_layout(o: Options, id: usize) -> Options {
 }
 
 // A number between two others; a message says what it must be.
-fn between(word: &[u8], value: &[u8], least: u64, most: u64, range: &[u8]) -> bool {
+fn between(
+    rt: &HostRuntime,
+    word: &[u8],
+    value: &[u8],
+    least: u64,
+    most: u64,
+    range: &[u8],
+) -> bool {
     let n = text::whole(value);
     if n < least {
-        say::complain_of_two(b"", word, range, value, b"'");
+        say::complain_of_two(rt, b"", word, range, value, b"'");
         return false;
     }
     if most < n {
-        say::complain_of_two(b"", word, range, value, b"'");
+        say::complain_of_two(rt, b"", word, range, value, b"'");
         return false;
     }
     true
 }
 
-fn is_number(word: &[u8], value: &[u8]) -> bool {
+fn is_number(rt: &HostRuntime, word: &[u8], value: &[u8]) -> bool {
     between(
+        rt,
         word,
         value,
         0,
@@ -350,8 +382,8 @@ fn narrow(value: &[u8]) -> u32 {
     if n < 4294967296 { n as u32 } else { 0 }
 }
 
-fn with_width(o: Options, id: usize, word: &[u8], value: &[u8]) -> Options {
-    if !is_number(word, value) {
+fn with_width(rt: &HostRuntime, o: Options, id: usize, word: &[u8], value: &[u8]) -> Options {
+    if !is_number(rt, word, value) {
         return refused(o);
     }
     let mut other = o;
@@ -364,8 +396,9 @@ fn with_width(o: Options, id: usize, word: &[u8], value: &[u8]) -> Options {
     other
 }
 
-fn with_fill(o: Options, word: &[u8], value: &[u8]) -> Options {
+fn with_fill(rt: &HostRuntime, o: Options, word: &[u8], value: &[u8]) -> Options {
     if !between(
+        rt,
         word,
         value,
         0,
@@ -380,8 +413,9 @@ fn with_fill(o: Options, word: &[u8], value: &[u8]) -> Options {
     other
 }
 
-fn with_k(o: Options, word: &[u8], value: &[u8]) -> Options {
+fn with_k(rt: &HostRuntime, o: Options, word: &[u8], value: &[u8]) -> Options {
     if !between(
+        rt,
         word,
         value,
         1,
@@ -409,10 +443,15 @@ fn encoding(value: &[u8]) -> u32 {
     UNNAMED
 }
 
-fn with_encoding(o: Options, value: &[u8]) -> Options {
+fn with_encoding(rt: &HostRuntime, o: Options, value: &[u8]) -> Options {
     let named = encoding(value);
     if named == UNNAMED {
-        say::complain_of(b"--encoding is g4, g31d or g32d, and not '", value, b"'");
+        say::complain_of(
+            rt,
+            b"--encoding is g4, g31d or g32d, and not '",
+            value,
+            b"'",
+        );
         return refused(o);
     }
     let mut other = o;
@@ -447,10 +486,11 @@ fn signed(n: u64, negative: bool) -> i32 {
     0 - n as i32
 }
 
-fn with_quota(o: Options, value: &[u8]) -> Options {
+fn with_quota(rt: &HostRuntime, o: Options, value: &[u8]) -> Options {
     let n = quota(value);
     if 1000000 < n {
         say::complain_of(
+            rt,
             b"--quota takes a number from -1000000 to 1000000, and not '",
             value,
             b"'",
@@ -479,33 +519,47 @@ fn given_bit(id: usize) -> u32 {
 }
 
 // A second value would take the place of the first in silence.
-fn with_new_value(o: Options, id: usize, at: usize, word: &[u8], value: &[u8]) -> Options {
+fn with_new_value(
+    rt: &HostRuntime,
+    o: Options,
+    id: usize,
+    at: usize,
+    word: &[u8],
+    value: &[u8],
+) -> Options {
     let bit = given_bit(id);
     if o.given & bit != 0 {
-        say::complain_of(b"", word, b" is given twice");
+        say::complain_of(rt, b"", word, b" is given twice");
         return refused(o);
     }
     let mut other = o;
     other.given = o.given | bit;
-    with_value(other, id, at, word, value)
+    with_value(rt, other, id, at, word, value)
 }
 
 // An option whose value is the word at a place.
-fn with_value(o: Options, id: usize, at: usize, word: &[u8], value: &[u8]) -> Options {
+fn with_value(
+    rt: &HostRuntime,
+    o: Options,
+    id: usize,
+    at: usize,
+    word: &[u8],
+    value: &[u8],
+) -> Options {
     if id == QUOTA {
-        return with_quota(o, value);
+        return with_quota(rt, o, value);
     }
     if id == ENCODING {
-        return with_encoding(o, value);
+        return with_encoding(rt, o, value);
     }
     if id == FILL {
-        return with_fill(o, word, value);
+        return with_fill(rt, o, word, value);
     }
     if id == K {
-        return with_k(o, word, value);
+        return with_k(rt, o, word, value);
     }
     if COLUMNS <= id {
-        return with_width(o, id, word, value);
+        return with_width(rt, o, id, word, value);
     }
     let mut other = o;
     if id == FORM {
@@ -520,12 +574,15 @@ fn with_value(o: Options, id: usize, at: usize, word: &[u8], value: &[u8]) -> Op
     other
 }
 
-fn unknown(o: Options, id: usize, word: &[u8], command: &[u8]) -> Options {
+fn unknown(rt: &HostRuntime, o: Options, id: usize, word: &[u8], command: &[u8]) -> Options {
     if id == LEAST {
-        say::complain(b"--least is no longer needed: the form's line tick says it");
+        say::complain(
+            rt,
+            b"--least is no longer needed: the form's line tick says it",
+        );
         return refused(o);
     }
-    say::complain_of_two(b"no option '", word, b"': ./fax help ", command, b"");
+    say::complain_of_two(rt, b"no option '", word, b"': ./fax help ", command, b"");
     refused(o)
 }
 
@@ -568,18 +625,26 @@ fn turned(options: Options, at: usize, words: usize, after: bool) -> Past {
     }
 }
 
-fn valued(o: Options, id: usize, at: usize, count: usize, word: &[u8]) -> Options {
+fn valued(
+    rt: &HostRuntime,
+    o: Options,
+    id: usize,
+    at: usize,
+    count: usize,
+    word: &[u8],
+) -> Options {
     let next = further(at, 1);
     if count <= next {
-        say::complain_of(b"", word, b" needs a value");
+        say::complain_of(rt, b"", word, b" needs a value");
         return refused(o);
     }
-    let mut value = io::buffer();
-    let n = os::arg(next, &mut value);
-    with_new_value(o, id, next, word, &value[..n])
+    let mut value = room::word();
+    let n = copy_word(rt, next, &mut value);
+    with_new_value(rt, o, id, next, word, &value[..n])
 }
 
 fn option(
+    rt: &HostRuntime,
     o: Options,
     command: u32,
     id: usize,
@@ -589,40 +654,52 @@ fn option(
     name: &[u8],
 ) -> Past {
     if !is_allowed(command, id) {
-        return turned(unknown(o, id, word, name), at, 1, false);
+        return turned(unknown(rt, o, id, word, name), at, 1, false);
     }
     if takes_value(id) {
-        return turned(valued(o, id, at, count, word), at, 2, false);
+        return turned(valued(rt, o, id, at, count, word), at, 2, false);
     }
     turned(with_flag(o, id), at, 1, false)
 }
 
-fn turn(o: Options, command: u32, at: usize, count: usize, after: bool, name: &[u8]) -> Past {
-    let mut word = io::buffer();
-    let n = os::arg(at, &mut word);
+fn turn(
+    rt: &HostRuntime,
+    o: Options,
+    command: u32,
+    at: usize,
+    count: usize,
+    after: bool,
+    name: &[u8],
+) -> Past {
+    let mut word = room::word();
+    let n = copy_word(rt, at, &mut word);
     let kind = kind(&word[..n], after);
     match kind {
         Word::File => turned(with_file(o, at), at, 1, after),
         Word::Dashes => turned(o, at, 1, true),
-        Word::Option(id) => option(o, command, id, at, count, &word[..n], name),
+        Word::Option(id) => option(rt, o, command, id, at, count, &word[..n], name),
     }
 }
 
 // The options of a command whose first word has a place.
-pub(crate) fn read(command: u32, name: &[u8], first: usize, count: usize) -> Options {
+pub(crate) fn read(
+    rt: &HostRuntime,
+    command: u32,
+    name: &[u8],
+    first: usize,
+    count: usize,
+) -> Options {
     let mut o = none();
     let mut at = first;
     let mut after = false;
-    let mut left = count;
-    while 0 < left {
-        left -= 1;
+    for _ in 0..count {
         if count <= at {
             break;
         }
         if !o.good {
             break;
         }
-        let turn = turn(o, command, at, count, after, name);
+        let turn = turn(rt, o, command, at, count, after, name);
         let next = turn.options;
         o = next;
         at = turn.at;
@@ -648,9 +725,9 @@ fn placed(found: bool, at: usize, words: usize, after: bool) -> Place {
     }
 }
 
-fn at_word(at: usize, after: bool) -> Place {
-    let mut word = io::buffer();
-    let n = os::arg(at, &mut word);
+fn at_word(rt: &HostRuntime, at: usize, after: bool) -> Place {
+    let mut word = room::word();
+    let n = copy_word(rt, at, &mut word);
     let kind = kind(&word[..n], after);
     match kind {
         Word::File => placed(true, at, 0, after),
@@ -665,16 +742,14 @@ fn at_word(at: usize, after: bool) -> Place {
     }
 }
 
-pub(crate) fn next_file(from: usize, count: usize, dashes: bool) -> Place {
+pub(crate) fn next_file(rt: &HostRuntime, from: usize, count: usize, dashes: bool) -> Place {
     let mut at = from;
     let mut after = dashes;
-    let mut left = count;
-    while 0 < left {
-        left -= 1;
+    for _ in 0..count {
         if count <= at {
             break;
         }
-        let place = at_word(at, after);
+        let place = at_word(rt, at, after);
         if place.found {
             return place;
         }

@@ -39,6 +39,7 @@ fn width(columns: u32, from: usize) -> u32 {
 }
 
 pub(crate) fn row(
+    rt: &HostRuntime,
     answer: Answer,
     row: &[u32],
     count: usize,
@@ -48,18 +49,19 @@ pub(crate) fn row(
 ) -> bool {
     margin(out, from, answer.mark == 0);
     let good = paint(row, count, columns, out, from);
-    say::bytes(good, out, pbm::row_bytes(width(columns, from)))
+    say::bytes(rt, good, out, pbm::row_bytes(width(columns, from)))
 }
 
-fn head(width: u32, rows: u64) -> bool {
-    let good = say::text(true, b"P4\n");
-    let good = say::number(good, width as u64);
-    let good = say::text(good, b" ");
-    let good = say::number(good, rows);
-    say::text(good, b"\n")
+fn head(rt: &HostRuntime, width: u32, rows: u64) -> bool {
+    let good = say::text(rt, true, b"P4\n");
+    let good = say::number(rt, good, width as u64);
+    let good = say::text(rt, good, b" ");
+    let good = say::number(rt, good, rows);
+    say::text(rt, good, b"\n")
 }
 
 fn painted(
+    rt: &HostRuntime,
     src: &[u8],
     settings: DecodeSettings,
     rows: u64,
@@ -68,19 +70,28 @@ fn painted(
     second: &mut [u32],
     out: &mut [u8],
 ) -> bool {
-    if !head(width(settings.columns, from), rows) {
+    if !head(rt, width(settings.columns, from), rows) {
         return false;
     }
-    let read = walk::page(src, settings, walk::Show::Pixels(from), first, second, out);
+    let read = walk::page(
+        rt,
+        src,
+        settings,
+        walk::Show::Pixels(from),
+        first,
+        second,
+        out,
+    );
     read.good
 }
 
 // A page that is not read to its end is shown as far as it was read, and that is told.
-fn status_for(number: u32) -> u32 {
+fn status_for(rt: &HostRuntime, number: u32) -> u32 {
     if number == answer::COMPLETE {
         return say::WELL;
     }
     say::complain_with(
+        rt,
         b"the page is not read to its end, answer ",
         number as u64,
         b": the picture has the rows before that",
@@ -89,25 +100,25 @@ fn status_for(number: u32) -> u32 {
 }
 
 // A picture has 1 to 65,536 rows, as many as `pbm` reads.
-fn fits(rows: u64) -> bool {
+fn fits(rt: &HostRuntime, rows: u64) -> bool {
     if rows == 0 {
-        say::complain(b"there is no row to show");
+        say::complain(rt, b"there is no row to show");
         return false;
     }
     if 65536 < rows {
-        say::complain(b"a picture has at most 65536 rows");
+        say::complain(rt, b"a picture has at most 65536 rows");
         return false;
     }
     true
 }
 
-fn is_wide(columns: u32) -> bool {
+fn is_wide(rt: &HostRuntime, columns: u32) -> bool {
     if 65536 < columns {
-        say::complain(b"a picture has at most 65536 columns");
+        say::complain(rt, b"a picture has at most 65536 columns");
         return false;
     }
     if columns == 0 {
-        say::complain(b"a picture has at least one column");
+        say::complain(rt, b"a picture has at least one column");
         return false;
     }
     true
@@ -115,6 +126,7 @@ fn is_wide(columns: u32) -> bool {
 
 // How the page ends is read before it is painted, as a bitmap begins with its number of rows.
 pub(crate) fn page(
+    rt: &HostRuntime,
     src: &[u8],
     settings: DecodeSettings,
     marks: bool,
@@ -123,17 +135,17 @@ pub(crate) fn page(
     second: &mut [u32],
     out: &mut [u8],
 ) -> u32 {
-    if !is_wide(settings.columns) {
+    if !is_wide(rt, settings.columns) {
         return say::FAILED;
     }
-    let read = walk::page(src, settings, walk::Show::Nothing, first, second, out);
+    let read = walk::page(rt, src, settings, walk::Show::Nothing, first, second, out);
     let end = read.end;
-    reading::hint(src, settings, end.number, end.place, name);
-    if !fits(end.rows) {
+    reading::hint(rt, src, settings, end.number, end.place, name);
+    if !fits(rt, end.rows) {
         return say::FAILED;
     }
-    let status = status_for(end.number);
+    let status = status_for(rt, end.number);
     let from = if marks { 2 } else { 0 };
-    let good = painted(src, settings, end.rows, from, first, second, out);
-    say::status_of(good, status)
+    let good = painted(rt, src, settings, end.rows, from, first, second, out);
+    say::status_of(rt, good, status)
 }

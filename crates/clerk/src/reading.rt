@@ -150,7 +150,14 @@ fn missing(encoding: EncodingMode, settings: DecodeSettings) -> bool {
 }
 
 // A reading that stops at a mark of which it was not told says which option is missing.
-pub(crate) fn hint(src: &[u8], settings: DecodeSettings, number: u32, place: u64, name: &[u8]) {
+pub(crate) fn hint(
+    rt: &HostRuntime,
+    src: &[u8],
+    settings: DecodeSettings,
+    number: u32,
+    place: u64,
+    name: &[u8],
+) {
     let encoding = settings.encoding;
     if !has_place(number) {
         return;
@@ -164,6 +171,7 @@ pub(crate) fn hint(src: &[u8], settings: DecodeSettings, number: u32, place: u64
     }
     if block {
         say::complain_of(
+            rt,
             b"",
             name,
             b": an end_of_block mark stands there: --end-of-block is missing",
@@ -171,6 +179,7 @@ pub(crate) fn hint(src: &[u8], settings: DecodeSettings, number: u32, place: u64
         return;
     }
     say::complain_of(
+        rt,
         b"",
         name,
         b": an end_of_line mark stands there: --end-of-line or --end-of-block is missing",

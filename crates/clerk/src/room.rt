@@ -1,5 +1,15 @@
 // Room for a page, and for a large one. Each is made by a function of its own: a proof that has so many zeros in sight goes through all of them.
 
+// A word, or the name of a file, which has at most 4,095 bytes.
+pub(crate) fn word() -> [u8; 4096] {
+    [0; 4096]
+}
+
+// What is read ahead of a file, and a piece of one that is written.
+pub(crate) fn memory() -> [u8; 65536] {
+    [0; 65536]
+}
+
 pub(crate) fn input() -> [u8; 65536] {
     [0; 65536]
 }

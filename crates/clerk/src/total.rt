@@ -35,42 +35,50 @@ fn failed(l: Ledgers) -> Ledgers {
 }
 
 // What is wrong with a ledger by itself.
-fn told_alone(name: &[u8], data: &[u8], added: AddedUp) {
-    say::message(b"fax: ");
-    say::name(name);
-    say::message(b", line ");
-    say::message_number(line_at(data, 0, inside(data.len(), added.at)));
+fn told_alone(rt: &HostRuntime, name: &[u8], data: &[u8], added: AddedUp) {
+    say::message(rt, b"fax: ");
+    say::name(rt, name);
+    say::message(rt, b", line ");
+    say::message_number(rt, line_at(data, 0, inside(data.len(), added.at)));
     if added.number == ledger_file::STANDS_TWICE {
-        say::message(b": this page stands in line ");
-        say::message_number(line_at(data, 0, added.other));
-        say::message(b" too");
+        say::message(rt, b": this page stands in line ");
+        say::message_number(rt, line_at(data, 0, added.other));
+        say::message(rt, b" too");
     } else {
-        words(added.number);
+        words(rt, added.number);
     }
-    say::message(b"\n");
+    say::message(rt, b"\n");
 }
 
 // Each ledger must be one by itself, so that what is wrong is told where it is.
-fn is_sound(name: &[u8], data: &[u8], quota: i32, starts: &mut [u64]) -> bool {
+fn is_sound(rt: &HostRuntime, name: &[u8], data: &[u8], quota: i32, starts: &mut [u64]) -> bool {
     let added = ledger_file::add_up(data, quota, starts);
     if added.number == answer::COMPLETE {
         return true;
     }
-    told_alone(name, data, added);
+    told_alone(rt, name, data, added);
     false
 }
 
 // A ledger that was read behind so many bytes.
-fn is_ledger(name: &[u8], data: &[u8], from: usize, quota: i32, starts: &mut [u64]) -> bool {
+fn is_ledger(
+    rt: &HostRuntime,
+    name: &[u8],
+    data: &[u8],
+    from: usize,
+    quota: i32,
+    starts: &mut [u64],
+) -> bool {
     if !ends_line(data, data.len()) {
-        say::complain_of(b"", name, b": its last line is cut");
+        say::complain_of(rt, b"", name, b": its last line is cut");
         return false;
     }
-    is_sound(name, lines::rest(data, from), quota, starts)
+    is_sound(rt, name, lines::rest(data, from), quota, starts)
 }
 
 // One ledger more, behind those that were read.
 fn one_more(
+    rt: &HostRuntime,
     l: Ledgers,
     quota: i32,
     at: usize,
@@ -79,29 +87,32 @@ fn one_more(
     ends: &mut [u64],
     starts: &mut [u64],
 ) -> Ledgers {
-    let mut name = io::buffer();
-    let n = os::arg(at, &mut name);
-    let got = files::read(&name[..n], input, l.bytes);
-    if got.fault != 0 {
-        say::complain_of_file(&name[..n], got.fault);
-        return failed(l);
-    }
+    let mut name = room::word();
+    let n = options::copy_word(rt, at, &mut name);
+    let bytes = match files::read(rt, &name[..n], input, l.bytes) {
+        Ok(bytes) => bytes,
+        Err(fault) => {
+            say::complain_of_file(rt, &name[..n], fault);
+            return failed(l);
+        }
+    };
     if !is_ledger(
+        rt,
         &name[..n],
-        lines::front(input, got.bytes),
+        lines::front(input, bytes),
         l.bytes,
         quota,
         starts,
     ) {
         return failed(l);
     }
-    if !put_end(ends, l.count, got.bytes) {
-        say::complain(b"there are more ledgers than the tool holds");
+    if !put_end(ends, l.count, bytes) {
+        say::complain(rt, b"there are more ledgers than the tool holds");
         return failed(l);
     }
     Ledgers {
         good: true,
-        bytes: got.bytes,
+        bytes,
         count: next(l.count),
         at: next(at),
         after,
@@ -113,6 +124,7 @@ fn next(n: usize) -> usize {
 }
 
 fn all(
+    rt: &HostRuntime,
     quota: i32,
     first: usize,
     count: usize,
@@ -127,14 +139,12 @@ fn all(
         at: first,
         after: false,
     };
-    let mut left = count;
-    while 0 < left {
-        left -= 1;
-        let place = options::next_file(l.at, count, l.after);
+    for _ in 0..count {
+        let place = options::next_file(rt, l.at, count, l.after);
         if !place.found {
             break;
         }
-        let more = one_more(l, quota, place.at, place.after, input, ends, starts);
+        let more = one_more(rt, l, quota, place.at, place.after, input, ends, starts);
         l = more;
         if !l.good {
             break;
@@ -180,12 +190,12 @@ fn line_at(data: &[u8], begin: usize, at: usize) -> u64 {
 }
 
 // The argument that names a ledger.
-fn name_of(first: usize, count: usize, ledger: usize) -> usize {
+fn name_of(rt: &HostRuntime, first: usize, count: usize, ledger: usize) -> usize {
     let mut at = first;
     let mut after = false;
     let mut k = 0;
     while k < count {
-        let place = options::next_file(at, count, after);
+        let place = options::next_file(rt, at, count, after);
         if k == ledger {
             return place.at;
         }
@@ -197,33 +207,44 @@ fn name_of(first: usize, count: usize, ledger: usize) -> usize {
 }
 
 // The ledger and the line of a place, as `parts.3, line 7`.
-fn say_place(data: &[u8], ends: &[u64], l: Ledgers, first: usize, count: usize, at: usize) {
+fn say_place(
+    rt: &HostRuntime,
+    data: &[u8],
+    ends: &[u64],
+    l: Ledgers,
+    first: usize,
+    count: usize,
+    at: usize,
+) {
     let found = found(ends, l.count, at);
-    let mut name = io::buffer();
-    let n = os::arg(name_of(first, count, found.ledger), &mut name);
-    say::name(&name[..n]);
-    say::message(b", line ");
-    say::message_number(line_at(data, found.begin, at));
+    let mut name = room::word();
+    let n = options::copy_word(rt, name_of(rt, first, count, found.ledger), &mut name);
+    say::name(rt, &name[..n]);
+    say::message(rt, b", line ");
+    say::message_number(rt, line_at(data, found.begin, at));
 }
 
-fn words(number: u32) {
+fn words(rt: &HostRuntime, number: u32) {
     if number == ledger_file::OTHER_TOTAL {
-        say::message(b": the total is not that of the lines above it");
+        say::message(rt, b": the total is not that of the lines above it");
         return;
     }
     if number == ledger_file::NO_TOTAL {
-        say::message(b": no total stands behind this page: the run was stopped");
+        say::message(
+            rt,
+            b": no total stands behind this page: the run was stopped",
+        );
         return;
     }
     if number == ledger_file::NO_ROOM {
-        say::message(b": there are more pages than the tool holds");
+        say::message(rt, b": there are more pages than the tool holds");
         return;
     }
     if number == ledger_file::BOOKS_FULL {
-        say::message(b": the books have no room for this page");
+        say::message(rt, b": the books have no room for this page");
         return;
     }
-    say::message(b": no line of a ledger");
+    say::message(rt, b": no line of a ledger");
 }
 
 // A fault behind the last line is told of that line.
@@ -235,42 +256,51 @@ fn inside(bytes: usize, at: usize) -> usize {
 }
 
 // What is wrong with the ledgers.
-fn told(data: &[u8], ends: &[u64], l: Ledgers, first: usize, count: usize, added: AddedUp) -> u32 {
-    say::message(b"fax: ");
-    say_place(data, ends, l, first, count, inside(l.bytes, added.at));
+fn told(
+    rt: &HostRuntime,
+    data: &[u8],
+    ends: &[u64],
+    l: Ledgers,
+    first: usize,
+    count: usize,
+    added: AddedUp,
+) -> u32 {
+    say::message(rt, b"fax: ");
+    say_place(rt, data, ends, l, first, count, inside(l.bytes, added.at));
     if added.number == ledger_file::STANDS_TWICE {
-        say::message(b": this page stands in ");
-        say_place(data, ends, l, first, count, added.other);
-        say::message(b" too");
+        say::message(rt, b": this page stands in ");
+        say_place(rt, data, ends, l, first, count, added.other);
+        say::message(rt, b" too");
     } else {
-        words(added.number);
+        words(rt, added.number);
     }
-    say::message(b"\n");
+    say::message(rt, b"\n");
     say::FAILED
 }
 
-fn is_whole(o: Options) -> bool {
+fn is_whole(rt: &HostRuntime, o: Options) -> bool {
     if o.files == 0 {
-        say::complain(b"total needs a ledger: ./fax help total");
+        say::complain(rt, b"total needs a ledger: ./fax help total");
         return false;
     }
     if !o.has_quota {
-        say::complain(b"--quota is missing");
+        say::complain(rt, b"--quota is missing");
         return false;
     }
     true
 }
 
-fn added_up(added: AddedUp) -> u32 {
+fn added_up(rt: &HostRuntime, added: AddedUp) -> u32 {
     let mut line = room::text();
     let b = added.ledger;
     let n = ledger::put_total(&mut line, b);
-    let good = say::bytes(0 < n, &line, n);
-    say::status_of(good, ledger::status(b))
+    let good = say::bytes(rt, 0 < n, &line, n);
+    say::status_of(rt, good, ledger::status(b))
 }
 
 // All ledgers together: no page stands in two of them.
 fn of_all(
+    rt: &HostRuntime,
     data: &[u8],
     ends: &[u64],
     l: Ledgers,
@@ -281,25 +311,26 @@ fn of_all(
 ) -> u32 {
     let added = ledger_file::add_up(lines::front(data, l.bytes), quota, starts);
     if added.number != answer::COMPLETE {
-        return told(data, ends, l, first, count, added);
+        return told(rt, data, ends, l, first, count, added);
     }
-    added_up(added)
+    added_up(rt, added)
 }
 
 pub(crate) fn command(
+    rt: &HostRuntime,
     o: Options,
     count: usize,
     first: usize,
     input: &mut [u8],
     starts: &mut [u64],
 ) -> u32 {
-    if !is_whole(o) {
+    if !is_whole(rt, o) {
         return say::FAILED;
     }
     let mut ends = room::ends();
-    let l = all(o.quota, first, count, input, &mut ends, starts);
+    let l = all(rt, o.quota, first, count, input, &mut ends, starts);
     if !l.good {
         return say::FAILED;
     }
-    of_all(input, &ends, l, first, count, o.quota, starts)
+    of_all(rt, input, &ends, l, first, count, o.quota, starts)
 }

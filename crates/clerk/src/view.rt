@@ -34,42 +34,42 @@ struct Step {
 }
 
 // A piece of the file is written; none of them is empty, and 0 says that it had no room.
-pub(crate) fn written(piece: &[u8], n: usize) -> bool {
+pub(crate) fn written(rt: &HostRuntime, piece: &[u8], n: usize) -> bool {
     if n == 0 {
         return false;
     }
-    say::bytes(true, piece, n)
+    say::bytes(rt, true, piece, n)
 }
 
-pub(crate) fn part(k: usize, piece: &mut [u8]) -> bool {
+pub(crate) fn part(rt: &HostRuntime, k: usize, piece: &mut [u8]) -> bool {
     let n = look::put_part(piece, k);
-    written(piece, n)
+    written(rt, piece, n)
 }
 
-fn row(name: &[u8], v: Verdict, b: Ledger, piece: &mut [u8]) -> bool {
+fn row(rt: &HostRuntime, name: &[u8], v: Verdict, b: Ledger, piece: &mut [u8]) -> bool {
     let n = look::put_row(piece, name, v, b);
-    written(piece, n)
+    written(rt, piece, n)
 }
 
-fn bar(v: Verdict, b: Ledger, piece: &mut [u8]) -> bool {
+fn bar(rt: &HostRuntime, v: Verdict, b: Ledger, piece: &mut [u8]) -> bool {
     let n = look::put_bar(piece, v, b);
-    written(piece, n)
+    written(rt, piece, n)
 }
 
 // What every pass but that of the pictures writes of a page.
-fn told(what: u32, name: &[u8], v: Verdict, b: Ledger, piece: &mut [u8]) -> bool {
+fn told(rt: &HostRuntime, what: u32, name: &[u8], v: Verdict, b: Ledger, piece: &mut [u8]) -> bool {
     if what == BARS {
-        return bar(v, b, piece);
+        return bar(rt, v, b, piece);
     }
     if what == LOOKED {
         if v.number != 0 {
-            return row(name, v, b, piece);
+            return row(rt, name, v, b, piece);
         }
         return true;
     }
     if what == COUNTED {
         if v.number == 0 {
-            return row(name, v, b, piece);
+            return row(rt, name, v, b, piece);
         }
         return true;
     }
@@ -77,44 +77,52 @@ fn told(what: u32, name: &[u8], v: Verdict, b: Ledger, piece: &mut [u8]) -> bool
 }
 
 // A page whose file cannot be used has its words, and no picture.
-fn without(name: &[u8], v: Verdict, b: Ledger, piece: &mut [u8]) -> bool {
-    if !drawing::words(name, v, b, piece) {
+fn without(rt: &HostRuntime, name: &[u8], v: Verdict, b: Ledger, piece: &mut [u8]) -> bool {
+    if !drawing::words(rt, name, v, b, piece) {
         return false;
     }
-    if !part(look::NO_PICTURE, piece) {
+    if !part(rt, look::NO_PICTURE, piece) {
         return false;
     }
-    part(look::PAGE_END, piece)
+    part(rt, look::PAGE_END, piece)
 }
 
-fn no_room(b: Ledger) -> Step {
-    say::complain(b"the books have no room for a page more");
+fn no_room(rt: &HostRuntime, b: Ledger) -> Step {
+    say::complain(rt, b"the books have no room for a page more");
     Step {
         good: false,
         ledger: b,
     }
 }
 
-fn unread(what: u32, number: u32, name: &[u8], b: Ledger, piece: &mut [u8]) -> Step {
+fn unread(
+    rt: &HostRuntime,
+    what: u32,
+    number: u32,
+    name: &[u8],
+    b: Ledger,
+    piece: &mut [u8],
+) -> Step {
     let v = ledger::unread(number);
     if !ledger::has_room(b, v) {
-        return no_room(b);
+        return no_room(rt, b);
     }
     let after = ledger::book(b, v);
     if what == PICTURES {
         return Step {
-            good: without(name, v, after, piece),
+            good: without(rt, name, v, after, piece),
             ledger: after,
         };
     }
     Step {
-        good: told(what, name, v, after, piece),
+        good: told(rt, what, name, v, after, piece),
         ledger: after,
     }
 }
 
 // A page that was read, with the books behind it.
 fn put(
+    rt: &HostRuntime,
     what: u32,
     columns: u32,
     form: Form,
@@ -130,21 +138,22 @@ fn put(
     piece: &mut [u8],
 ) -> bool {
     if what != PICTURES {
-        return told(what, name, v, b, piece);
+        return told(rt, what, name, v, b, piece);
     }
     if v.number == 0 {
         return true;
     }
-    if !drawing::words(name, v, b, piece) {
+    if !drawing::words(rt, name, v, b, piece) {
         return false;
     }
     drawing::page(
-        columns, form, boxes, places, v, changes, ends, marks, picture, piece,
+        rt, columns, form, boxes, places, v, changes, ends, marks, picture, piece,
     )
 }
 
 // The verdict on a page whose bytes are at hand, by the form's numbers.
 fn judged(
+    rt: &HostRuntime,
     what: u32,
     o: Options,
     form: Form,
@@ -166,14 +175,15 @@ fn judged(
         src, settings, form, boxes, places, changes, &mut ends, &mut marks,
     );
     if !ledger::has_room(b, v) {
-        return no_room(b);
+        return no_room(rt, b);
     }
     if what == BOOKS {
-        reading::hint(src, given, v.number, v.place, name);
+        reading::hint(rt, src, given, v.number, v.place, name);
     }
     let after = ledger::book(b, v);
     Step {
         good: put(
+            rt,
             what,
             settings.columns,
             form,
@@ -194,6 +204,7 @@ fn judged(
 
 // The form's numbers; that they are those of a form was tested before the first page.
 fn formed(
+    rt: &HostRuntime,
     what: u32,
     o: Options,
     text: &[u8],
@@ -209,11 +220,12 @@ fn formed(
     let formed = form_file::read_form(text, &mut boxes, &mut places);
     let form = formed.form;
     judged(
-        what, o, form, &boxes, &places, name, src, b, changes, picture, piece,
+        rt, what, o, form, &boxes, &places, name, src, b, changes, picture, piece,
     )
 }
 
 fn page(
+    rt: &HostRuntime,
     what: u32,
     o: Options,
     form: &[u8],
@@ -226,18 +238,19 @@ fn page(
 ) -> Step {
     let settled = reading::settle(o, name, 0);
     if !settled.known {
-        return unread(what, ledger::NO_ENCODING, name, b, piece);
+        return unread(rt, what, ledger::NO_ENCODING, name, b, piece);
     }
-    let got = files::read(name, input, 0);
-    if got.fault != 0 {
-        return unread(what, got.fault, name, b, piece);
-    }
+    let bytes = match files::read(rt, name, input, 0) {
+        Ok(bytes) => bytes,
+        Err(fault) => return unread(rt, what, fault, name, b, piece),
+    };
     formed(
+        rt,
         what,
         o,
         form,
         name,
-        lines::front(input, got.bytes),
+        lines::front(input, bytes),
         b,
         changes,
         picture,
@@ -258,6 +271,7 @@ fn stopped(pass: Pass, good: bool) -> Pass {
 
 // A page that has a name. Standard input is there once, and the file needs each page several times.
 fn named(
+    rt: &HostRuntime,
     what: u32,
     o: Options,
     form: &[u8],
@@ -271,11 +285,14 @@ fn named(
     piece: &mut [u8],
 ) -> Pass {
     if files::is_input(name) {
-        say::complain(b"look reads each page several times, and cannot read standard input so");
+        say::complain(
+            rt,
+            b"look reads each page several times, and cannot read standard input so",
+        );
         return stopped(pass, false);
     }
     let b = pass.ledger;
-    let step = page(what, o, form, name, b, input, changes, picture, piece);
+    let step = page(rt, what, o, form, name, b, input, changes, picture, piece);
     let behind = step.ledger;
     Pass {
         at,
@@ -288,6 +305,7 @@ fn named(
 
 // The next page, if there is one.
 fn turn(
+    rt: &HostRuntime,
     what: u32,
     o: Options,
     form: &[u8],
@@ -298,13 +316,14 @@ fn turn(
     picture: &mut [u8],
     piece: &mut [u8],
 ) -> Pass {
-    let place = options::next_file(pass.at, count, pass.after);
+    let place = options::next_file(rt, pass.at, count, pass.after);
     if !place.found {
         return stopped(pass, true);
     }
-    let mut name = io::buffer();
-    let n = names::argument(place.at, &mut name);
+    let mut name = room::word();
+    let n = names::argument(rt, place.at, &mut name);
     named(
+        rt,
         what,
         o,
         form,
@@ -320,6 +339,7 @@ fn turn(
 }
 
 fn turns(
+    rt: &HostRuntime,
     what: u32,
     o: Options,
     form: &[u8],
@@ -331,13 +351,13 @@ fn turns(
     piece: &mut [u8],
 ) -> Pass {
     let mut pass = begun;
-    let mut left: u64 = 4294967296;
-    while 0 < left {
-        left -= 1;
+    for _ in 0..4294967296u64 {
         if !pass.more {
             break;
         }
-        let next = turn(what, o, form, count, pass, input, changes, picture, piece);
+        let next = turn(
+            rt, what, o, form, count, pass, input, changes, picture, piece,
+        );
         pass = next;
     }
     pass
@@ -359,29 +379,30 @@ fn begun(quota: i32, first: usize) -> Pass {
 }
 
 // Whether a pass came to the books of the first: else a page changed between the two.
-fn is_same(pass: Pass, b: Ledger) -> bool {
+fn is_same(rt: &HostRuntime, pass: Pass, b: Ledger) -> bool {
     if !pass.good {
         return false;
     }
     let other = pass.ledger;
     if other.heads != b.heads {
-        return changed();
+        return changed(rt);
     }
     if other.pages != b.pages {
-        return changed();
+        return changed(rt);
     }
     if other.looked != b.looked {
-        return changed();
+        return changed(rt);
     }
     true
 }
 
-fn changed() -> bool {
-    say::complain(b"a page changed while it was looked at");
+fn changed(rt: &HostRuntime) -> bool {
+    say::complain(rt, b"a page changed while it was looked at");
     false
 }
 
 fn over(
+    rt: &HostRuntime,
     what: u32,
     o: Options,
     form: &[u8],
@@ -394,6 +415,7 @@ fn over(
     piece: &mut [u8],
 ) -> bool {
     let pass = turns(
+        rt,
         what,
         o,
         form,
@@ -404,24 +426,25 @@ fn over(
         picture,
         piece,
     );
-    is_same(pass, b)
+    is_same(rt, pass, b)
 }
 
-fn top(name: &[u8], b: Ledger, piece: &mut [u8]) -> bool {
-    if !part(look::HEAD, piece) {
+fn top(rt: &HostRuntime, name: &[u8], b: Ledger, piece: &mut [u8]) -> bool {
+    if !part(rt, look::HEAD, piece) {
         return false;
     }
     let n = look::put_top(piece, name, b);
-    written(piece, n)
+    written(rt, piece, n)
 }
 
-fn plot(end: bool, b: Ledger, piece: &mut [u8]) -> bool {
+fn plot(rt: &HostRuntime, end: bool, b: Ledger, piece: &mut [u8]) -> bool {
     let n = look::put_plot(piece, end, b);
-    written(piece, n)
+    written(rt, piece, n)
 }
 
 // The rows of the table.
 fn rows(
+    rt: &HostRuntime,
     o: Options,
     form: &[u8],
     count: usize,
@@ -433,17 +456,18 @@ fn rows(
     piece: &mut [u8],
 ) -> bool {
     if !over(
-        LOOKED, o, form, count, first, b, input, changes, picture, piece,
+        rt, LOOKED, o, form, count, first, b, input, changes, picture, piece,
     ) {
         return false;
     }
     over(
-        COUNTED, o, form, count, first, b, input, changes, picture, piece,
+        rt, COUNTED, o, form, count, first, b, input, changes, picture, piece,
     )
 }
 
 // The quota over the day.
 fn plotted(
+    rt: &HostRuntime,
     o: Options,
     form: &[u8],
     count: usize,
@@ -454,18 +478,19 @@ fn plotted(
     picture: &mut [u8],
     piece: &mut [u8],
 ) -> bool {
-    if !plot(false, b, piece) {
+    if !plot(rt, false, b, piece) {
         return false;
     }
     if !over(
-        BARS, o, form, count, first, b, input, changes, picture, piece,
+        rt, BARS, o, form, count, first, b, input, changes, picture, piece,
     ) {
         return false;
     }
-    plot(true, b, piece)
+    plot(rt, true, b, piece)
 }
 
 fn table(
+    rt: &HostRuntime,
     o: Options,
     form: &[u8],
     count: usize,
@@ -476,14 +501,15 @@ fn table(
     picture: &mut [u8],
     piece: &mut [u8],
 ) -> bool {
-    if !rows(o, form, count, first, b, input, changes, picture, piece) {
+    if !rows(rt, o, form, count, first, b, input, changes, picture, piece) {
         return false;
     }
-    plotted(o, form, count, first, b, input, changes, picture, piece)
+    plotted(rt, o, form, count, first, b, input, changes, picture, piece)
 }
 
 // The pictures, where a page is to be looked at, and the end.
 fn pictures(
+    rt: &HostRuntime,
     o: Options,
     form: &[u8],
     count: usize,
@@ -495,20 +521,21 @@ fn pictures(
     piece: &mut [u8],
 ) -> bool {
     if b.looked == 0 {
-        return part(look::TAIL, piece);
+        return part(rt, look::TAIL, piece);
     }
-    if !part(look::KEY, piece) {
+    if !part(rt, look::KEY, piece) {
         return false;
     }
     if !over(
-        PICTURES, o, form, count, first, b, input, changes, picture, piece,
+        rt, PICTURES, o, form, count, first, b, input, changes, picture, piece,
     ) {
         return false;
     }
-    part(look::TAIL, piece)
+    part(rt, look::TAIL, piece)
 }
 
 fn file(
+    rt: &HostRuntime,
     o: Options,
     name: &[u8],
     form: &[u8],
@@ -520,17 +547,18 @@ fn file(
     picture: &mut [u8],
     piece: &mut [u8],
 ) -> bool {
-    if !top(name, b, piece) {
+    if !top(rt, name, b, piece) {
         return false;
     }
-    if !table(o, form, count, first, b, input, changes, picture, piece) {
+    if !table(rt, o, form, count, first, b, input, changes, picture, piece) {
         return false;
     }
-    pictures(o, form, count, first, b, input, changes, picture, piece)
+    pictures(rt, o, form, count, first, b, input, changes, picture, piece)
 }
 
 // A file that is not whole is of no use, so that every failure is told as such.
 fn passes(
+    rt: &HostRuntime,
     o: Options,
     name: &[u8],
     form: &[u8],
@@ -542,6 +570,7 @@ fn passes(
     piece: &mut [u8],
 ) -> u32 {
     let books = turns(
+        rt,
         BOOKS,
         o,
         form,
@@ -557,16 +586,17 @@ fn passes(
     }
     let b = books.ledger;
     let good = file(
-        o, name, form, count, first, b, input, changes, picture, piece,
+        rt, o, name, form, count, first, b, input, changes, picture, piece,
     );
     if good {
         return ledger::status(b);
     }
-    say::complain(b"the file is not whole");
+    say::complain(rt, b"the file is not whole");
     say::FAILED
 }
 
 fn with_form(
+    rt: &HostRuntime,
     o: Options,
     count: usize,
     first: usize,
@@ -574,15 +604,16 @@ fn with_form(
     changes: &mut [u32],
     picture: &mut [u8],
 ) -> u32 {
-    let mut name = io::buffer();
-    let n = os::arg(o.form, &mut name);
+    let mut name = room::word();
+    let n = options::copy_word(rt, o.form, &mut name);
     let mut form = room::form();
-    let mut piece = io::large_buffer();
-    let bytes = desk::read_form(o, lines::front(&name, n), &mut form);
+    let mut piece = room::memory();
+    let bytes = desk::read_form(rt, o, lines::front(&name, n), &mut form);
     if bytes == 0 {
         return say::FAILED;
     }
     passes(
+        rt,
         o,
         lines::front(&name, n),
         lines::front(&form, bytes),
@@ -595,23 +626,24 @@ fn with_form(
     )
 }
 
-fn is_whole(o: Options) -> bool {
+fn is_whole(rt: &HostRuntime, o: Options) -> bool {
     if o.form == 0 {
-        say::complain(b"--form is missing");
+        say::complain(rt, b"--form is missing");
         return false;
     }
     if !o.has_quota {
-        say::complain(b"--quota is missing");
+        say::complain(rt, b"--quota is missing");
         return false;
     }
     if o.files == 0 {
-        say::complain(b"look needs a page: ./fax help look");
+        say::complain(rt, b"look needs a page: ./fax help look");
         return false;
     }
-    desk::is_one_reading(o)
+    desk::is_one_reading(rt, o)
 }
 
 pub(crate) fn command(
+    rt: &HostRuntime,
     o: Options,
     count: usize,
     first: usize,
@@ -619,8 +651,8 @@ pub(crate) fn command(
     changes: &mut [u32],
     picture: &mut [u8],
 ) -> u32 {
-    if !is_whole(o) {
+    if !is_whole(rt, o) {
         return say::FAILED;
     }
-    with_form(o, count, first, input, changes, picture)
+    with_form(rt, o, count, first, input, changes, picture)
 }

@@ -36,6 +36,7 @@ pub(crate) fn gave(answer: Answer) -> bool {
 }
 
 fn shown(
+    rt: &HostRuntime,
     how: Show,
     answer: Answer,
     row: &[u32],
@@ -45,8 +46,8 @@ fn shown(
 ) -> bool {
     match how {
         Show::Nothing => true,
-        Show::Line => list::row(answer, row, count),
-        Show::Pixels(from) => picture::row(answer, row, count, columns, out, from),
+        Show::Line => list::row(rt, answer, row, count),
+        Show::Pixels(from) => picture::row(rt, answer, row, count, columns, out, from),
     }
 }
 
@@ -59,6 +60,7 @@ struct Given {
 }
 
 fn shown_in(
+    rt: &HostRuntime,
     step: RowStep,
     how: Show,
     columns: u32,
@@ -72,12 +74,13 @@ fn shown_in(
     }
     let side = step.array;
     match side {
-        Side::First => shown(how, answer, first, step.count, columns, out),
-        Side::Second => shown(how, answer, second, step.count, columns, out),
+        Side::First => shown(rt, how, answer, first, step.count, columns, out),
+        Side::Second => shown(rt, how, answer, second, step.count, columns, out),
     }
 }
 
 fn step(
+    rt: &HostRuntime,
     src: &[u8],
     settings: DecodeSettings,
     how: Show,
@@ -87,7 +90,7 @@ fn step(
     out: &mut [u8],
 ) -> Given {
     let step = by_row::read_row(src, settings, state, first, second);
-    let good = shown_in(step, how, settings.columns, first, second, out);
+    let good = shown_in(rt, step, how, settings.columns, first, second, out);
     let answer = step.answer;
     let next = step.state;
     Given {
@@ -139,6 +142,7 @@ fn begun() -> Walk {
 }
 
 fn turn(
+    rt: &HostRuntime,
     src: &[u8],
     settings: DecodeSettings,
     how: Show,
@@ -149,7 +153,7 @@ fn turn(
 ) -> Walk {
     let state = walk.state;
     let before = walk.counts;
-    let step = step(src, settings, how, state, first, second, out);
+    let step = step(rt, src, settings, how, state, first, second, out);
     let answer = step.answer;
     let next = step.state;
     Walk {
@@ -161,6 +165,7 @@ fn turn(
 
 // The whole page, or as much as could be written.
 pub(crate) fn page(
+    rt: &HostRuntime,
     src: &[u8],
     settings: DecodeSettings,
     how: Show,
@@ -169,13 +174,11 @@ pub(crate) fn page(
     out: &mut [u8],
 ) -> Counts {
     let mut walk = begun();
-    let mut left = calls(src.len());
-    while 0 < left {
-        left -= 1;
+    for _ in 0..calls(src.len()) {
         if !walk.more {
             break;
         }
-        let next = turn(src, settings, how, walk, first, second, out);
+        let next = turn(rt, src, settings, how, walk, first, second, out);
         walk = next;
     }
     let counts = walk.counts;

@@ -156,6 +156,7 @@ fn reads_back(
 
 // Hands a page over, if it reads back.
 fn hand_over(
+    rt: &HostRuntime,
     page: &[u8],
     settings: DecodeSettings,
     changes: &[u32],
@@ -164,14 +165,15 @@ fn hand_over(
     second: &mut [u32],
 ) -> u32 {
     if !reads_back(page, settings, changes, ends, first, second) {
-        say::complain(b"the page does not read back, and is not handed over");
+        say::complain(rt, b"the page does not read back, and is not handed over");
         return say::FAILED;
     }
-    say::status_of(say::text(true, page), say::WELL)
+    say::status_of(rt, say::text(rt, true, page), say::WELL)
 }
 
 // The rows of a store as a page.
 fn rows_as_page(
+    rt: &HostRuntime,
     encoding: EncodingMode,
     columns: u32,
     rows: u32,
@@ -187,6 +189,7 @@ fn rows_as_page(
     let said = written(encoding, columns, changes, ends, fill, eols, k, out);
     if said.number != answer::COMPLETE {
         say::complain_with(
+            rt,
             b"the page was not written: answer ",
             said.number as u64,
             b"",
@@ -195,6 +198,7 @@ fn rows_as_page(
     }
     let settings = settings_for(encoding, columns, rows, eols);
     hand_over(
+        rt,
         lines::front(out, said.bytes as usize),
         settings,
         changes,
@@ -205,6 +209,7 @@ fn rows_as_page(
 }
 
 pub(crate) fn page(
+    rt: &HostRuntime,
     data: &[u8],
     encoding: EncodingMode,
     fill: u32,
@@ -219,6 +224,7 @@ pub(crate) fn page(
     let head = pbm::head(data);
     if !head.good {
         say::complain(
+            rt,
             b"no bitmap: a PBM begins with P1 or P4, its width and its height, each from 1 to 65536",
         );
         return say::FAILED;
@@ -235,16 +241,21 @@ pub(crate) fn page(
         pbm::Taken::Row(end, next) => {}
         pbm::Taken::NoPixel => {
             say::complain(
+                rt,
                 b"the bitmap has fewer pixels than its width and height say, or something else among them",
             );
             return say::FAILED;
         }
         pbm::Taken::NoRoom => {
-            say::complain(b"the bitmap has more changes of colour, or rows, than the tool holds");
+            say::complain(
+                rt,
+                b"the bitmap has more changes of colour, or rows, than the tool holds",
+            );
             return say::FAILED;
         }
     }
     rows_as_page(
+        rt,
         encoding,
         head.columns,
         head.rows,
