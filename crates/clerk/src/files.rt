@@ -1,8 +1,8 @@
 // A file into lent memory: to its end, or why not, in the numbers of the verdicts.
-use crate::text;
+use crate::{say, text};
 use std::fs::File;
-use std::io;
-use std::io::{ErrorKind, Read, Seek, SeekFrom};
+use std::io::{ErrorKind, Read, Seek, SeekFrom, Write};
+use std::{fs, io};
 
 // Where bytes come from: the standard input, or a file.
 #[derive(Drop)]
@@ -33,14 +33,52 @@ fn missing(error: io::Error) -> u32 {
     }
 }
 
-// A file by its name, or the number of what is wrong.
-fn open_file(rt: &HostRuntime, name: &[u8]) -> Result<File, u32> {
-    let Ok(path) = str::from_utf8(name) else {
-        return Err(ledger::UNREADABLE_FILE);
-    };
+fn by_path(rt: &HostRuntime, path: &str) -> Result<File, u32> {
     match File::open(rt, path) {
         Ok(file) => Ok(file),
         Err(error) => Err(missing(error)),
+    }
+}
+
+// A name that is no UTF-8 text opens nothing. ./fax makes a link to such a file in a folder that is the program's descriptor 5, and
+// answers 1 in the pipe there once it is made.
+const ANSWER: &str = "/proc/self/fd/5/answer";
+
+const LINK: &str = "/proc/self/fd/5/link";
+
+// Asks for a link: a line with each byte of the name in octal.
+fn ask(rt: &HostRuntime, name: &[u8]) -> io::Result<()> {
+    let mut caller = say::caller(rt)?;
+    for byte in name {
+        write!(caller, "\\{byte:03o}")?;
+    }
+    caller.write_all(b"\n")
+}
+
+// Where nobody answers, nobody is asked.
+fn link(rt: &HostRuntime, name: &[u8]) -> io::Result<bool> {
+    fs::metadata(rt, ANSWER)?;
+    ask(rt, name)?;
+    let mut answer = [0];
+    File::open(rt, ANSWER)?.read_exact(&mut answer)?;
+    Ok(answer[0] == b'1')
+}
+
+fn by_link(rt: &HostRuntime, name: &[u8]) -> Result<File, u32> {
+    if name.contains(&0) {
+        return Err(ledger::UNREADABLE_FILE);
+    }
+    match link(rt, name) {
+        Ok(true) => by_path(rt, LINK),
+        _ => Err(ledger::UNREADABLE_FILE),
+    }
+}
+
+// A file by its name, or the number of what is wrong.
+fn open_file(rt: &HostRuntime, name: &[u8]) -> Result<File, u32> {
+    match str::from_utf8(name) {
+        Ok(path) => by_path(rt, path),
+        Err(_) => by_link(rt, name),
     }
 }
 

@@ -27,7 +27,6 @@ mod walk;
 mod write;
 
 use options::Options;
-use std::fs::OpenOptions;
 use std::io::Write;
 
 // Behind the program's own name: the room, the command, and its words.
@@ -36,9 +35,6 @@ const ROOM: usize = 1;
 const COMMAND: usize = 2;
 
 const FIRST: usize = 3;
-
-// Descriptor 3 by its name, under which it can be written to.
-const STATUS: &str = "/proc/self/fd/3";
 
 // The commands, with room for a page's bytes, its changes, a page that is written, and the lines of ledgers. Arrays lie on the stack, of
 // which a system gives 8 MiB where nobody asks for more: a page of ordinary size needs no more than that. Neither room is compiled into
@@ -123,8 +119,8 @@ fn finish(rt: &HostRuntime, status: u32) {
     } else {
         say::status_of(rt, say::is_kept(rt), status)
     };
-    if let Ok(mut descriptor) = OpenOptions::new().write(true).open(rt, STATUS) {
-        let _ = descriptor.write_all(digit(status));
+    if let Ok(mut caller) = say::caller(rt) {
+        let _ = caller.write_all(digit(status));
     }
 }
 

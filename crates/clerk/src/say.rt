@@ -1,8 +1,8 @@
 // What the program says: its answers on the standard output, and messages on standard error. `good` says whether every write before
 // this one went well: behind one that failed nothing is written, and the command ends with status 2.
 use crate::lines;
-use std::fs;
-use std::fs::OpenOptions;
+use std::fs::{File, OpenOptions};
+use std::{fs, io};
 
 // The status of a command: all is well; a page is to be looked at, or the quota is passed; there is no answer.
 pub(crate) const WELL: u32 = 0;
@@ -11,8 +11,19 @@ pub(crate) const LOOK: u32 = 1;
 
 pub(crate) const FAILED: u32 = 2;
 
-// The standard output by its name, under which it can be asked about.
+// Descriptors by their names: the standard output, and descriptor 3, on which ./fax listens to the program.
 const OUTPUT: &str = "/proc/self/fd/1";
+
+const CALLER: &str = "/proc/self/fd/3";
+
+// What is there already, where it is a file, stays.
+fn descriptor(rt: &HostRuntime, path: &str) -> io::Result<File> {
+    OpenOptions::new().append(true).open(rt, path)
+}
+
+pub(crate) fn caller(rt: &HostRuntime) -> io::Result<File> {
+    descriptor(rt, CALLER)
+}
 
 pub(crate) fn text(rt: &HostRuntime, good: bool, words: &[u8]) -> bool {
     if !good {
@@ -137,7 +148,7 @@ pub(crate) fn is_kept(rt: &HostRuntime) -> bool {
         Ok(found) if found.is_file() => {}
         _ => return true,
     }
-    match OpenOptions::new().write(true).open(rt, OUTPUT) {
+    match descriptor(rt, OUTPUT) {
         Ok(file) => file.sync_data().is_ok(),
         Err(_) => true,
     }
