@@ -1,22 +1,22 @@
 -- The pixels of a row's first changes, change by change. Assumes nothing.
 use mathlib.Core.Path.{◌≡◌, refl, sym, ap, ◌∙◌}
 use mathlib.Core.Bool.{Bool, true, false, cond, not}
-use mathlib.Core.List.{List, [], ◌∷◌, ◌++◌}
-use Prim.Native.Nat.{ℕ, zero, suc, ◌+◌, ◌-◌, ◌*◌, ◌%◌, ◌^◌, ◌≤◌, ◌<◌}
+use mathlib.Core.List.{List, [], ◌∷◌}
+use Prim.Native.Nat.{ℕ, zero, suc, ◌+◌, ◌-◌, ◌%◌, ◌^◌, ◌≤◌, ◌<◌}
 use native.Mathlib.Omega.{arith}
 use lib.Dec.{ltb}
 use lib.ListN.{length, get_or, take}
 use lib.Pow as Pow
 use lib.Pow.{pow_pos}
 use lib.Seq.{take-length}
-use borrow.Author.Tests.{ltb-true, ltb-false, lt-ltb, le-ltb}
+use borrow.Author.Tests.{lt-ltb, le-ltb}
 use Rattle.rules.specs.Codes.{Colour, white, black, opposite}
 use Rattle.rules.specs.Pixels.{colour_at}
 use Rattle.rules.specs.Rising.{Rising, none, some}
-use Rattle.bitmap.specs.Packed.{bit_for, packed, padded}
+use Rattle.bitmap.specs.Packed.{packed}
 use Rattle.bitmap.specs.Steps.{colour_after, is_black, pixels_to, black_to, ones_from, Turnable, Standing, Has}
 use Rattle.bitmap.specs.declared.pixels.Span.{Span}
-use Rattle.bitmap.proofs.Packing.{packed_lt, packed-add, packed-same, packed-zeros, packed-ones, packed-turned, packed-not}
+use Rattle.bitmap.proofs.Packing.{packed_lt, packed-add, packed-zeros, packed-ones, packed-turned}
 
 -- ---- Changes
 

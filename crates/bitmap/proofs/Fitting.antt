@@ -1,20 +1,19 @@
 -- The tests of the bytes, one after the other, and the answers that they decide. Assumes nothing.
-use mathlib.Core.Path.{◌≡◌, refl, sym, ap, ◌∙◌}
+use mathlib.Core.Path.{◌≡◌, refl, sym, ◌∙◌}
 use mathlib.Core.Bool.{Bool, true, false, cond, ◌||◌}
 use mathlib.Core.List.{List}
-use mathlib.Core.Logic.{◌↔◌}
 use Prim.Native.Nat.{ℕ, zero, suc, ◌+◌, ◌-◌, ◌*◌, ◌/◌, ◌≤◌, ◌<◌}
 use native.Mathlib.Omega.{arith}
 use native.Mathlib.Nat.{le-div_iff_mul-le, div-lt_iff_lt-mul}
 use lib.Dec.{eqb, leb, ltb}
 use lib.ListN.{length}
-use borrow.Author.Tests.{eq-eqb, ne_eqb, eqb-true, eqb-false, lt-ltb, le-ltb, le-leb, lt-leb, leb-true, ltb-false}
+use borrow.Author.Tests.{eq-eqb, ne_eqb, eqb-false, lt-ltb, le-ltb, le-leb, lt-leb, leb-true, ltb-false}
 use Rattle.rules.specs.Pages.{most_bytes, no_line}
 use Rattle.rules.specs.Rows.{bytes_to}
 use Rattle.rules.specs.Write.{rows_in}
 use Rattle.row_store.specs.Store.{good_rows}
 use Rattle.answer.specs.declared.Answer.{Answer}
-use Rattle.bitmap.specs.Packed.{fit_tests, reach, Painted, unpainted, paint, painted_from}
+use Rattle.bitmap.specs.Packed.{fit_tests, reach, Painted, paint, painted_from}
 use Rattle.bitmap.specs.Outcome.{answer_for, Paints}
 use Rattle.bitmap.specs.Steps.{Sheets}
 

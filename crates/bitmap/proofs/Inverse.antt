@@ -1,11 +1,11 @@
 -- Painting and reading: the pixels that are painted, those that are read, and that each undoes the other. Assumes nothing.
 use mathlib.Core.Path.{◌≡◌, refl, sym, ap, ◌∙◌}
-use mathlib.Core.Bool.{Bool, true, false, cond, true≢false}
+use mathlib.Core.Bool.{Bool, true, false, true≢false}
 use mathlib.Core.List.{List, [], ◌∷◌, ◌++◌}
 use Prim.Native.Nat.{ℕ, zero, suc, ◌+◌, ◌-◌, ◌*◌, ◌/◌, ◌%◌, ◌^◌, ◌≤◌, ◌<◌}
 use native.Mathlib.Omega.{arith}
 use native.Mathlib.Nat.{zero-mul, suc-mul, mul-le-mul_right, le_refl}
-use lib.Dec.{eqb, ltb}
+use lib.Dec.{eqb}
 use lib.ListN.{length, get_or, take, drop, length-append}
 use lib.Seq.{get_or-take, get_or-append-add, length-take-le}
 use borrow.Author.Tests.{eqb-true, eqb-false, lt-ltb, le-ltb}
@@ -18,7 +18,7 @@ use Rattle.rules.specs.Rows.{bytes_to}
 use Rattle.rules.proofs.Ascending.{rises-lower}
 use Rattle.bitmap.specs.Packed.{bit_for, colour_for, packed, bytes_from, padded, row_bytes, laid, painted_from, pixels_at, turns_from, rows_at, reach}
 use Rattle.bitmap.specs.Turning.{colour_before}
-use Rattle.bitmap.proofs.Packing.{packed-middle, length-bytes}
+use Rattle.bitmap.proofs.Packing.{packed-middle}
 use Rattle.bitmap.proofs.RowBytes.{length-row}
 use Rattle.bitmap.proofs.Turnings.{changing-before, laid-length}
 

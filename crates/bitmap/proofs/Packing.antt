@@ -4,12 +4,12 @@ use mathlib.Core.Bool.{Bool, true, false, cond, not}
 use mathlib.Core.List.{List, [], ◌∷◌, ◌++◌, append_assoc, append-nil}
 use Prim.Native.Nat.{ℕ, zero, suc, ◌+◌, ◌-◌, ◌*◌, ◌/◌, ◌%◌, ◌^◌, ◌≤◌, ◌<◌}
 use native.Mathlib.Omega.{arith}
-use native.Mathlib.Nat.{add-zero, zero-add, mod-lt, add-mul, mul_assoc, mul-one, zero-mul, one-mul}
-use lib.Dec.{ltb, eqb}
-use lib.ListN.{length, take, drop, set, length-append, length-set}
+use native.Mathlib.Nat.{add-zero, zero-add, mod-lt, add-mul, mul_assoc, zero-mul}
+use lib.Dec.{eqb}
+use lib.ListN.{length, take, set, length-set}
 use lib.Bits.{bit_xor, xor_block, xor_self, xor_zero_l, xor_zero_r}
 use lib.Pow.{pow-add, pow_pos, split, high, low, ones_split}
-use lib.Seq.{take-suc-set, take_all}
+use lib.Seq.{take-suc-set}
 use borrow.Author.Tests.{eqb-true, eqb-false}
 use Rattle.rules.specs.Bits.{value_of}
 use Rattle.rules.proofs.Bits.{pow-two}

@@ -2,7 +2,7 @@
 use mathlib.Core.Path.{◌≡◌, refl, sym, ap, ◌∙◌}
 use mathlib.Core.Bool.{Bool, true, false, cond, not}
 use mathlib.Core.List.{List, [], ◌∷◌, ◌++◌, append_assoc}
-use Prim.Native.Nat.{ℕ, zero, suc, ◌+◌, ◌-◌, ◌*◌, ◌/◌, ◌^◌, ◌≤◌, ◌<◌}
+use Prim.Native.Nat.{ℕ, zero, suc, ◌+◌, ◌-◌, ◌*◌, ◌≤◌, ◌<◌}
 use native.Mathlib.Omega.{arith}
 use native.Mathlib.Numerals.{add-one}
 use native.Mathlib.Nat.{suc-mul, mul-le-mul_right}
@@ -10,15 +10,15 @@ use lib.Dec.{ltb}
 use lib.ListN.{length, get_or, take, drop, set, length-append, length-drop, drop_of_length-le}
 use lib.Seq.{take-length, take_all, take-suc-set, drop-cons, drop-drop, length-take-le}
 use borrow.Author.Tests.{ltb-true, ltb-false, lt-ltb, le-ltb}
-use Rattle.rules.specs.Codes.{Colour, white, black, opposite}
+use Rattle.rules.specs.Codes.{Colour, white, black}
 use Rattle.rules.specs.Pixels.{colour_at}
-use Rattle.rules.specs.Rising.{Rising, none, some}
+use Rattle.rules.specs.Rising.{Rising}
 use Rattle.rules.specs.Rows.{bytes_to}
 use Rattle.rules.specs.Write.{rows_in}
 use Rattle.bitmap.specs.Packed.{bit_for, packed, bytes_from, padded, row_bytes, laid, painted_from, reach}
 use Rattle.bitmap.specs.Steps.{colour_after, is_black, pixels_to, black_to, black_in, ones_from, Turnable, Standing, Has, Puts, top_bytes}
 use Rattle.bitmap.specs.declared.pixels.Span.{Span}
-use Rattle.bitmap.proofs.Packing.{packed-same, packed-zeros, packed-ones, packed-not, packed_lt, bytes-add, length-bytes, top-bytes}
+use Rattle.bitmap.proofs.Packing.{packed-same, packed-zeros, packed-ones, packed-not, bytes-add, length-bytes, top-bytes}
 use Rattle.bitmap.proofs.Colours.{change-high, turnable, turned-is, behind-all}
 
 -- ---- The pixels of a word

@@ -8,7 +8,7 @@ use Rattle.rules.specs.Bits.{bit}
 use Rattle.rules.specs.Pages.{Answer, ascends_from, entries}
 use Rattle.rules.specs.Pixels.{colour_at, changing}
 use Rattle.rules.specs.Write.{rows_in, ends_rise, all_ascend}
-use Rattle.bitmap.specs.Packed.{packed, bytes_from, padded, row_bytes, laid, painted_from, pixels_at, turns_from, rows_at, paint, unpaint, Painted}
+use Rattle.bitmap.specs.Packed.{packed, bytes_from, padded, row_bytes, laid, painted_from, pixels_at, turns_from, rows_at, paint, unpaint}
 
 -- black from 2 to 5 and from 8 on; and all black
 abbrev changes : List ℕ

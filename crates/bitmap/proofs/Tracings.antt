@@ -1,20 +1,19 @@
 -- The changes of a row, word by word, and of all rows, row by row. Assumes nothing.
 use mathlib.Core.Path.{◌≡◌, refl, sym, ap, ◌∙◌}
 use mathlib.Core.Bool.{Bool, true, false, cond}
-use mathlib.Core.List.{List, [], ◌∷◌, ◌++◌, append-nil}
-use Prim.Native.Nat.{ℕ, zero, suc, ◌+◌, ◌-◌, ◌*◌, ◌%◌, ◌^◌, ◌≤◌, ◌<◌}
+use mathlib.Core.List.{List, [], ◌∷◌, ◌++◌}
+use Prim.Native.Nat.{ℕ, zero, suc, ◌+◌, ◌-◌, ◌*◌, ◌%◌, ◌≤◌, ◌<◌}
 use native.Mathlib.Omega.{arith}
-use native.Mathlib.Nat.{zero-add, add-zero, zero-mul, suc-mul, mul-le-mul_right}
+use native.Mathlib.Nat.{zero-add, zero-mul, suc-mul}
 use native.Mathlib.Numerals.{add-one}
 use lib.Dec.{leb}
 use lib.ListN.{length, length-append, drop}
-use borrow.Author.Tests.{leb-true, leb-false, le-leb, lt-leb}
-use Rattle.rules.specs.Pages.{most_bytes, entries, joined, ends_from, overlaid}
+use borrow.Author.Tests.{leb-true, le-leb}
+use Rattle.rules.specs.Pages.{entries, joined, ends_from, overlaid}
 use Rattle.rules.specs.Pixels.{Pixels}
-use Rattle.rules.specs.Rows.{bytes_to}
 use Rattle.rules.proofs.Store.{length-joined, joined_snoc, ends_snoc, entries-append, length-ends}
 use Rattle.rules.proofs.PageBack.{entries-snoc}
-use Rattle.bitmap.specs.Packed.{laid, pixels_at, turns_from, rows_at, reach}
+use Rattle.bitmap.specs.Packed.{laid, pixels_at, turns_from, rows_at}
 use Rattle.bitmap.specs.Steps.{is_black}
 use Rattle.bitmap.specs.Turning.{colour_before, recorded, up_to, Roomy, Traced, Turns, Starts, Row, Lies, Rows}
 use Rattle.bitmap.specs.declared.tracing.Turn.{Turn}

@@ -1,24 +1,23 @@
 -- The changes of a line, and those of 64 pixels by the ones of a word. Assumes nothing.
 use mathlib.Core.Path.{◌≡◌, refl, sym, ap, ◌∙◌, subst}
-use mathlib.Core.Bool.{Bool, true, false, cond, not, ◌&&◌, true≢false}
+use mathlib.Core.Bool.{Bool, true, false, cond, not, true≢false}
 use mathlib.Core.List.{List, [], ◌∷◌, ◌++◌, append_assoc, append-nil}
 use Prim.Native.Nat.{ℕ, zero, suc, ◌+◌, ◌-◌, ◌*◌, ◌/◌, ◌%◌, ◌^◌, ◌≤◌, ◌<◌}
 use native.Mathlib.Omega.{arith}
 use native.Mathlib.Nat.{add-zero, mul-one}
 use lib.Count as Count
-use lib.Dec.{leb, eqb, ltb}
+use lib.Dec.{eqb, ltb}
 use lib.ListN.{length, get_or, take, drop, set, length-append, length-drop, drop_of_length-le, take-append-drop}
-use lib.Pow.{pow_pos}
 use lib.Seq.{take_at, drop-append-add, drop-drop, length-take-le, set_split, append_snoc}
-use borrow.Author.Tests.{leb-true, leb-false, le-leb, lt-leb, ltb-true, ltb-false, eqb-true, eqb-false}
+use borrow.Author.Tests.{ltb-true, ltb-false, eqb-true, eqb-false}
 use Rattle.rules.specs.Bits.{bit, bits_of, peek, value_of}
 use Rattle.rules.specs.Codes.{Colour, white, black, differ}
 use Rattle.rules.specs.Pixels.{Pixels, changing}
 use Rattle.rules.proofs.Bits.{pow-two, peek-add, peek-nil, length-bits_of}
 use Rattle.bit_reader.specs.Loaded.{Ahead, on_top}
 use Rattle.bit_reader.proofs.Window.{bit_at}
-use Rattle.bitmap.specs.Packed.{colour_for, packed, laid, pixels_at, turns_from}
-use Rattle.bitmap.specs.Steps.{is_black, ones_from}
+use Rattle.bitmap.specs.Packed.{packed, laid, turns_from}
+use Rattle.bitmap.specs.Steps.{is_black}
 use Rattle.bitmap.specs.Turning.{bit_in, colour_before, recorded}
 use Rattle.bitmap.proofs.Packing.{packed_lt, packed-same, packed-zeros, packed-not, packed-add}
 

@@ -1,5 +1,5 @@
 -- What the inner functions of painting ask and answer: 64 pixels at a time, as a number of which a one is black.
-use Rattle.std.specs.Prelude.{◌≡◌, Bool, true, false, cond, List, [], ◌∷◌, ◌++◌, ℕ, zero, suc, ◌+◌, ◌-◌, ◌*◌, ◌/◌, ◌%◌, ◌^◌, ◌≤◌, ◌<◌, length, get_or, take}
+use Rattle.std.specs.Prelude.{◌≡◌, Bool, true, false, List, [], ◌∷◌, ◌++◌, ℕ, zero, suc, ◌+◌, ◌-◌, ◌*◌, ◌/◌, ◌%◌, ◌^◌, ◌≤◌, ◌<◌, length, get_or, take}
 use Rattle.rules.specs.Codes.{Colour, white, opposite}
 use Rattle.rules.specs.Pixels.{Pixels, colour_at}
 use Rattle.rules.specs.Rising.{Rising}

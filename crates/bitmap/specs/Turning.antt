@@ -1,5 +1,5 @@
 -- What the inner functions of reading ask and answer: the changes of packed rows, 64 pixels at a time.
-use Rattle.std.specs.Prelude.{◌≡◌, Bool, true, false, cond, not, ◌&&◌, List, [], ℕ, zero, suc, ◌+◌, ◌-◌, ◌*◌, ◌/◌, ◌%◌, ◌^◌, ◌≤◌, ◌<◌, leb, length, get_or}
+use Rattle.std.specs.Prelude.{◌≡◌, Bool, true, cond, List, ℕ, zero, suc, ◌+◌, ◌-◌, ◌/◌, ◌%◌, ◌^◌, ◌≤◌, ◌<◌, leb, length, get_or}
 use Rattle.rules.specs.Bits.{bit}
 use Rattle.rules.specs.Codes.{Colour, white}
 use Rattle.rules.specs.Pixels.{Pixels}

@@ -1,5 +1,6 @@
 // Bitmaps: the rows of a store as packed pixels, and packed pixels as rows.
 #![tactic(auto)]
+
 ghost use Rattle.std.specs.Prelude.{◌≡◌, ◌≤◌, length};
 ghost use Rattle.bitmap.specs.Packed.{paint, unpaint};
 ghost use Rattle.bitmap.specs.Outcome.{answer_for, Paints, Unpaints};

@@ -28,10 +28,8 @@ use Rattle.rules.specs.Units.{between, in_line, Keeping, Going, going, so_far, n
 use Rattle.rules.specs.ByUnit.{part, said_behind, overlaid_from}
 use Rattle.rules.specs.Rising.{Rising}
 use Rattle.rules.proofs.Ascending.{rises-wider}
-use Rattle.rules.specs.Rising as Rising
 use Rattle.rules.proofs.Bits.{length-bits_of}
 use Rattle.rules.proofs.Budget.{whole-bytes, aligned-ahead}
-use Rattle.answer.specs.declared.Answer.{Answer}
 use Rattle.codes.specs.declared.eol.Eols.{Eols}
 use Rattle.codes.specs.Eols.{eols_of}
 use Rattle.context.specs.declared.line.Line.{Line}

@@ -7,7 +7,7 @@ use native.Mathlib.Omega.{arith}
 use lib.Dec.{eqb}
 use lib.ListN.{length, take, drop, take-append-drop}
 use borrow.Rule.Slice.PartMut.{mid_of, put_mid}
-use Rattle.rules.specs.Machine.{more, done}
+use Rattle.rules.specs.Machine.{done}
 use Rattle.rules.specs.Bits.{bits_of}
 use Rattle.rules.specs.Runs.{ok, sum, run_step}
 use Rattle.rules.specs.Lines as Lines
@@ -23,12 +23,10 @@ use Rattle.answer.specs.Answer.{number_of}
 use Rattle.answer.specs.declared.DecodeError.{DecodeError}
 use Rattle.codes.specs.declared.eol.Eols.{Eols}
 use Rattle.codes.specs.declared.run.RunCode.{RunCode}
-use Rattle.codes.specs.declared.run.RunCode.TheVariants as RunCode
 use Rattle.codes.specs.Runs.{code_of}
 use Rattle.context.specs.declared.line.Line.{Line}
 use Rattle.context.specs.declared.reference.FoundChanges.{FoundChanges}
 use Rattle.context.specs.declared.step.Step.{Step}
-use Rattle.context.specs.declared.step.Step.TheVariants as Step
 use Rattle.one_line.specs.declared.one_code.OneCode.{OneCode}
 use Rattle.one_line.specs.declared.one_code.OneCode.TheVariants.{Runs, Did}
 use Rattle.context.specs.State.{line_at, rules_for, flag_number, Holds}

@@ -32,10 +32,8 @@ use Rattle.context.proofs.Search.{passed_none}
 use Rattle.settings.specs.declared.DecodeSettings.{DecodeSettings}
 use Rattle.settings.specs.Ends.{Allowed}
 use Rattle.by_unit.specs.declared.Phase.{Phase}
-use Rattle.by_unit.specs.declared.Phase.TheVariants as Phase
 use Rattle.by_unit.specs.declared.Saved.{Saved}
 use Rattle.by_unit.specs.declared.PageEnd.{PageEnd}
-use Rattle.by_unit.specs.declared.PageEnd.TheVariants as PageEnd
 use Rattle.by_unit.specs.declared.EndCounts.{EndCounts}
 use Rattle.by_unit.specs.declared.Reading.{Reading}
 use Rattle.by_unit.specs.declared.Reading.TheVariants.{Open, Ended}

@@ -2,9 +2,8 @@
 use mathlib.Core.Path.{◌≡◌, refl, sym, ap, ◌∙◌, subst}
 use mathlib.Core.Bool.{Bool, cond}
 use mathlib.Core.List.{List, [], ◌++◌}
-use Prim.Native.Nat.{ℕ, ◌+◌, ◌-◌, ◌%◌, ◌≤◌, ◌<◌}
+use Prim.Native.Nat.{ℕ, ◌-◌, ◌%◌, ◌≤◌, ◌<◌}
 use native.Mathlib.Omega.{arith}
-use lib.Dec.{eqb}
 use lib.ListN.{length, get_or, take, drop, length-drop, take-append-drop}
 use lib.Seq.{length-take-le}
 use borrow.Author.Tests.{ne_eqb}
@@ -43,8 +42,8 @@ use Rattle.by_unit.specs.declared.stand.Stand.{Stand}
 use Rattle.by_unit.specs.declared.stand.Stand.TheVariants.{InLine}
 use Rattle.by_unit.specs.declared.stand.Kept as Stood
 use Rattle.by_unit.specs.declared.stand.Out.{Out}
-use Rattle.by_unit.specs.Standing.{keeping_of, going_at, KeptIn, LineIn, Asked, Comes, Closing, Settles}
-use Rattle.by_unit.specs.OneUnit.{UnitFrom, UnitGives, UnitsGive, SomeGive}
+use Rattle.by_unit.specs.Standing.{keeping_of, going_at, LineIn, Comes, Closing, Settles}
+use Rattle.by_unit.specs.OneUnit.{UnitFrom, UnitGives, SomeGive}
 use Rattle.by_unit.specs.Swift.{SwiftFrom, stand_at, SwiftTook}
 use Rattle.by_unit.proofs.Units.{L, R, code-comes}
 

@@ -26,7 +26,7 @@ use Rattle.by_unit.specs.declared.stand.Stand.TheVariants.{Between, InLine, InRu
 use Rattle.by_unit.specs.declared.stand.Kept.{Kept}
 use Rattle.by_unit.specs.declared.stand.Out.{Out}
 use Rattle.by_unit.specs.declared.stand.Out.TheVariants.{More, Done}
-use Rattle.by_unit.specs.Standing.{keeping_of, going_at, KeptIn, StandIn, Asked, answer_of, Leaves, Told, Comes, Settling, Settles}
+use Rattle.by_unit.specs.Standing.{keeping_of, going_at, KeptIn, StandIn, Asked, answer_of, Told, Comes, Settling, Settles}
 use Rattle.swift_units.specs.Counted.{Leads}
 use Rattle.swift_units.proofs.Counting.{steps-led}
 use Rattle.by_unit.specs.declared.take.TakenUnits.{TakenUnits}

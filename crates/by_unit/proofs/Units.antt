@@ -4,7 +4,6 @@ use mathlib.Core.Logic.{⊎_elim}
 use mathlib.Core.Bool.{Bool, true, false, cond, ◌&&◌}
 use mathlib.Core.List.{List, [], ◌++◌}
 use mathlib.Core.Option.{Option, some}
-use mathlib.Core.Option as Option
 use Prim.Native.Nat.{ℕ, ◌+◌, ◌-◌, ◌*◌, ◌≤◌, ◌<◌}
 use native.Mathlib.Numerals.{add-one}
 use native.Mathlib.Omega.{arith}
@@ -39,7 +38,6 @@ use Rattle.codes.specs.declared.eol.Eols.{Eols}
 use Rattle.codes.specs.Eols.{eols_of}
 use Rattle.context.specs.declared.line.Line.{Line}
 use Rattle.context.specs.declared.step.Step.{Step}
-use Rattle.context.specs.declared.step.Step.TheVariants as Step
 use Rattle.context.specs.State.{line_at, line_for, rules_for, changes_of}
 use Rattle.context.specs.Outcome.{step_for, Steps}
 use Rattle.context.specs.Reference.{Passed}

@@ -12,7 +12,6 @@ use Rattle.codes.specs.declared.eol.Eols.{Eols}
 use Rattle.context.specs.declared.line.Line.{Line}
 use Rattle.context.specs.declared.step.Rules.{Rules}
 use Rattle.context.specs.declared.step.Step.{Step}
-use Rattle.context.specs.declared.step.Step.TheVariants as Step
 use Rattle.context.specs.Coding.{unless_idle_for}
 use Rattle.swift_units.specs.Counted.{Leads}
 use Rattle.settings.specs.declared.DecodeSettings.{DecodeSettings}

@@ -14,10 +14,8 @@ use Rattle.settings.specs.declared.DecodeSettings.{DecodeSettings}
 use Rattle.settings.specs.declared.EncodingMode.TheVariants.{Group4}
 use Rattle.settings.specs.Settings.{settings_of}
 use Rattle.by_unit.specs.declared.Phase.{Phase}
-use Rattle.by_unit.specs.declared.Phase.TheVariants as Phase
 use Rattle.by_unit.specs.declared.Saved.{Saved}
 use Rattle.by_unit.specs.declared.PageEnd.{PageEnd}
-use Rattle.by_unit.specs.declared.PageEnd.TheVariants as PageEnd
 use Rattle.by_unit.specs.declared.EndCounts.{EndCounts}
 use Rattle.by_unit.specs.declared.Reading.{Reading}
 use Rattle.by_unit.specs.declared.Reading.TheVariants.{Open, Ended}

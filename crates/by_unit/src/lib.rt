@@ -2,6 +2,7 @@
 // terminating code or one EOL, and a code that fails is one too. The same arrays are lent at each call, and they and the state are
 // handed back as left.
 #![tactic(auto)]
+
 mod stand;
 mod state;
 mod swift;

@@ -1,5 +1,6 @@
 // Heads on the form (02 A11): the boxes that are ticked on a page, the heads that they say, and the quota left.
 #![tactic(auto)]
+
 ghost use Rattle.std.specs.Prelude.{◌≡◌};
 ghost use Rattle.heads.specs.Form as Form;
 ghost use Rattle.heads.specs.Form.{page_in, refusal, heads_on};

@@ -1,16 +1,14 @@
 -- A page that goes into the books with its line, and one that does not. Assumes nothing.
-use mathlib.Core.Path.{◌≡◌, refl, sym, ap, ◌∙◌, subst}
+use mathlib.Core.Path.{◌≡◌, sym, ap, ◌∙◌, subst}
 use mathlib.Core.Bool.{Bool, true, false, ◌&&◌}
-use mathlib.Core.List.{List, []}
+use mathlib.Core.List.{List}
 use Prim.Native.Nat.{ℕ}
-use lib.Dec.{leb}
 use lib.ListN.{length}
 use Rattle.rules.specs.Pages.{overlaid}
 use Rattle.listing_text.specs.Listed.{Prints}
 use Rattle.ledger.specs.Books.{booked, has_room, booked_in}
 use Rattle.ledger.specs.Said.{page_line, line_room, Tells}
 use Rattle.ledger.specs.Entered.{is_entered, entry_line, books_after, Enters}
-use Rattle.ledger.specs.declared.Entered.{Entered}
 use Rattle.ledger.specs.declared.Ledger.{Ledger}
 use Rattle.ledger.specs.declared.Verdict.{Verdict}
 

@@ -1,13 +1,13 @@
 -- Lines of text: their parts, and how long they can be. Assumes nothing.
-use mathlib.Core.Path.{◌≡◌, refl, sym, ap, ap₂, ◌∙◌, subst}
+use mathlib.Core.Path.{◌≡◌, refl, ap, ap₂, ◌∙◌, subst}
 use mathlib.Core.Bool.{Bool, true, false, not, ◌&&◌}
 use mathlib.Core.List.{List, [], ◌∷◌, ◌++◌, map}
 use Prim.Native.Nat.{ℕ, zero, suc, ◌+◌, ◌-◌, ◌*◌, ◌/◌, ◌%◌, ◌≤◌, ◌<◌}
 use native.Mathlib.Omega.{arith}
 use lib.Dec.{eqb, leb}
-use lib.IntN.{ℤ, pos, ◌-ℤ◌}
+use lib.IntN.{pos}
 use lib.ListN.{length, get_or, length-append, length-map}
-use borrow.Author.Tests.{eq-eqb, ne_eqb, leb-true, leb-false, le-leb, lt-leb}
+use borrow.Author.Tests.{eq-eqb, ne_eqb, leb-true}
 use Rattle.listing_text.specs.Text.{ascii, newline, decimal}
 use Rattle.listing_text.specs.Writing.{Room, Puts, written_to}
 use Rattle.listing_text.specs.Listed.{Prints}

@@ -1,5 +1,5 @@
 -- The words of the lines: one phrase for each thing that is said. In a phrase a capital letter stands for a number (specs/Said.antt, `numbers`).
-use Rattle.std.specs.Prelude.{Bool, true, false, not, ◌&&◌, List, [], ◌∷◌, ◌++◌, map, ℕ, ◌+◌, ◌-◌, ◌*◌, ◌%◌, eqb, leb, ltb, get_or}
+use Rattle.std.specs.Prelude.{Bool, true, false, not, ◌&&◌, List, [], ◌∷◌, ◌++◌, map, ℕ, ◌+◌, ◌*◌, ◌%◌, eqb, leb, ltb, get_or}
 use Prim.Native.String.{String}
 use Rattle.rules.specs.Answers.{not_one_tick, mended_row}
 use Rattle.listing_text.specs.Text.{ascii, newline}

@@ -1,5 +1,6 @@
 // The verdicts on pages, the books that they change, and what is said of both: a page's line and the total's.
 #![tactic(auto)]
+
 mod books;
 mod entry;
 mod phrases;

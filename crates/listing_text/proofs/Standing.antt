@@ -13,7 +13,7 @@ use Rattle.settings.specs.declared.DecodeSettings.{DecodeSettings}
 use Rattle.settings.specs.declared.EncodingMode.{EncodingMode}
 use Rattle.settings.specs.declared.EncodingMode.TheVariants.{Group4, Group3_1D, Group3_2D}
 use Rattle.listing_text.specs.Text.{decimal}
-use Rattle.listing_text.specs.Line.{mark, parted, flag, encoding_number, settings_numbers, filled, NumbersOf, Held, Begins, Says}
+use Rattle.listing_text.specs.Line.{mark, parted, flag, encoding_number, settings_numbers, filled, Held, Begins, Says}
 use Rattle.listing_text.specs.Reading.{Stands}
 use Rattle.listing_text.specs.declared.settings_line.Parsed.{Parsed}
 use Rattle.listing_text.specs.declared.settings_line.Parsed.TheVariants.{Settings as found, Bad}

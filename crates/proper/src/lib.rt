@@ -1,5 +1,6 @@
 // Proper pages: those whose bytes are what a writer writes for the rows that were read from them. Such a page says its rows twice.
 #![tactic(auto)]
+
 ghost use Rattle.std.specs.Prelude.{◌≡◌, ◌≤◌, length, take};
 ghost use Rattle.rules.specs.Proper.{parts_from};
 ghost use Rattle.settings.specs.Settings.{encoding_of};

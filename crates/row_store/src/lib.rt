@@ -1,5 +1,6 @@
 // The store of rows that readers leave and writers and counters are lent: changes, and where each row ends among them (test 8).
 #![tactic(auto)]
+
 ghost use Rattle.std.specs.Prelude.{◌≡◌};
 ghost use Rattle.row_store.specs.Store.{good_rows};
 

@@ -16,9 +16,9 @@ found (some z) = true
 
 -- "no run of eleven or more zeros before a one", where so many zeros were just seen
 unfoldable pub no_eol : ℕ → List Bool → Bool
-no_eol zeros [] = true
-no_eol zeros (false ∷ bits) = no_eol (suc zeros) bits
-no_eol zeros (true ∷ bits) = ltb zeros 11 && no_eol 0 bits
+no_eol seen [] = true
+no_eol seen (false ∷ bits) = no_eol (suc seen) bits
+no_eol seen (true ∷ bits) = ltb seen 11 && no_eol 0 bits
 
 -- "any others .. holding at least one one and no run of eleven or more zeros before a one"
 abbrev pub stray : List Bool → Bool

@@ -9,7 +9,6 @@ use lib.Dec.{eqb}
 use lib.ListN.{length, get_or, drop, length-append, drop_of_length-le}
 use lib.Seq.{drop-cons}
 use borrow.Author.Tests.{eqb-true, eqb-false}
-use Rattle.rules.specs.Codes.{white}
 use Rattle.rules.specs.Lines.{Kind}
 use Rattle.rules.specs.Write.{line_bits, rows_in}
 use Rattle.rules.specs.WriteGroup3.{Layout, k_of, kind_next, left_next, coded_lines, ahead, ending, framed, page3_bits}

@@ -1,6 +1,6 @@
 -- `bitmap::paint` meets its contract. The tests one after the other, and then every row. Assumes nothing.
 use native.Mathlib.Omega.{arith}
-use mathlib.Core.Path.{◌≡◌, sym, ap, ◌∙◌}
+use mathlib.Core.Path.{sym, ap, ◌∙◌}
 use borrow.Author.Tests.{not-true, not-false}
 use lib.ListN.{length}
 use Rattle.bitmap.specs.Outcome.{answer_for}

@@ -1,6 +1,6 @@
 -- `bitmap::unpaint` meets its contract. The tests one after the other; the rows are counted, and then recorded. Assumes nothing.
 use native.Mathlib.Omega.{arith}
-use mathlib.Core.Path.{◌≡◌, sym, ◌∙◌}
+use mathlib.Core.Path.{sym, ◌∙◌}
 use lib.ListN.{length}
 use Rattle.bitmap.proofs.Fitting.{fits}
 use Rattle.bitmap.proofs.Unpainting.{unpaint-refused, unpaint-5, unpaint-4, unpaint-done, lies-counted, lies-recorded}

@@ -1,5 +1,5 @@
 -- `proper::check` meets its contract: behind the reading the store holds the page's rows, and what is held against them is said of the page. Assumes nothing.
-use mathlib.Core.Path.{◌≡◌, ap, sym, ◌∙◌}
+use mathlib.Core.Path.{ap, sym, ◌∙◌}
 use Rattle.writer.specs.declared.Parting.{Parting}
 use Rattle.proper.proofs.Checking.{rows_inside, bytes_inside, failed-proper, failed-parts, done-says}
 use Rattle.proper.proofs.check.Goals as goal

@@ -1,6 +1,5 @@
 -- `row_store::ascend` meets its contract. The loop's invariant: the test of the rows that are left is that of all. Assumes nothing.
-use mathlib.Core.Path.{◌≡◌, refl, sym, ◌∙◌}
-use Prim.Native.Nat.{◌-◌, ◌≤◌}
+use mathlib.Core.Path.{refl, sym, ◌∙◌}
 use native.Mathlib.Omega.{arith}
 use borrow.Author.Tests.{not-true, not-false}
 use Rattle.row_store.proofs.GoodRows.{good-past, good-falls, good-passes, good-not, good-next}
@@ -48,13 +47,12 @@ pub loop-k-smaller : goal.loop-k-smaller
 loop-k-smaller c = omega arith
 
 pub loop-k-preserved : goal.loop-k-preserved
-loop-k-preserved c =
-    (
-      omega arith,
-      good-next c.args.width c.args.changes.now c.loop-k.base c.args.ends.now
-          c.loop-k.k c.loop-k-test.true c.if-end-base.false c.if-changes-end.false
-          (sym c.ascends.ensures ∙ not-false _ c.if-not-ascends.false-raw) ∙ c.loop-k.invariant.1,
-    )
+loop-k-preserved c = (
+  omega arith,
+  good-next c.args.width c.args.changes.now c.loop-k.base c.args.ends.now
+      c.loop-k.k c.loop-k-test.true c.if-end-base.false c.if-changes-end.false
+      (sym c.ascends.ensures ∙ not-false _ c.if-not-ascends.false-raw) ∙ c.loop-k.invariant.1,
+)
 
 pub returns : goal.returns
 returns c =

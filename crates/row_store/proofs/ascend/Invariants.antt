@@ -1,5 +1,5 @@
 -- `row_store::ascend` meets its contract. The loop's invariant: the test of the rows that are left is that of all. Assumes nothing.
-use mathlib.Core.Path.{◌≡◌, ◌∙◌}
+use mathlib.Core.Path.{◌≡◌}
 use Prim.Native.Nat.{◌-◌, ◌≤◌}
 use lib.ListN.{length, drop}
 use Rattle.row_store.specs.Store.{good_rows}

@@ -1,7 +1,6 @@
 -- `bitmap::fit::end_of` meets its contract. The product is below the bytes that there are. Assumes nothing.
 use native.Mathlib.Omega.{arith}
-use mathlib.Core.Path.{◌≡◌, sym, ◌∙◌}
-use Prim.Native.Nat.{◌-◌, ◌+◌, ◌*◌}
+use mathlib.Core.Path.{sym}
 use Rattle.bitmap.proofs.Fitting.{reach-some}
 use Rattle.bitmap.proofs.fit.end_of.Goals as goal
 

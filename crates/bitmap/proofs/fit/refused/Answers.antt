@@ -1,7 +1,5 @@
 -- `bitmap::fit::refused` meets its contract. Test by test. Assumes nothing.
 use native.Mathlib.Omega.{arith}
-use mathlib.Core.Path.{◌≡◌}
-use Prim.Native.Nat.{◌/◌, ◌-◌}
 use Rattle.bitmap.proofs.Fitting.{tests-zero, tests-most, tests-long, tests-short, tests-past, tests-passed, reach-short, reach-past, reach-fits}
 use Rattle.bitmap.proofs.fit.refused.Goals as goal
 

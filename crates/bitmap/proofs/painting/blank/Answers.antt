@@ -1,8 +1,7 @@
 -- `bitmap::painting::blank` meets its contract. The invariant: so many bytes stand. Assumes nothing.
 use native.Mathlib.Omega.{arith}
-use mathlib.Core.Path.{◌≡◌, refl, ◌∙◌}
+use mathlib.Core.Path.{refl, ◌∙◌}
 use mathlib.Core.List.{[]}
-use Prim.Native.Nat.{◌+◌, ◌-◌, ◌≤◌}
 use lib.ListN.{length-set}
 use Rattle.bitmap.proofs.RowBytes.{bytes-none, bytes-all, blank-next}
 use Rattle.bitmap.proofs.painting.blank.Goals as goal

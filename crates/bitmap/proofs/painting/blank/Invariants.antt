@@ -1,7 +1,7 @@
 -- `bitmap::painting::blank` meets its contract. The invariant: so many bytes stand. Assumes nothing.
-use mathlib.Core.Path.{◌≡◌, ◌∙◌}
+use mathlib.Core.Path.{◌≡◌}
 use mathlib.Core.List.{[]}
-use Prim.Native.Nat.{◌+◌, ◌-◌, ◌≤◌}
+use Prim.Native.Nat.{◌-◌, ◌≤◌}
 use lib.ListN.{length, take}
 use Rattle.bitmap.specs.Packed.{bytes_from}
 use Rattle.bitmap.proofs.RowBytes.{shown_in}

@@ -1,8 +1,7 @@
 -- `bitmap::painting::row` meets its contract. The invariant: so many bytes stand, and what the next word asks. Assumes nothing.
 use native.Mathlib.Omega.{arith}
 use mathlib.Core.Path.{◌≡◌, refl, ◌∙◌}
-use mathlib.Core.Bool.{false}
-use Prim.Native.Nat.{◌+◌, ◌-◌, ◌*◌, ◌≤◌, ◌<◌}
+use Prim.Native.Nat.{◌+◌, ◌-◌, ◌*◌}
 use lib.ListN.{length}
 use Rattle.bitmap.proofs.RowBytes.{standing-start, word-inside, shown-word, bytes-none, bytes_next, bytes-all}
 use Rattle.bitmap.proofs.painting.row.Goals as goal

@@ -1,6 +1,6 @@
 -- `bitmap::painting::row` meets its contract. The invariant: so many bytes stand, and what the next word asks. Assumes nothing.
-use mathlib.Core.Path.{◌≡◌, ◌∙◌}
-use Prim.Native.Nat.{◌+◌, ◌-◌, ◌*◌, ◌≤◌, ◌<◌}
+use mathlib.Core.Path.{◌≡◌}
+use Prim.Native.Nat.{◌-◌, ◌*◌, ◌<◌}
 use lib.ListN.{length, take}
 use Rattle.bitmap.specs.Packed.{bytes_from}
 use Rattle.bitmap.specs.Steps.{Standing}

@@ -1,8 +1,8 @@
 -- `bitmap::painting::rows` meets its contract. The invariant: painting the rows that are left gives what painting all of them does.
 -- Assumes nothing.
-use mathlib.Core.Path.{◌≡◌, ◌∙◌}
+use mathlib.Core.Path.{◌≡◌}
 use mathlib.Core.Bool.{true}
-use Prim.Native.Nat.{◌+◌, ◌-◌, ◌*◌, ◌/◌, ◌≤◌, ◌<◌}
+use Prim.Native.Nat.{◌-◌, ◌*◌}
 use lib.ListN.{length, drop}
 use Rattle.rules.specs.Write.{rows_in}
 use Rattle.row_store.specs.Store.{good_rows}

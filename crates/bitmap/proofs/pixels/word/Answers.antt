@@ -1,6 +1,4 @@
 -- `bitmap::pixels::word` meets its contract. The invariant is `Taken`: the pixels of the changes that are taken. Assumes nothing.
-use Prim.Native.Nat.{◌+◌, ◌-◌}
-use mathlib.Core.Path.{◌≡◌}
 use native.Mathlib.Omega.{arith}
 use native.Mathlib.Numerals.{add-one}
 use Rattle.bitmap.proofs.Colours.{taken_none, taken_next, takes-turn, has-far, has_all}

@@ -1,6 +1,5 @@
 -- `bitmap::pixels::word` meets its contract. The invariant is `Taken`: the pixels of the changes that are taken. Assumes nothing.
-use Prim.Native.Nat.{◌+◌, ◌-◌}
-use mathlib.Core.Path.{◌≡◌}
+use Prim.Native.Nat.{◌-◌}
 use lib.ListN.{length}
 use Rattle.bitmap.proofs.Colours.{Taken}
 use Rattle.bitmap.proofs.pixels.word.Given as goal

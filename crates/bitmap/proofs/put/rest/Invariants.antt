@@ -1,6 +1,5 @@
 -- `bitmap::put::rest` meets its contract. The invariant: so many bytes stand. Assumes nothing.
-use Prim.Native.Nat.{◌+◌, ◌-◌, ◌≤◌, ◌<◌}
-use mathlib.Core.Path.{◌≡◌}
+use Prim.Native.Nat.{◌+◌, ◌-◌, ◌≤◌}
 use lib.ListN.{length}
 use Rattle.bitmap.specs.Steps.{Puts}
 use Rattle.bitmap.proofs.put.rest.Given as goal

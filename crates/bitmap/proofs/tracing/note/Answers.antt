@@ -1,6 +1,5 @@
 -- `bitmap::tracing::note` meets its contract. Assumes nothing.
 use native.Mathlib.Omega.{arith}
-use mathlib.Core.Path.{◌≡◌, ◌∙◌}
 use Rattle.bitmap.proofs.Turnings.{set-laid}
 use Rattle.bitmap.proofs.tracing.note.Goals as goal
 

@@ -1,7 +1,5 @@
 -- `bitmap::tracing::row` meets its contract. The invariant is `Read`: what is read of the words before. Assumes nothing.
 use native.Mathlib.Omega.{arith}
-use mathlib.Core.Path.{◌≡◌, ◌∙◌}
-use Prim.Native.Nat.{◌+◌, ◌-◌, ◌*◌}
 use Rattle.bitmap.proofs.Tracings.{read-start, read_next, read_all, read_length, word_room, word-asks}
 use Rattle.bitmap.proofs.tracing.row.Goals as goal
 

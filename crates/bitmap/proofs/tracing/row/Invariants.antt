@@ -1,6 +1,5 @@
 -- `bitmap::tracing::row` meets its contract. The invariant is `Read`: what is read of the words before. Assumes nothing.
-use mathlib.Core.Path.{◌≡◌, ◌∙◌}
-use Prim.Native.Nat.{◌+◌, ◌-◌, ◌*◌}
+use Prim.Native.Nat.{◌+◌, ◌-◌}
 use Rattle.bitmap.specs.Packed.{pixels_at}
 use Rattle.bitmap.proofs.Tracings.{Read}
 use Rattle.bitmap.proofs.tracing.row.Given as goal

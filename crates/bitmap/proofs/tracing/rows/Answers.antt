@@ -1,7 +1,5 @@
 -- `bitmap::tracing::rows` meets its contract. The invariant is `Store`: what is read of the rows before. Assumes nothing.
 use native.Mathlib.Omega.{arith}
-use mathlib.Core.Path.{◌≡◌, ◌∙◌}
-use Prim.Native.Nat.{◌+◌, ◌-◌, ◌*◌}
 use Rattle.bitmap.proofs.Tracings.{store-start, store-next, store-all, changes-length, ends-length, row-asks, row-roomy, end-roomy}
 use Rattle.bitmap.proofs.tracing.rows.Goals as goal
 

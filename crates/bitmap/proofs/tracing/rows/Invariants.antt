@@ -1,6 +1,5 @@
 -- `bitmap::tracing::rows` meets its contract. The invariant is `Store`: what is read of the rows before. Assumes nothing.
-use mathlib.Core.Path.{◌≡◌, ◌∙◌}
-use Prim.Native.Nat.{◌+◌, ◌-◌, ◌*◌}
+use Prim.Native.Nat.{◌-◌}
 use Rattle.bitmap.proofs.Tracings.{Store}
 use Rattle.bitmap.proofs.tracing.rows.Given as goal
 

@@ -1,7 +1,7 @@
 -- `bitmap::tracing::turns` meets its contract. The invariant is `Scan`; the word falls with each change. Assumes nothing.
 use native.Mathlib.Omega.{arith}
-use mathlib.Core.Path.{◌≡◌, refl, ap, ◌∙◌}
-use Prim.Native.Nat.{◌+◌, ◌-◌, ◌*◌}
+use mathlib.Core.Path.{refl, ap}
+use Prim.Native.Nat.{◌-◌}
 use lib.Count as Count
 use Rattle.bitmap.proofs.Packing.{ones-shifted}
 use Rattle.bitmap.proofs.Scanning.{scan-start, scan-few, scan-length, ends-clear, ends-width, zeros-few, word-less, word-falls, scan-room, scan-next}

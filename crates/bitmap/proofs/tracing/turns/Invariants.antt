@@ -1,7 +1,4 @@
 -- `bitmap::tracing::turns` meets its contract. The invariant is `Scan`; the word falls with each change. Assumes nothing.
-use mathlib.Core.Path.{◌≡◌, ◌∙◌}
-use Prim.Native.Nat.{◌+◌, ◌-◌, ◌*◌}
-use lib.Count as Count
 use Rattle.bitmap.specs.Packed.{pixels_at}
 use Rattle.bitmap.proofs.Scanning.{Scan}
 use Rattle.bitmap.proofs.tracing.turns.Given as goal

@@ -1,6 +1,6 @@
 -- The invariant: the test of the rows that are left is that of all. Assumes nothing.
-use mathlib.Core.Path.{◌≡◌, ◌∙◌}
-use Prim.Native.Nat.{◌<◌, ◌-◌, ◌≤◌}
+use mathlib.Core.Path.{◌≡◌}
+use Prim.Native.Nat.{◌-◌, ◌≤◌}
 use lib.ListN.{drop}
 use Rattle.heads.specs.Form.{all, ordered}
 use Rattle.heads.proofs.boxes.all_ordered.Given as goal

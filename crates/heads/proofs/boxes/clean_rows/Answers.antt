@@ -1,5 +1,5 @@
 -- The invariant: the test of the rows that are left is that of all. Assumes nothing.
-use mathlib.Core.Path.{◌≡◌, refl, ◌∙◌}
+use mathlib.Core.Path.{refl, ◌∙◌}
 use Prim.Native.Nat.{◌-◌}
 use native.Mathlib.Omega.{arith}
 use Rattle.heads.specs.Steps.{clean_rows}

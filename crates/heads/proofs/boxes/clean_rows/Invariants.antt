@@ -1,5 +1,5 @@
 -- The invariant: the test of the rows that are left is that of all. Assumes nothing.
-use mathlib.Core.Path.{◌≡◌, ◌∙◌}
+use mathlib.Core.Path.{◌≡◌}
 use Prim.Native.Nat.{◌-◌}
 use Rattle.heads.specs.Steps.{clean_rows}
 use Rattle.heads.specs.Form.{every}

@@ -1,6 +1,4 @@
 -- `heads::count::in_row` meets its contract. The invariant: what is counted, and the black pixels that are left, are all of them. Assumes nothing.
-use mathlib.Core.Path.{◌≡◌}
-use Prim.Native.Nat.{◌+◌, ◌-◌, ◌≤◌}
 use native.Mathlib.Omega.{arith}
 use Rattle.heads.proofs.Runs.{few, counts-on, counts-out, cut_low, cut_high}
 use Rattle.heads.proofs.count.in_row.Goals as goal

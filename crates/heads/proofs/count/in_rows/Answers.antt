@@ -1,6 +1,5 @@
 -- `heads::count::in_rows` meets its contract. The invariant: what is counted, and the black pixels of the rows that are left, are all of them. Assumes nothing.
-use mathlib.Core.Path.{◌≡◌}
-use Prim.Native.Nat.{◌+◌, ◌-◌, ◌*◌, ◌≤◌}
+use Prim.Native.Nat.{◌≤◌}
 use native.Mathlib.Omega.{arith}
 use lib.ListN.{length}
 use Rattle.rules.specs.Write.{rows_in}

@@ -1,7 +1,6 @@
 -- The invariant: the rows below `digit` are those of the numbers, the others are blank. Assumes nothing.
 use mathlib.Core.List.{List, [], ◌∷◌}
-use mathlib.Core.Path.{◌≡◌, refl, ◌∙◌}
-use Prim.Native.Nat.{◌-◌, ◌≤◌}
+use mathlib.Core.Path.{refl, ◌∙◌}
 use native.Mathlib.Omega.{arith}
 use Rattle.heads.specs.Numbers.{form_in}
 use Rattle.heads.specs.declared.Box.{Box}

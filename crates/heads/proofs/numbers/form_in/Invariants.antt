@@ -1,6 +1,6 @@
 -- The invariant: the rows below `digit` are those of the numbers, the others are blank. Assumes nothing.
 use mathlib.Core.List.{List, [], ◌∷◌}
-use mathlib.Core.Path.{◌≡◌, ◌∙◌}
+use mathlib.Core.Path.{◌≡◌}
 use Prim.Native.Nat.{◌-◌, ◌≤◌}
 use Rattle.heads.specs.Numbers.{form_in}
 use Rattle.heads.specs.declared.Box.{Box}

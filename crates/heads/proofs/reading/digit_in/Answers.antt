@@ -1,7 +1,7 @@
 -- The invariant: the ticks so far, and then those that are left, are all of them. Assumes nothing.
 use mathlib.Core.List.{[]}
-use mathlib.Core.Path.{◌≡◌, ◌∙◌}
-use Prim.Native.Nat.{◌<◌, ◌-◌, ◌≤◌}
+use mathlib.Core.Path.{◌∙◌}
+use Prim.Native.Nat.{◌<◌}
 use native.Mathlib.Omega.{arith}
 use lib.ListN.{length}
 use Rattle.heads.specs.Form.{ticks}
@@ -29,15 +29,15 @@ loop-d-preserved c =
     let h : c.loop-d.d < length c.args.table = omega (arith, c.loop-d-test.true) in
     elim c.if-least-table.branch [
       | then-least-table w ↦ let e = w.digit-is ∙ w.after-digit.ensures in (
-          omega arith,
-          rw e (seen-small c.loop-d.digit c.loop-d.d (omega arith)),
-          rw e (ticks-tick c.args.least c.args.column c.args.table c.loop-d.digit c.loop-d.d [] h w.if-least-table.true ∙ c.loop-d.invariant.2),
-        )
+        omega arith,
+        rw e (seen-small c.loop-d.digit c.loop-d.d (omega arith)),
+        rw e (ticks-tick c.args.least c.args.column c.args.table c.loop-d.digit c.loop-d.d [] h w.if-least-table.true ∙ c.loop-d.invariant.2),
+      )
       | else-least-table w ↦ (
-          omega arith,
-          rw w.digit-is c.loop-d.invariant.1,
-          rw w.digit-is (ticks-blank c.args.least c.args.column c.args.table c.loop-d.digit c.loop-d.d [] h w.if-least-table.false ∙ c.loop-d.invariant.2),
-        )
+        omega arith,
+        rw w.digit-is c.loop-d.invariant.1,
+        rw w.digit-is (ticks-blank c.args.least c.args.column c.args.table c.loop-d.digit c.loop-d.d [] h w.if-least-table.false ∙ c.loop-d.invariant.2),
+      )
     ]
 
 pub returns : goal.returns

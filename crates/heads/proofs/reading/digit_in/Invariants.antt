@@ -1,6 +1,6 @@
 -- The invariant: the ticks so far, and then those that are left, are all of them. Assumes nothing.
-use mathlib.Core.Path.{◌≡◌, ◌∙◌}
-use Prim.Native.Nat.{◌<◌, ◌-◌, ◌≤◌}
+use mathlib.Core.Path.{◌≡◌}
+use Prim.Native.Nat.{◌-◌, ◌≤◌}
 use lib.ListN.{drop}
 use Rattle.heads.specs.Steps.{only, Small}
 use Rattle.heads.specs.Form.{ticks}

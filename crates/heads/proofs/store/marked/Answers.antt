@@ -1,7 +1,6 @@
 -- The invariant: the test of the marks that are left is that of all. Assumes nothing.
 use mathlib.Core.Bool.{true, false}
-use mathlib.Core.Path.{◌≡◌, refl, ◌∙◌}
-use Prim.Native.Nat.{◌-◌, ◌≤◌}
+use mathlib.Core.Path.{refl, ◌∙◌}
 use native.Mathlib.Omega.{arith}
 use Rattle.heads.proofs.Marks.{marked-few, marked_all, marks-past, marks-bad, marks-next}
 use Rattle.heads.proofs.store.marked.Goals as goal

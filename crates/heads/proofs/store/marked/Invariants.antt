@@ -1,5 +1,5 @@
 -- The invariant: the test of the marks that are left is that of all. Assumes nothing.
-use mathlib.Core.Path.{◌≡◌, ◌∙◌}
+use mathlib.Core.Path.{◌≡◌}
 use Prim.Native.Nat.{◌-◌, ◌≤◌}
 use lib.ListN.{drop, take}
 use lib.Dec.{leb}

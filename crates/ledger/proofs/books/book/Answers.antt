@@ -1,10 +1,9 @@
 -- `ledger::books::book` meets its contract. Assumes nothing.
-use mathlib.Core.Path.{◌≡◌, sym, ◌∙◌}
+use mathlib.Core.Path.{sym, ◌∙◌}
 use native.Mathlib.Omega.{arith}
 use borrow.Author.Tests.{not-true, not-false}
 use mir.Facts.{to_z-of_z}
 use mir.Syntax.{w32}
-use mathlib.Core.Bool.{true, false}
 use Rattle.ledger.proofs.Rooms.{fits, stays, counts, looks}
 use Rattle.ledger.proofs.books.book.Goals as goal
 

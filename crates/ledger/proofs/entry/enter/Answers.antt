@@ -1,5 +1,5 @@
 -- `ledger::entry::enter` meets its contract. Assumes nothing.
-use mathlib.Core.Path.{◌≡◌, sym, ◌∙◌}
+use mathlib.Core.Path.{sym, ◌∙◌}
 use borrow.Author.Tests.{not-true, not-false}
 use Rattle.ledger.proofs.Entering.{no-books, no_line, goes_in}
 use Rattle.ledger.proofs.entry.enter.Goals as goal

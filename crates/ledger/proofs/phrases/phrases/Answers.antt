@@ -1,8 +1,6 @@
-use mathlib.Core.Path.{◌≡◌, refl, ◌∙◌}
+use mathlib.Core.Path.{refl}
 use Rattle.listing_text.specs.Text.{ascii}
 use Rattle.ledger.specs.Phrases.{words, lined}
-use Rattle.ledger.proofs.phrases.phrases.Reads as reads
-use Rattle.ledger.proofs.phrases.phrases.Lts as lts
 use Rattle.ledger.proofs.phrases.phrases.Goals as goal
 
 pub returns : goal.returns

@@ -1,5 +1,5 @@
 -- `ledger::phrases::reason_at` meets its contract, case by case. Assumes nothing.
-use mathlib.Core.Path.{◌≡◌, sym, ◌∙◌}
+use mathlib.Core.Path.{sym, ◌∙◌}
 use native.Mathlib.Omega.{arith}
 use Rattle.ledger.proofs.Reasons.{at-12, at-13, at-19, at-22, at-36, at-18, at-34, at_plain}
 use Rattle.ledger.proofs.phrases.reason_at.Goals as goal

@@ -1,11 +1,7 @@
-use mathlib.Core.Path.{◌≡◌, ap, ◌∙◌}
+use mathlib.Core.Path.{ap, ◌∙◌}
 use Rattle.ledger.proofs.Signs.{sign-is, size_is, below-yes, below-no}
 use Prim.Native.Nat.{ℕ}
 use lib.Dec.{ltb}
-use Rattle.ledger.proofs.quota.is_below.Reads as reads
-use Rattle.ledger.proofs.quota.is_below.Lts as lts
-use Rattle.ledger.proofs.quota.is_negative.Reads as is-negative-reads
-use Rattle.ledger.proofs.quota.magnitude.Reads as magnitude-reads
 use Rattle.ledger.proofs.quota.is_below.Goals as goal
 
 pub returns-then-is_negative : goal.returns-then-is_negative

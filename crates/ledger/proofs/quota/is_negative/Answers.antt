@@ -1,7 +1,5 @@
 use mir.Facts.{to_z-of_z}
 use Rattle.ledger.proofs.Signs.{negative}
-use Rattle.ledger.proofs.quota.is_negative.Reads as reads
-use Rattle.ledger.proofs.quota.is_negative.Lts as lts
 use Rattle.ledger.proofs.quota.is_negative.Goals as goal
 
 -- src/said.rt:163:1

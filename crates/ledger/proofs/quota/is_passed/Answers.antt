@@ -1,13 +1,10 @@
-use mathlib.Core.Path.{◌≡◌, ap, ◌∙◌}
+use mathlib.Core.Path.{ap, ◌∙◌}
 use native.Mathlib.Omega.{arith}
 use lib.IntN.{ℤ, pos, ◌-ℤ◌}
 use mir.Facts.{to_z-of_z}
 use mir.Syntax.{w32}
 use mir.Val.{SFits}
 use Rattle.ledger.specs.Books.{is_below}
-use Rattle.ledger.proofs.quota.is_passed.Reads as reads
-use Rattle.ledger.proofs.quota.is_passed.Lts as lts
-use Rattle.ledger.proofs.quota.is_below.Reads as is-below-reads
 use Rattle.ledger.proofs.quota.is_passed.Goals as goal
 
 pub returns : goal.returns

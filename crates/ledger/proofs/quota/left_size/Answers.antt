@@ -1,12 +1,8 @@
-use mathlib.Core.Path.{◌≡◌, ap, ◌∙◌}
+use mathlib.Core.Path.{ap, ◌∙◌}
 use Prim.Native.Nat.{ℕ, ◌+◌, ◌-◌, ◌<◌, ◌≤◌}
 use native.Mathlib.Omega.{arith}
 use Rattle.ledger.specs.Books.{size}
 use Rattle.ledger.proofs.Signs.{few, sign-is, size_is, size-yes, size-over, size-left}
-use Rattle.ledger.proofs.quota.left_size.Reads as reads
-use Rattle.ledger.proofs.quota.left_size.Lts as lts
-use Rattle.ledger.proofs.quota.is_negative.Reads as is-negative-reads
-use Rattle.ledger.proofs.quota.magnitude.Reads as magnitude-reads
 use Rattle.ledger.proofs.quota.left_size.Goals as goal
 
 pub overflow_add-result : goal.overflow_add-result

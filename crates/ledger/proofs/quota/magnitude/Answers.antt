@@ -1,7 +1,4 @@
-use mathlib.Core.Path.{◌≡◌, ◌∙◌}
 use Rattle.ledger.proofs.Signs.{wide_fits, cast-plain, is_plain, turned-fits, cast-turned, is_turned, tests-wide}
-use Rattle.ledger.proofs.quota.magnitude.Reads as reads
-use Rattle.ledger.proofs.quota.magnitude.Lts as lts
 use Rattle.ledger.proofs.quota.magnitude.Goals as goal
 
 pub overflow_cast-wide : goal.overflow_cast-wide

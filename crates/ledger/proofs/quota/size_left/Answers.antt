@@ -1,13 +1,10 @@
-use mathlib.Core.Path.{◌≡◌, ap, ◌∙◌}
+use mathlib.Core.Path.{ap, ◌∙◌}
 use native.Mathlib.Omega.{arith}
 use lib.IntN.{ℤ, pos, ◌-ℤ◌}
 use mir.Facts.{to_z-of_z}
 use mir.Syntax.{w32}
 use mir.Val.{SFits}
 use Rattle.ledger.specs.Books.{size}
-use Rattle.ledger.proofs.quota.size_left.Reads as reads
-use Rattle.ledger.proofs.quota.size_left.Lts as lts
-use Rattle.ledger.proofs.quota.left_size.Reads as left-size-reads
 use Rattle.ledger.proofs.quota.size_left.Goals as goal
 
 pub returns : goal.returns

@@ -1,6 +1,6 @@
 -- `ledger::quota::status` meets its contract. Assumes nothing.
 use Rattle.ledger.proofs.Rooms.{looked-at, passed-by, all-well}
-use mathlib.Core.Path.{◌≡◌, sym, ◌∙◌}
+use mathlib.Core.Path.{sym, ◌∙◌}
 use native.Mathlib.Omega.{arith}
 use Rattle.ledger.proofs.quota.status.Goals as goal
 

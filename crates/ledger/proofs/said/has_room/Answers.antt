@@ -2,10 +2,8 @@ use mathlib.Core.Bool.{Bool, true, false}
 use Prim.Native.Nat.{ℕ, ◌+◌, ◌-◌, ◌≤◌}
 use lib.Dec.{leb}
 use borrow.Author.Tests.{leb-true, leb-false, le-leb, lt-leb}
-use mathlib.Core.Path.{◌≡◌, refl, sym, ◌∙◌}
+use mathlib.Core.Path.{◌≡◌, refl, sym}
 use native.Mathlib.Omega.{arith}
-use Rattle.ledger.proofs.said.has_room.Reads as reads
-use Rattle.ledger.proofs.said.has_room.Lts as lts
 use Rattle.ledger.proofs.said.has_room.Goals as goal
 
 moved : (n m : ℕ) → 512 ≤ m → leb n (m - 512) ≡ leb (n + 512) m

@@ -1,7 +1,4 @@
-use mathlib.Core.Path.{◌≡◌, ◌∙◌}
 use Rattle.ledger.proofs.Filling.{letter-no, letter-if}
-use Rattle.ledger.proofs.said.is_letter.Reads as reads
-use Rattle.ledger.proofs.said.is_letter.Lts as lts
 use Rattle.ledger.proofs.said.is_letter.Goals as goal
 
 pub returns-then-b-lt65 : goal.returns-then-b-lt65

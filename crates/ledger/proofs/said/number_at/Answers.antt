@@ -1,7 +1,5 @@
-use mathlib.Core.Path.{◌≡◌, sym, ◌∙◌}
+use mathlib.Core.Path.{sym}
 use lib.ListN.{get_or-eq_default}
-use Rattle.ledger.proofs.said.number_at.Reads as reads
-use Rattle.ledger.proofs.said.number_at.Lts as lts
 use Rattle.ledger.proofs.said.number_at.Goals as goal
 
 pub returns-else-k-numbers : goal.returns-else-k-numbers

@@ -1,12 +1,7 @@
-use mathlib.Core.Path.{◌≡◌, ◌∙◌}
 use native.Mathlib.Omega.{arith}
 use Rattle.listing_text.proofs.Written.{owes-all, owes-room, owes-some, owes-none}
 use Rattle.ledger.proofs.Filling.{fill-split, fill_none}
-use Prim.Native.Nat.{◌-◌, ◌≤◌}
 use lib.ListN.{drop_of_length-le}
-use Rattle.ledger.proofs.said.put_filled.Reads as reads
-use Rattle.ledger.proofs.said.put_filled.Lts as lts
-use Rattle.ledger.proofs.said.put_piece.Reads as put-piece-reads
 use Rattle.ledger.proofs.said.put_filled.Goals as goal
 
 pub loop-i-init : goal.loop-i-init

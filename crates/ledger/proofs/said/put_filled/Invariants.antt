@@ -1,11 +1,7 @@
-use mathlib.Core.Path.{◌≡◌, ◌∙◌}
 use Rattle.listing_text.proofs.Written.{Owes}
 use Prim.Native.Nat.{◌-◌, ◌≤◌}
 use lib.ListN.{length, drop}
 use Rattle.ledger.specs.Said.{fill}
-use Rattle.ledger.proofs.said.put_filled.Reads as reads
-use Rattle.ledger.proofs.said.put_filled.Lts as lts
-use Rattle.ledger.proofs.said.put_piece.Reads as put-piece-reads
 use Rattle.ledger.proofs.said.put_filled.Given as goal
 
 abbrev pub invariant-loop-i : goal.invariant-loop-i

@@ -1,12 +1,8 @@
-use mathlib.Core.Path.{◌≡◌, sym, ◌∙◌}
+use mathlib.Core.Path.{sym, ◌∙◌}
 use native.Mathlib.Omega.{arith}
 use borrow.Author.Tests.{leb-true, not-true, not-false}
 use Rattle.ledger.specs.Said.{total_line}
 use Rattle.ledger.proofs.Whole.{total-room, tells-no, tells-yes}
-use Rattle.ledger.proofs.said.put_known_total.Reads as reads
-use Rattle.ledger.proofs.said.put_known_total.Lts as lts
-use Rattle.ledger.proofs.said.has_room.Reads as has-room-reads
-use Rattle.ledger.proofs.said.put_total_line.Reads as put-total-line-reads
 use Rattle.ledger.proofs.said.put_known_total.Goals as goal
 
 pub returns-then-not-has_room : goal.returns-then-not-has_room

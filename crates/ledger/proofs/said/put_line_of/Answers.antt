@@ -1,12 +1,7 @@
-use mathlib.Core.Path.{◌≡◌, sym, ap, ◌∙◌}
+use mathlib.Core.Path.{sym, ap}
 use Rattle.listing_text.proofs.Written.{room_as, puts-as}
 use Rattle.ledger.specs.Said.{fill}
 use Rattle.listing_text.proofs.Lining.{line-is}
-use Rattle.ledger.proofs.said.put_line_of.Reads as reads
-use Rattle.ledger.proofs.said.put_line_of.Lts as lts
-use Rattle.listing_text.proofs.text_lines.line_end.Reads as line-end-reads
-use Rattle.listing_text.proofs.text_lines.line_start.Reads as line-start-reads
-use Rattle.ledger.proofs.said.put_filled.Reads as put-filled-reads
 use Rattle.ledger.proofs.said.put_line_of.Goals as goal
 
 pub put_filled-requires : goal.put_filled-requires

@@ -1,7 +1,5 @@
 -- `ledger::said::put_name` meets its contract. The invariant: the bytes of the name from `i` on are left. Assumes nothing.
-use mathlib.Core.Path.{◌≡◌, ◌∙◌}
-use mathlib.Core.List.{◌∷◌}
-use Prim.Native.Nat.{◌-◌, ◌+◌, ◌≤◌, ◌<◌}
+use Prim.Native.Nat.{◌-◌, ◌≤◌}
 use lib.ListN.{length, drop}
 use Rattle.listing_text.proofs.Written.{Owes}
 use Rattle.ledger.specs.Said.{shown}

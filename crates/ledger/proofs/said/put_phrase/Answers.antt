@@ -7,10 +7,6 @@ use Rattle.listing_text.specs.Lines.{lines_of}
 use Rattle.ledger.specs.Said.{fill}
 use Rattle.ledger.specs.Phrases.{words, lined, phrase}
 use Rattle.ledger.proofs.Whole.{phrase-line}
-use Rattle.ledger.proofs.said.put_phrase.Reads as reads
-use Rattle.ledger.proofs.said.put_phrase.Lts as lts
-use Rattle.ledger.proofs.phrases.phrases.Reads as phrases-reads
-use Rattle.ledger.proofs.said.put_line_of.Reads as put-line-of-reads
 use Rattle.ledger.proofs.said.put_phrase.Goals as goal
 
 -- the text is that of the phrases, and each of its lines one of them

@@ -1,13 +1,7 @@
-use mathlib.Core.Path.{◌≡◌, sym, ap, ◌∙◌}
+use mathlib.Core.Path.{sym, ap, ◌∙◌}
 use Rattle.listing_text.specs.Text.{decimal}
 use Rattle.listing_text.proofs.Written.{room_as, puts-as}
 use Rattle.ledger.proofs.Filling.{letter-low, fill-letter, fill-plain}
-use Rattle.ledger.proofs.said.put_piece.Reads as reads
-use Rattle.ledger.proofs.said.put_piece.Lts as lts
-use Rattle.listing_text.proofs.put.put_byte.Reads as put-byte-reads
-use Rattle.listing_text.proofs.put.put_number.Reads as put-number-reads
-use Rattle.ledger.proofs.said.is_letter.Reads as is-letter-reads
-use Rattle.ledger.proofs.said.number_at.Reads as number-at-reads
 use Rattle.ledger.proofs.said.put_piece.Goals as goal
 
 pub overflow_sub-b : goal.overflow_sub-b

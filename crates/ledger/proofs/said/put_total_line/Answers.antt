@@ -1,10 +1,4 @@
-use mathlib.Core.Path.{◌≡◌, ◌∙◌}
 use Rattle.ledger.proofs.Whole.{total-words, total-end-room, total-ended}
-use Rattle.ledger.proofs.said.put_total_line.Reads as reads
-use Rattle.ledger.proofs.said.put_total_line.Lts as lts
-use Rattle.listing_text.proofs.put.put_byte.Reads as put-byte-reads
-use Rattle.ledger.proofs.said.put_phrase.Reads as put-phrase-reads
-use Rattle.ledger.proofs.said.total_at.Reads as total-at-reads
 use Rattle.ledger.proofs.said.put_total_line.Goals as goal
 
 pub put_phrase-p-requires : goal.put_phrase-p-requires

@@ -1,13 +1,9 @@
-use mathlib.Core.Path.{◌≡◌, sym, ap, ◌∙◌}
+use mathlib.Core.Path.{sym, ap, ◌∙◌}
 use Prim.Native.Nat.{ℕ}
 use Rattle.listing_text.proofs.Written.{room_as, puts-as, owes-all, owes-none}
 use Rattle.ledger.specs.Said.{fill}
 use Rattle.ledger.specs.Phrases.{phrase}
 use Rattle.ledger.proofs.Whole.{reason-none, reason-some}
-use Rattle.ledger.proofs.said.put_words.Reads as reads
-use Rattle.ledger.proofs.said.put_words.Lts as lts
-use Rattle.ledger.proofs.said.put_phrase.Reads as put-phrase-reads
-use Rattle.ledger.proofs.phrases.reason_at.Reads as reason-at-reads
 use Rattle.ledger.proofs.said.put_words.Goals as goal
 
 pub returns-then-v-eq0 : goal.returns-then-v-eq0

@@ -1,5 +1,5 @@
 -- `ledger::said::total_numbers` meets its contract. Assumes unread.
-use mathlib.Core.Path.{◌≡◌, ap, ◌∙◌}
+use mathlib.Core.Path.{ap, ◌∙◌}
 use Rattle.ledger.specs.Said.{numbers}
 use Rattle.ledger.specs.declared.Verdict.{Verdict}
 use Rattle.ledger.proofs.said.total_numbers.Goals as goal

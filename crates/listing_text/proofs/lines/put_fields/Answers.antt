@@ -1,6 +1,5 @@
 -- `listing_text::lines::put_fields` meets its contract. The invariant: the numbers from `i` on are left. Assumes nothing.
 use mathlib.Core.Path.{ap}
-use Prim.Native.Nat.{◌-◌, ◌≤◌}
 use native.Mathlib.Omega.{arith}
 use lib.ListN.{drop_of_length-le}
 use Rattle.listing_text.proofs.Lined.{tabbed-at}

@@ -1,7 +1,6 @@
 -- `listing_text::lines::put_rows` meets its contract. The invariant: the rows from `k` on are left. Assumes nothing.
 use Rattle.listing_text.proofs.Rowing.{no_row, end-rises, row_room, row_put, rows-put}
 use native.Mathlib.Omega.{arith}
-use Prim.Native.Nat.{◌-◌}
 use Rattle.listing_text.proofs.lines.put_rows.Goals as goal
 
 pub loop-k-init : goal.loop-k-init

@@ -1,5 +1,4 @@
 -- `listing_text::put::put_text` meets its contract. The invariant: the bytes from `i` on are left. Assumes nothing.
-use Prim.Native.Nat.{◌-◌, ◌≤◌}
 use native.Mathlib.Omega.{arith}
 use lib.ListN.{drop_of_length-le}
 use Rattle.listing_text.proofs.Spelling.{split}

@@ -1,7 +1,7 @@
 -- `listing_text::settings_line::parse` meets its contract. The invariant: whatever the bytes from `at` on say, the whole says. Assumes nothing.
 use mathlib.Core.List.{List}
 use mathlib.Core.Path.{◌≡◌, sym, ◌∙◌, subst}
-use Prim.Native.Nat.{ℕ, ◌+◌, ◌-◌}
+use Prim.Native.Nat.{ℕ, ◌+◌}
 use native.Mathlib.Omega.{arith}
 use lib.ListN.{set}
 use Rattle.listing_text.proofs.Standing.{says-bad, says-stands, spread}

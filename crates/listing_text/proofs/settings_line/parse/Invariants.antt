@@ -1,6 +1,5 @@
 -- `listing_text::settings_line::parse` meets its contract. The invariant: whatever the bytes from `at` on say, the whole says. Assumes nothing.
-use mathlib.Core.Path.{◌∙◌}
-use Prim.Native.Nat.{◌+◌, ◌-◌}
+use Prim.Native.Nat.{◌-◌}
 use Rattle.listing_text.proofs.Parting.{Reading}
 use Rattle.listing_text.proofs.settings_line.parse.Given as goal
 

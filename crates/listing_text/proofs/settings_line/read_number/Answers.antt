@@ -1,5 +1,4 @@
 -- `listing_text::settings_line::read_number` meets its contract. The invariant: the digits up to `next` spell `n`. Assumes nothing.
-use Prim.Native.Nat.{◌-◌}
 use native.Mathlib.Omega.{arith}
 use Rattle.listing_text.proofs.Spelling.{no_number, digit-inside, first-digit, next-digit, zero-leads, too_large}
 use Rattle.listing_text.proofs.settings_line.read_number.Goals as goal

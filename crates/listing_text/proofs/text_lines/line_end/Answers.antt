@@ -1,5 +1,4 @@
 -- `listing_text::text_lines::line_end` meets its contract. The invariant: no line feed stands in what was passed. Assumes nothing.
-use Prim.Native.Nat.{◌-◌}
 use native.Mathlib.Omega.{arith}
 use Rattle.listing_text.proofs.Piecing.{passed_none, passed-next, piece-last, piece-ends}
 use Rattle.listing_text.proofs.Lining.{line-to}

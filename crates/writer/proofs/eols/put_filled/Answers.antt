@@ -1,6 +1,4 @@
 -- `writer::eols::put_filled` meets its contract. The loop's invariant: the zeros that are left and the EOL come to all. Assumes nothing.
-use mathlib.Core.Bool.{false}
-use mathlib.Core.List.{◌++◌}
 use native.Mathlib.Omega.{arith}
 use Rattle.writer.proofs.Owing.{owes-all}
 use Rattle.writer.proofs.EolCodes.{zeros-room, zeros-next, eol-room, eol-ends}

@@ -1,5 +1,4 @@
 -- `writer::eols::put_times` meets its contract. The loop's invariant: the codes that are left come to all. Assumes nothing.
-use Prim.Native.Nat.{◌≤◌}
 use native.Mathlib.Omega.{arith}
 use Rattle.writer.proofs.Owing.{owes-all}
 use Rattle.writer.proofs.EolCodes.{times-room, times-less, times-put}

@@ -1,5 +1,4 @@
 -- `writer::line::alike` meets its contract. The invariant is what it ensures, of those that were seen. Assumes nothing.
-use Prim.Native.Nat.{◌-◌}
 use native.Mathlib.Omega.{arith}
 use borrow.Author.Count.{below_more}
 use Rattle.writer.proofs.line.alike.Goals as goal

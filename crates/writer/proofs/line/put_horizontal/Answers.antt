@@ -13,15 +13,14 @@ pub put-next-requires : goal.put-next-requires
 put-next-requires c = across-room _ _ _ c.args.out.now c.requires.2 c.horizontal.ensures
 
 pub put_run-middle-requires : goal.put_run-middle-requires
-put_run-middle-requires c =
-    (
-      c.requires.0,
-      first-room (across-put (colour_of c.args.colour) c.args.first
-          c.args.second c.args.out.now c.requires.2 c.horizontal.ensures
-          c.put-next.ensures) (run_bits (colour_of c.args.colour)
-          c.args.first) (run_bits (opposite (colour_of c.args.colour))
-          c.args.second) refl c.requires.2,
-    )
+put_run-middle-requires c = (
+  c.requires.0,
+  first-room (across-put (colour_of c.args.colour) c.args.first
+      c.args.second c.args.out.now c.requires.2 c.horizontal.ensures
+      c.put-next.ensures) (run_bits (colour_of c.args.colour)
+      c.args.first) (run_bits (opposite (colour_of c.args.colour))
+      c.args.second) refl c.requires.2,
+)
 
 pub put_run-requires : goal.put_run-requires
 put_run-requires c =

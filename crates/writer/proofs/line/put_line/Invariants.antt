@@ -1,6 +1,5 @@
 -- `writer::line::put_line` meets its contract. The loop's invariant, `Going`: the codes that are left come to the line, and `above` is b1's place.
 -- It holds in a turn's middle too, behind the ones. What is left of the line falls. Assumes nothing.
-use Prim.Native.Nat.{◌+◌}
 use lib.ListN.{drop}
 use Rattle.writer.proofs.LineLoop.{Going}
 use Rattle.rules.proofs.Ahead.{left_over}

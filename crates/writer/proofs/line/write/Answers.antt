@@ -7,12 +7,11 @@ use Rattle.writer.proofs.Answering.{lent, line-writing, first-of, lined-good, li
 use Rattle.writer.proofs.line.write.Goals as goal
 
 pub put_line-end-requires : goal.put_line-end-requires
-put_line-end-requires c =
-    (
-      lent c.white_terminating-wt.ensures c.black_terminating-bt.ensures c.white_makeup-wm.ensures
-          c.black_makeup-bm.ensures c.common_makeup-common.ensures,
-      c.requires.0,
-    )
+put_line-end-requires c = (
+  lent c.white_terminating-wt.ensures c.black_terminating-bt.ensures c.white_makeup-wm.ensures
+      c.black_makeup-bm.ensures c.common_makeup-common.ensures,
+  c.requires.0,
+)
 
 pub overflow_mul-out : goal.overflow_mul-out
 overflow_mul-out c =

@@ -1,6 +1,5 @@
 -- `writer::line1::put_line1` meets its contract. The loop's invariant, `Going1`: the runs that are left come to the line.
 -- Assumes nothing.
-use Prim.Native.Nat.{◌-◌}
 use native.Mathlib.Omega.{arith}
 use Rattle.writer.proofs.AlongLine1.{change-low}
 use Rattle.writer.proofs.Line1Loop.{begin1, run_room, run-next, end-room, ended1}

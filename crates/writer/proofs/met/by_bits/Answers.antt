@@ -1,6 +1,5 @@
 -- `writer::met::by_bits` meets its contract. The loop's invariant: the bits that are left come to the code's. Assumes nothing.
 use native.Mathlib.Omega.{arith}
-use Prim.Native.Nat.{◌≤◌}
 use mathlib.Core.Path.{sym, ◌∙◌}
 use Rattle.writer.proofs.Leaving.{left-all}
 use Rattle.writer.proofs.BitsMet.{data-ends, bit-differs, bit-met, all-met}

@@ -1,7 +1,6 @@
 -- `writer::met::by_bits` meets its contract. The loop's invariant: the bits that are left come to the code's. Assumes nothing.
 use Prim.Native.Nat.{◌≤◌}
 use Rattle.rules.specs.Bits.{bits_for}
-use mathlib.Core.Path.{◌∙◌}
 use Rattle.writer.proofs.Leaving.{Left}
 use Rattle.writer.proofs.met.by_bits.Given as goal
 

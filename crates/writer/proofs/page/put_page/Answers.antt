@@ -1,6 +1,5 @@
 -- `writer::page::put_page` meets its contract. The loop's invariant, `Paging`: the rows that are left and EOFB come to the page.
 -- Assumes nothing.
-use Prim.Native.Nat.{◌-◌}
 use native.Mathlib.Omega.{arith}
 use Rattle.writer.proofs.AtRows.{tested}
 use Rattle.writer.proofs.PageLoop.{begin, row_room, row-over, row_next, eol-room, last-room, ended}

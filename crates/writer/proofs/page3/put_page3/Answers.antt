@@ -1,7 +1,6 @@
 -- `writer::page3::put_page3` meets its contract. The loop's invariant, `Paging3`: the lines that are left and the end come to the page.
 -- Assumes nothing.
 use mathlib.Core.Path.{refl}
-use Prim.Native.Nat.{◌-◌}
 use native.Mathlib.Omega.{arith}
 use Rattle.writer.specs.Paging3.{layout_of}
 use Rattle.writer.proofs.AtRows.{tested}

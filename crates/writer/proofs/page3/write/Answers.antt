@@ -26,12 +26,11 @@ returns-then-not-ascend c =
     (bad-rows a.columns a.changes.now a.ends.now c.if-ends-eq0.false (sym c.ascend.ensures ∙ not-true _ c.if-not-ascend.true-raw)) c.refusal-then-not-ascend.ensures
 
 pub fitted-requires : goal.fitted-requires
-fitted-requires c =
-    (
-      c.requires (not-false _ c.if-not-allowed.false-raw),
-      sheet (first-passed _ _ (sym c.refused-number.ensures ∙ c.if-number-ne-COMPLETE.false)) (omega (arith, c.ranges.columns)) _ _ _ (sym c.ascend.ensures ∙ not-false _ c.if-not-ascend.false-raw),
-      omega (arith, c.if-ends-eq0.false),
-    )
+fitted-requires c = (
+  c.requires (not-false _ c.if-not-allowed.false-raw),
+  sheet (first-passed _ _ (sym c.refused-number.ensures ∙ c.if-number-ne-COMPLETE.false)) (omega (arith, c.ranges.columns)) _ _ _ (sym c.ascend.ensures ∙ not-false _ c.if-not-ascend.false-raw),
+  omega (arith, c.if-ends-eq0.false),
+)
 
 pub returns : goal.returns
 returns c = answers-3 _ _ _ _ _ _ (not-false _ c.if-not-allowed.false-raw) c.fitted.ensures

@@ -1,8 +1,6 @@
 -- `writer::same_eols::same_filled` meets its contract. The loop's invariant: the zeros that are left and the EOL come to all. Assumes nothing.
 use native.Mathlib.Omega.{arith}
 use borrow.Author.Tests.{not-true, not-false}
-use mathlib.Core.Bool.{false}
-use mathlib.Core.List.{◌++◌}
 use Rattle.writer.proofs.EolCodes.{zeros-spell}
 use Rattle.writer.proofs.Leaving.{left-all}
 use Rattle.writer.proofs.CodesMet3.{fill-parts, fill_on, eol-met}

@@ -1,7 +1,6 @@
 -- `writer::same_eols::same_times` meets its contract. The loop's invariant: the codes that are left come to all. Assumes nothing.
 use native.Mathlib.Omega.{arith}
 use borrow.Author.Tests.{not-true, not-false}
-use Prim.Native.Nat.{◌≤◌}
 use Rattle.rules.specs.Bits.{bits_for}
 use Rattle.writer.proofs.Leaving.{left-all}
 use Rattle.writer.proofs.CodesMet3.{times-parts, times-on, times-met}

@@ -1,6 +1,5 @@
 -- `writer::same_line::same_line` meets its contract. The loop's invariant, `Tracing`: the codes that are left come to the line. What is left of the line falls.
 -- Assumes nothing.
-use Prim.Native.Nat.{◌+◌}
 use lib.ListN.{drop}
 use Rattle.rules.proofs.Ahead.{left_over}
 use Rattle.writer.proofs.CodesMet.{Tracing}

@@ -1,7 +1,6 @@
 -- `writer::same_line1::same_line1` meets its contract. The loop's invariant, `Tracing1`: the runs that are left come to the line. Assumes nothing.
 use native.Mathlib.Omega.{arith}
 use borrow.Author.Tests.{not-true, not-false}
-use Prim.Native.Nat.{◌-◌}
 use Rattle.writer.proofs.AlongLine1.{change-low}
 use Rattle.writer.proofs.CodesMet3.{trace1, run-parts, run_on, line1-met}
 use Rattle.writer.proofs.same_line1.same_line1.Goals as goal

@@ -1,6 +1,5 @@
 -- `writer::same_page::same_page` meets its contract. The loop's invariant, `Turning`: the rows that are left and EOFB come to the page.
 -- Assumes nothing.
-use Prim.Native.Nat.{◌-◌}
 use native.Mathlib.Omega.{arith}
 use borrow.Author.Tests.{not-true, not-false}
 use Rattle.writer.proofs.AtRows.{tested}

@@ -1,6 +1,5 @@
 -- `writer::same_page3::same_page3` meets its contract. The loop's invariant, `Turning3`: the lines that are left and the end come to the page.
 -- Assumes nothing.
-use Prim.Native.Nat.{◌-◌}
 use native.Mathlib.Omega.{arith}
 use borrow.Author.Tests.{not-true, not-false}
 use Rattle.writer.specs.Paging3.{layout_of}
