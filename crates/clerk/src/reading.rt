@@ -174,7 +174,7 @@ pub(crate) fn hint(
             rt,
             b"",
             name,
-            b": an end_of_block mark stands there: --end-of-block is missing",
+            b": an end-of-block mark stands there: --end-of-block is missing",
         );
         return;
     }
@@ -182,6 +182,6 @@ pub(crate) fn hint(
         rt,
         b"",
         name,
-        b": an end_of_line mark stands there: --end-of-line or --end-of-block is missing",
+        b": an end-of-line mark stands there: --end-of-line or --end-of-block is missing",
     );
 }
