@@ -1,9 +1,0 @@
--- The invariant: the turns left only fall. Assumes nothing.
-use Prim.Native.Nat.{◌≤◌}
-use Rattle.clerk.proofs.options.next_file.Given as goal
-
-abbrev pub invariant-loop-left : goal.invariant-loop-left
-invariant-loop-left l = l.left ≤ l.initial.left
-
-abbrev pub decreases-loop-left : goal.decreases-loop-left
-decreases-loop-left l = l.left
