@@ -1,5 +1,5 @@
 -- A form file: whether what its lines say is a form, and what is wrong with it.
-use Rattle.std.specs.Prelude.{◌≡◌, Bool, true, false, ◌&&◌, ◌||◌, not, List, [], ◌∷◌, ℕ, zero, suc, ◌+◌, ◌*◌, ◌/◌, eqb, leb, ltb, length, get_or, take, drop}
+use Rattle.std.specs.Prelude.{◌≡◌, Bool, true, false, ◌&&◌, ◌||◌, not, List, [], ◌∷◌, ℕ, suc, ◌+◌, ◌*◌, ◌/◌, eqb, leb, ltb, length, get_or, take, drop}
 use Rattle.rules.specs.Pages.{overlaid}
 use Rattle.listing_text.specs.Lines.{lines_of}
 use Rattle.heads.specs.Numbers.{box_in}

@@ -1,5 +1,5 @@
 -- What the lines of a form file say together, up to the first that is at fault.
-use Rattle.std.specs.Prelude.{Bool, true, false, ◌&&◌, List, [], ◌∷◌, ◌++◌, ℕ, zero, suc, ◌+◌, ◌*◌, eqb, leb, ltb, get_or, set, replicate}
+use Rattle.std.specs.Prelude.{Bool, true, false, ◌&&◌, List, [], ◌∷◌, ◌++◌, ℕ, suc, ◌+◌, ◌*◌, eqb, leb, ltb, get_or, set, replicate}
 use Rattle.heads.specs.declared.Box.{Box}
 use Rattle.ledger.specs.Verdicts.{no_form_line, said_twice, bad_numbers, too_many_places}
 use Rattle.form_file.specs.declared.Form.{Form}

@@ -1,5 +1,5 @@
 -- What a line of a form file says, by its first word. All words behind it are numbers; the boxes' edges are those of 02 A11: right and bottom are not included.
-use Rattle.std.specs.Prelude.{Bool, true, false, ◌&&◌, List, [], ◌∷◌, ℕ, ◌+◌, ◌*◌, eqb, ltb, length, get_or}
+use Rattle.std.specs.Prelude.{true, false, ◌&&◌, List, [], ◌∷◌, ℕ, ◌+◌, ◌*◌, eqb, ltb, length, get_or}
 use Rattle.listing_text.specs.Text.{ascii}
 use Rattle.heads.specs.Form.{all}
 use Rattle.heads.specs.Numbers.{box_in}

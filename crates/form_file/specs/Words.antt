@@ -1,5 +1,5 @@
 -- A text file as lines of words: lines end with a line feed, `#` begins a comment, words are parted by blanks, and a word of digits is a number.
-use Rattle.std.specs.Prelude.{Bool, true, false, ◌&&◌, ◌||◌, not, List, [], ◌∷◌, ℕ, ◌+◌, ◌*◌, eqb, leb, ltb}
+use Rattle.std.specs.Prelude.{Bool, true, false, ◌&&◌, ◌||◌, List, [], ◌∷◌, ℕ, ◌+◌, ◌*◌, eqb, leb, ltb}
 use Rattle.listing_text.specs.Lines.{pieces}
 use Rattle.listing_text.specs.Reading.{digit_of}
 

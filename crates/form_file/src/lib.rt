@@ -1,5 +1,6 @@
 // A form file: what its lines say, whether that is a form, and what is wrong with it.
 #![tactic(auto)]
+
 mod heard;
 mod said;
 mod whole;

@@ -65,7 +65,7 @@ doubted : said (looked 22 0 0 0 0 54 6 60) ≡ ascii "b\t22\t-\t30\t22: the box 
 unfolding said looked ascii digits decimal S.fill S.shown S.page_line P.words P.reason_at P.plain_at books
 doubted = refl
 
-gave_up : said (looked 23 0 0 0 0 0 0 0) ≡ ascii "b\t23\t-\t30\t23: the page's end_of_line marks stop before its end\n"
+gave_up : said (looked 23 0 0 0 0 0 0 0) ≡ ascii "b\t23\t-\t30\t23: the page's end-of-line marks stop before its end\n"
 unfolding said looked ascii digits decimal S.fill S.shown S.page_line P.words P.reason_at P.plain_at books
 gave_up = refl
 

@@ -65,7 +65,7 @@ words =
     -- 22
     "(said by its lines below)" ∷
     -- 23
-    "the page's end_of_line marks stop before its end" ∷
+    "the page's end-of-line marks stop before its end" ∷
     -- 24
     "the page's bits are not those that a writer writes for its rows: they part at bit C" ∷
     -- 25

@@ -60,7 +60,7 @@ pub(crate) fn phrases() -> [u8; 2942]
         the place of the form's line F has C black pixels, and must have L or more\n\
         the place of the form's line F has C black pixels, and may have M at most\n\
         (said by its lines below)\n\
-        the page's end_of_line marks stop before its end\n\
+        the page's end-of-line marks stop before its end\n\
         the page's bits are not those that a writer writes for its rows: they part at bit C\n\
         the form fits at two places of the page, and they read other heads: L and M\n\
         the form's line F is none of a form\n\

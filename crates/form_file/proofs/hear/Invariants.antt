@@ -1,6 +1,5 @@
 -- `form_file::hear` meets its contract. The invariant is `Going`: the reading of the lines that are left is that of all. Assumes nothing.
-use mathlib.Core.Path.{◌≡◌}
-use Prim.Native.Nat.{◌+◌, ◌-◌, ◌≤◌, ◌<◌}
+use Prim.Native.Nat.{◌-◌}
 use lib.ListN.{length}
 use Rattle.form_file.specs.Going.{heard_from}
 use Rattle.form_file.proofs.Hearing.{Going}

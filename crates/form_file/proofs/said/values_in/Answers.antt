@@ -1,6 +1,6 @@
 -- `form_file::said::values_in` meets its contract. The invariant: the numbers of the words that were passed are told. Assumes nothing.
 use mathlib.Core.Path.{refl}
-use Prim.Native.Nat.{◌-◌, ◌≤◌, ◌<◌}
+use Prim.Native.Nat.{◌≤◌, ◌<◌}
 use native.Mathlib.Omega.{arith}
 use lib.ListN.{length}
 use Rattle.form_file.proofs.Numbering.{told-first, told-next, told-last, word-ends, More, more-not, more-put, more-past}

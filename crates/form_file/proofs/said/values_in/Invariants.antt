@@ -1,5 +1,5 @@
 -- `form_file::said::values_in` meets its contract. The invariant: the numbers of the words that were passed are told. Assumes nothing.
-use Prim.Native.Nat.{◌-◌, ◌≤◌, ◌<◌}
+use Prim.Native.Nat.{◌-◌}
 use lib.ListN.{length, drop}
 use Rattle.form_file.specs.Words.{values_of}
 use Rattle.form_file.specs.Steps.{words_in}

@@ -1,8 +1,6 @@
 -- `form_file::whole::box_outside` meets its contract. The invariant: the first box that is sought lies ahead. Assumes nothing.
-use Prim.Native.Nat.{◌-◌}
 use native.Mathlib.Omega.{arith}
 use Rattle.form_file.specs.Going.{within}
-use Rattle.form_file.specs.FormFile.{box_at}
 use Rattle.form_file.proofs.Firsts.{told-not, sought-start, sought-hit, sought-next, sought-none}
 use Rattle.form_file.proofs.whole.box_outside.Goals as goal
 

@@ -1,8 +1,6 @@
 -- `form_file::whole::box_over` meets its contract. The invariant: the first box that is sought lies ahead. Assumes nothing.
 use mathlib.Core.Path.{sym, ◌∙◌}
-use Prim.Native.Nat.{◌-◌}
 use native.Mathlib.Omega.{arith}
-use Rattle.form_file.specs.FormFile.{overlaps}
 use Rattle.form_file.proofs.Firsts.{sought-start, sought-hit, sought-next, sought-none}
 use Rattle.form_file.proofs.whole.box_over.Goals as goal
 

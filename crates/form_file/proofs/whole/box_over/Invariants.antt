@@ -1,5 +1,4 @@
 -- `form_file::whole::box_over` meets its contract. The invariant: the first box that is sought lies ahead. Assumes nothing.
-use mathlib.Core.Path.{◌∙◌}
 use Prim.Native.Nat.{◌-◌}
 use Rattle.form_file.specs.FormFile.{overlaps}
 use Rattle.form_file.proofs.Firsts.{Sought}

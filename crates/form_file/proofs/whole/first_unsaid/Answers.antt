@@ -1,5 +1,4 @@
 -- `form_file::whole::first_unsaid` meets its contract. The invariant: the first box that is sought lies ahead. Assumes nothing.
-use Prim.Native.Nat.{◌-◌}
 use native.Mathlib.Omega.{arith}
 use borrow.Author.Tests.{eq-eqb, ne_eqb}
 use Rattle.form_file.proofs.Firsts.{sought-start, sought-hit, sought-next, sought-none}

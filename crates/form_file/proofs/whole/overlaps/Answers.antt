@@ -1,6 +1,5 @@
 -- `form_file::whole::overlaps` meets its contract. The invariant: the first box that is sought lies ahead. Assumes nothing.
 use mathlib.Core.Path.{ap, sym, ◌∙◌}
-use Prim.Native.Nat.{◌-◌}
 use native.Mathlib.Omega.{arith}
 use lib.Dec.{ltb}
 use borrow.Author.Tests.{lt-ltb, le-ltb}

@@ -1,5 +1,4 @@
 -- `form_file::whole::overlaps` meets its contract. The invariant: the first box that is sought lies ahead. Assumes nothing.
-use mathlib.Core.Path.{◌∙◌}
 use mathlib.Core.Bool.{not}
 use Prim.Native.Nat.{◌-◌}
 use Rattle.form_file.specs.FormFile.{apart, box_at}

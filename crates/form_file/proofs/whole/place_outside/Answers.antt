@@ -1,5 +1,4 @@
 -- `form_file::whole::place_outside` meets its contract. The invariant: the first place that is sought lies ahead. Assumes nothing.
-use Prim.Native.Nat.{◌-◌, ◌*◌, ◌+◌}
 use native.Mathlib.Omega.{arith}
 use Rattle.form_file.specs.Going.{within}
 use Rattle.form_file.proofs.Firsts.{told-not, sought-start, sought-hit, sought-next, sought-none}

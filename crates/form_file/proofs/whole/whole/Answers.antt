@@ -1,7 +1,6 @@
 -- `form_file::whole::whole` meets its contract: each test hands its outcome to a law of the definition. Assumes nothing.
 use mathlib.Core.Path.{◌∙◌}
 use native.Mathlib.Omega.{arith}
-use Rattle.form_file.specs.FormFile.{faulty}
 use Rattle.form_file.proofs.Sound.{whole-lacks, whole-doubt, whole-outside, whole-over, whole-place, whole-sound}
 use Rattle.form_file.proofs.whole.whole.Goals as goal
 

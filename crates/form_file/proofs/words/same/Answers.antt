@@ -1,5 +1,4 @@
 -- `form_file::words::same` meets its contract. The invariant: the words are as long, and alike as far as they were passed. Assumes nothing.
-use Prim.Native.Nat.{◌-◌}
 use native.Mathlib.Omega.{arith}
 use Rattle.form_file.proofs.Wording.{same_length, alike-first, alike-differ, alike_next, alike_end}
 use Rattle.form_file.proofs.words.same.Goals as goal

@@ -1,5 +1,4 @@
 -- `form_file::words::uncommented` meets its contract. The invariant: no comment begins in what was passed. Assumes nothing.
-use Prim.Native.Nat.{◌-◌}
 use native.Mathlib.Omega.{arith}
 use Rattle.form_file.specs.Steps.{is_plain}
 use Rattle.form_file.proofs.Ahead.{walked-first, walked_next, walked_stop, walked_end, at-comment, at_other}

@@ -1,5 +1,4 @@
 -- `form_file::words::value` meets its contract. The invariant: the number of the digits that were passed. Assumes nothing.
-use Prim.Native.Nat.{◌-◌}
 use native.Mathlib.Omega.{arith}
 use Rattle.form_file.proofs.Wording.{valuing-first, valuing-end, valuing-other, valuing-over, valuing-next}
 use Rattle.form_file.proofs.words.value.Goals as goal

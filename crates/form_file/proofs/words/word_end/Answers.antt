@@ -1,7 +1,6 @@
 -- `form_file::words::word_end` meets its contract. The invariant: all bytes that were passed are letters. Assumes nothing.
 use mathlib.Core.Path.{sym, ap, ◌∙◌}
 use mathlib.Core.Bool.{not}
-use Prim.Native.Nat.{◌-◌}
 use native.Mathlib.Omega.{arith}
 use Rattle.form_file.specs.Steps.{is_letter}
 use Rattle.form_file.proofs.Ahead.{walked-first, walked_next, walked_stop, walked_end}

@@ -1,5 +1,4 @@
 -- `form_file::words::word_end` meets its contract. The invariant: all bytes that were passed are letters. Assumes nothing.
-use mathlib.Core.Path.{◌∙◌}
 use Prim.Native.Nat.{◌-◌}
 use lib.ListN.{length}
 use Rattle.form_file.specs.Steps.{is_letter}

@@ -1,6 +1,5 @@
 -- `form_file::words::word_start` meets its contract. The invariant: all bytes that were passed are blanks. Assumes nothing.
 use mathlib.Core.Path.{sym, ◌∙◌}
-use Prim.Native.Nat.{◌-◌}
 use native.Mathlib.Omega.{arith}
 use borrow.Author.Tests.{not-true, not-false}
 use Rattle.form_file.specs.Words.{is_blank}

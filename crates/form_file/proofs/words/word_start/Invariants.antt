@@ -1,5 +1,4 @@
 -- `form_file::words::word_start` meets its contract. The invariant: all bytes that were passed are blanks. Assumes nothing.
-use mathlib.Core.Path.{◌∙◌}
 use Prim.Native.Nat.{◌-◌}
 use lib.ListN.{length}
 use Rattle.form_file.specs.Words.{is_blank}
