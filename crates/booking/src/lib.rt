@@ -1,5 +1,6 @@
 // The steward's number: from a form file and the bytes of a page to the line that is read.
 #![tactic(auto)]
+
 mod found;
 mod judging;
 mod moving;

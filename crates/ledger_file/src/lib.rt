@@ -1,5 +1,6 @@
 // Ledgers that runs wrote, read again.
 #![tactic(auto)]
+
 mod fields;
 mod namesakes;
 mod onward;

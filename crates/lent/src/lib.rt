@@ -1,6 +1,7 @@
 // The small state of a line, lent to `push_pixels` and changed in place (context.rs). No function asks anything of its caller: a line
 // that no reading makes is refused with its number, 6 or 8, and left as it was.
 #![tactic(auto)]
+
 ghost use Rattle.lent.specs.Lent.{Tested, Lends, start_in};
 
 use context::line;

@@ -1,6 +1,7 @@
 // What a person looks at: one HTML file with the ledger, a table of the pages, the quota over the day, and the picture of each page that
 // is to be looked at with the form drawn over it. Each function writes one piece of it to lent bytes, as docs and specs say it.
 #![tactic(auto)]
+
 mod base64;
 mod bmp;
 mod boxes;

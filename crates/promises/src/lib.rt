@@ -2,6 +2,7 @@
 // statements to the source: each calls a public function and ensures the predicate that the promises are about. A function whose
 // contract is weakened, or asks more, is refused here.
 #![tactic(auto)]
+
 pub mod of_answer;
 pub mod of_bit_reader;
 pub mod of_bit_reader_buffer;

@@ -1,6 +1,7 @@
 // The public reader (bit_reader.rs): it holds the data, and the offset of the next bit. No function asks anything of its caller. An enum
 // cannot hold a reference, so `new` cannot refuse data that is too long for the core; `consume` answers so.
 #![tactic(auto)]
+
 pub mod cursor;
 
 ghost use Rattle.std.specs.Prelude.{◌≡◌, ◌*◌, leb, length};

@@ -13,4 +13,4 @@ slice_bounds-text-end c =
 pub returns : goal.returns
 returns c =
     let told = c.text.ensures in
-    record { prefix_len = told.prefix_len; answers_read = answers-read (length c.args.input.now) c.requires.0 told.answers; }
+    record { prefix_len = told.prefix_len; answers_read = answers-read (length c.args.input.now) c.requires.0 told.answers }

@@ -18,7 +18,7 @@ bad_input-requires c = record { fits = omega (arith, c.requires) }
 pub returns-in_default : goal.returns-in_default
 returns-in_default c =
     let p = printed c.bad_input.ensures in
-    record { prefix_len = p.0; answers = bad_line (subst (Says c.args.input.now) c.in_default.is c.parse.ensures) p.1; }
+    record { prefix_len = p.0; answers = bad_line (subst (Says c.args.input.now) c.in_default.is c.parse.ensures) p.1 }
 
 pub slice_bounds-src-count : goal.slice_bounds-src-count
 slice_bounds-src-count c = ((let h-said : Says c.args.input.now (found c.in-Settings.settings c.in-Settings.at) = subst (Says c.args.input.now) c.in-Settings.is c.parse.ensures in h-said)).1
@@ -34,7 +34,7 @@ pub returns-then-src-gt16384 : goal.returns-then-src-gt16384
 returns-then-src-gt16384 c =
     let at = c.in-Settings.at in
     let p = printed c.bad_input-then-src-gt16384.ensures in
-    record { prefix_len = p.0; answers = too_long c.in-Settings.settings at ((let h-said : Says c.args.input.now (found c.in-Settings.settings c.in-Settings.at) = subst (Says c.args.input.now) c.in-Settings.is c.parse.ensures in h-said)) (omega (arith, c.if-src-gt16384.true, length-drop at c.args.input.now)) p.1; }
+    record { prefix_len = p.0; answers = too_long c.in-Settings.settings at ((let h-said : Says c.args.input.now (found c.in-Settings.settings c.in-Settings.at) = subst (Says c.args.input.now) c.in-Settings.is c.parse.ensures in h-said)) (omega (arith, c.if-src-gt16384.true, length-drop at c.args.input.now)) p.1 }
 
 pub returns : goal.returns
 returns c =
@@ -42,4 +42,4 @@ returns c =
     let s = c.in-Settings.settings in
     let at = c.in-Settings.at in
     let p = printed c.page.ensures in
-    record { prefix_len = p.0; answers = a-page s at ((let h-said : Says c.args.input.now (found c.in-Settings.settings c.in-Settings.at) = subst (Says c.args.input.now) c.in-Settings.is c.parse.ensures in h-said)) (omega (arith, c.if-src-gt16384.false, length-drop at input)) (p.1 ∙ ap (page_text (settings_of s)) (lent-rest input at)); }
+    record { prefix_len = p.0; answers = a-page s at ((let h-said : Says c.args.input.now (found c.in-Settings.settings c.in-Settings.at) = subst (Says c.args.input.now) c.in-Settings.is c.parse.ensures in h-said)) (omega (arith, c.if-src-gt16384.false, length-drop at input)) (p.1 ∙ ap (page_text (settings_of s)) (lent-rest input at)) }
