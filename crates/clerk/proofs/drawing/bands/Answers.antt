@@ -1,6 +1,4 @@
 -- The invariant: the counter stays within its end; the array keeps its length. Assumes nothing.
-use mathlib.Core.Path.{◌≡◌}
-use Prim.Native.Nat.{◌-◌, ◌≤◌}
 use native.Mathlib.Omega.{arith}
 use Rattle.clerk.proofs.drawing.bands.Goals as goal
 

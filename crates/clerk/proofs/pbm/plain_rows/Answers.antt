@@ -1,6 +1,4 @@
 -- The invariant: the arrays keep their lengths. Assumes nothing.
-use mathlib.Core.Path.{◌≡◌}
-use Prim.Native.Nat.{◌-◌, ◌≤◌}
 use native.Mathlib.Omega.{arith}
 use Rattle.clerk.proofs.pbm.plain_rows.Goals as goal
 

@@ -1,6 +1,4 @@
 -- The invariant: the array keeps its length. Assumes nothing.
-use mathlib.Core.Path.{◌≡◌}
-use Prim.Native.Nat.{◌-◌, ◌≤◌}
 use native.Mathlib.Omega.{arith}
 use Rattle.clerk.proofs.pbm.row.Goals as goal
 

@@ -1,5 +1,4 @@
 -- The invariant: the place only rises. Assumes nothing.
-use Prim.Native.Nat.{◌-◌, ◌≤◌}
 use native.Mathlib.Omega.{arith}
 use Rattle.clerk.proofs.text.ends.Goals as goal
 

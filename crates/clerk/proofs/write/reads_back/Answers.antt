@@ -1,6 +1,4 @@
 -- The invariant: the rows left only fall; the arrays keep their lengths. Assumes nothing.
-use mathlib.Core.Path.{◌≡◌}
-use Prim.Native.Nat.{◌≤◌}
 use native.Mathlib.Omega.{arith}
 use Rattle.clerk.proofs.write.reads_back.Goals as goal
 
