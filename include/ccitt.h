@@ -1,5 +1,5 @@
 /* The fax decoder, the T.6 and T.4 writers, bitmaps, the heads on a form and the verdict on a faxed form, for C and C++.
-   Link libexports.a: `rt staticlib exports` proves and builds target/staticlib/libexports.a for x86-64, `./native` compiles
+   Link libexports.a: `./library` proves and builds target/staticlib/libexports.a for x86-64, `./native` compiles
    it for the processor at hand.
 
    A caller uses the functions of the last part, from ccitt_decode on: each takes what it reads and writes with names,

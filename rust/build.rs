@@ -108,13 +108,13 @@ fn named(folder: PathBuf) -> Result<PathBuf, String> {
 }
 
 /// The folder of target/ that the library for a processor is built into, and the words that build it.
-fn made_for(arch: &str) -> (String, [String; 3]) {
+fn made_for(arch: &str) -> (String, Vec<String>) {
     if arch == OURS {
-        return ("staticlib".into(), ["rt".into(), "staticlib".into(), "exports".into()]);
+        return ("staticlib".into(), vec!["sh".into(), "library".into()]);
     }
     let host = env::var("HOST").unwrap_or_default();
     let folder = if host.starts_with(arch) { "native".into() } else { format!("native-{arch}") };
-    (folder, ["bash".into(), "native".into(), arch.into()])
+    (folder, vec!["bash".into(), "native".into(), arch.into()])
 }
 
 /// The repository's own library, which `rt` proves and builds where it is not there.
@@ -142,7 +142,7 @@ fn is_newer(one: &Path, other: &Path) -> bool {
     matches!((time(one), time(other)), (Some(one), Some(other)) if one > other)
 }
 
-fn prove(root: &Path, folder: &Path, words: &[String; 3]) -> Result<(), String> {
+fn prove(root: &Path, folder: &Path, words: &[String]) -> Result<(), String> {
     let lacking = format!("there is no {FILE} in {}", folder.display());
     let instead = format!("Or name a folder that has one in {FOLDER}.");
     if !root.join("crates.txt").is_file() {
@@ -174,7 +174,7 @@ fn test_functions(file: &Path, bytes: &[u8]) -> Result<(), String> {
     match FUNCTIONS.iter().find(|name| !has(name)) {
         None => Ok(()),
         Some(name) => Err(format!(
-            "{} has no {name}: it is older than this package. `rt staticlib exports` in the repository, or on Arm `./native`, builds it anew.",
+            "{} has no {name}: it is older than this package. `./library` in the repository, or on Arm `./native`, builds it anew.",
             file.display()
         )),
     }
