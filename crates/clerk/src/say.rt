@@ -142,7 +142,7 @@ pub(crate) fn reason(rt: &HostRuntime, of: &[u8], words: &[u8], n: usize) {
     message(rt, lines::front(words, n));
 }
 
-// Whether the file that was written, where it is one, holds all of it: some file systems tell only then what they had no room for.
+// Whether what was written is kept, where it is a file: some file systems tell only as they store it that they have no room.
 pub(crate) fn is_kept(rt: &HostRuntime) -> bool {
     match fs::metadata(rt, OUTPUT) {
         Ok(found) if found.is_file() => {}
