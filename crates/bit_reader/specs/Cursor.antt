@@ -1,9 +1,7 @@
 -- A cursor over data: the offset of a bit.
-use Rattle.std.specs.Prelude.{◌≡◌, Bool, cond, List, ℕ, ◌+◌, ◌*◌, ◌≤◌, ◌<◌, leb}
+use Rattle.std.specs.Prelude.{◌≡◌, Bool, cond, List, ℕ, ◌+◌, ◌*◌, ◌≤◌, ◌<◌, leb, Option, Some, None}
 use Rattle.rules.specs.Bits.{peek}
 use Rattle.rules.specs.Pages.{most_bytes}
-use Rattle.bit_reader.specs.declared.Moved.{Moved}
-use Rattle.bit_reader.specs.declared.Moved.TheVariants.{To, End}
 
 -- the bits of the largest data
 abbrev pub most_bits : ℕ
@@ -21,5 +19,5 @@ pub record Taking (len at n : ℕ) : Type 0 where
   pub few : n ≤ 32
 
 -- `n` bits on, where the data has them
-abbrev pub moved_by : ℕ → ℕ → ℕ → Moved
-moved_by len at n = cond (leb (at + n) (8 * len)) (To (at + n)) End
+abbrev pub moved_by : ℕ → ℕ → ℕ → Option ℕ
+moved_by len at n = cond (leb (at + n) (8 * len)) (Some (at + n)) None

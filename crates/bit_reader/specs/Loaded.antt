@@ -1,10 +1,8 @@
 -- What a buffer holds of the data.
-use Rattle.std.specs.Prelude.{◌≡◌, Bool, List, ℕ, ◌+◌, ◌-◌, ◌*◌, ◌^◌, ◌≤◌, ◌<◌, length, drop}
+use Rattle.std.specs.Prelude.{◌≡◌, Bool, List, ℕ, ◌+◌, ◌-◌, ◌*◌, ◌^◌, ◌≤◌, ◌<◌, length, drop, Option, Some, None}
 use Rattle.rules.specs.Bits.{bits_of, peek}
 use Rattle.rules.specs.Pages.{most_bytes}
 use Rattle.bit_reader.specs.declared.buffer.Buffer.{Buffer}
-use Rattle.bit_reader.specs.declared.buffer.Fed.{Fed}
-use Rattle.bit_reader.specs.declared.buffer.Fed.TheVariants.{On, End}
 
 -- the first `live` bits on top of a word of 64, zeros below
 abbrev pub on_top : ℕ → List Bool → ℕ
@@ -42,9 +40,9 @@ pub record Feeding (bytes : List ℕ) (b : Buffer) (n : ℕ) : Type 0 where
   pub few : n ≤ 15
 
 -- what `feed` answers: a buffer at the offset, or that the data ends before it
-abbrev pub fed_at : List ℕ → ℕ → Fed → Type 0
-fed_at bytes next (On b) = LoadedAt bytes next b
-fed_at bytes next End = 8 * length bytes < next
+abbrev pub fed_at : List ℕ → ℕ → Option Buffer → Type 0
+fed_at bytes next (Some b) = LoadedAt bytes next b
+fed_at bytes next None = 8 * length bytes < next
 
 -- the number of the next 13 bits of the data that a buffer holds, and that it is an index of a lookup table
 pub record Top (b : Buffer) (r : ℕ) : Type 0 where

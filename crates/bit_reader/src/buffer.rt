@@ -1,5 +1,5 @@
 // A buffer for reading runs: it lives inside one loop over their codes, where loading the data at each code would cost the most.
-ghost use Rattle.std.specs.Prelude.{◌+◌, min, ◌≡◌};
+ghost use Rattle.std.specs.Prelude.{◌+◌, ◌≡◌};
 ghost use Rattle.bit_reader.specs.Loaded.{LoadedAt, Loading, Feeding, fed_at, Top};
 
 use crate::word;
@@ -12,12 +12,6 @@ pub struct Buffer {
     pub bits: u64,
 }
 
-fn lesser(a: usize, b: usize) -> usize
-    ensures { result ≡ min a b }
-{
-    if a < b { a } else { b }
-}
-
 // A buffer at a bit of the data, with at least the next 13 bits.
 pub fn load(src: &[u8], at: usize) -> Buffer
     requires { Loading src.now at }
@@ -25,7 +19,7 @@ pub fn load(src: &[u8], at: usize) -> Buffer
 {
     let i = at / 8;
     // The last 13 of the 64 bits from byte `i` begin at bit 51 of them.
-    let limit = lesser(src.len() * 8, i * 8 + 51);
+    let limit = usize::min(src.len() * 8, i * 8 + 51);
     let w = word::word(src, i);
     Buffer {
         at: at,
@@ -34,30 +28,23 @@ pub fn load(src: &[u8], at: usize) -> Buffer
     }
 }
 
-// `End` stands for the crate's `UnexpectedEof`.
-#[derive(Clone, Copy)]
-pub enum Fed {
-    On(Buffer),
-    End,
-}
-
-// `n` bits on.
-pub fn feed(src: &[u8], b: Buffer, n: usize) -> Fed
+// `n` bits on; none where the data ends before, which is the crate's `UnexpectedEof`.
+pub fn feed(src: &[u8], b: Buffer, n: usize) -> Option<Buffer>
     requires { Feeding src.now b n }
     ensures { fed_at src.now (b.at + n) result }
 {
     let next = b.at + n;
     if next <= b.limit {
-        return Fed::On(Buffer {
+        return Some(Buffer {
             at: next,
             limit: b.limit,
             bits: b.bits << n,
         });
     }
     if src.len() * 8 < next {
-        return Fed::End;
+        return None;
     }
-    Fed::On(load(src, next))
+    Some(load(src, next))
 }
 
 // The next 13 bits.

@@ -45,23 +45,16 @@ pub fn peek13(src: &[u8], at: usize) -> usize
     ((word::word(src, at / 8) >> (51 - at % 8)) % 8192) as usize
 }
 
-// `End` stands for the crate's `UnexpectedEof`, which leaves its reader at the end of the data.
-#[derive(Drop)]
-pub enum Moved {
-    To(usize),
-    End,
-}
-
-// `n` bits on, in data of `len` bytes.
-pub fn consume(len: usize, at: usize, n: usize) -> Moved
+// `n` bits on, in data of `len` bytes; none past its end, which is the crate's `UnexpectedEof` and leaves its reader there.
+pub fn consume(len: usize, at: usize, n: usize) -> Option<usize>
     requires { Taking len at n }
     ensures { result ≡ moved_by len at n }
 {
     let next = at + n;
     if next <= 8 * len {
-        return Moved::To(next);
+        return Some(next);
     }
-    Moved::End
+    None
 }
 
 // The next byte's first bit, or `at` itself where it is one. The data ends with a byte, so this stays inside it.

@@ -1,8 +1,9 @@
--- `bit_reader::zeros::first_one` meets its contract. The invariant: no one stands before byte `i`. The measure is the bytes left. Assumes nothing.
-use Prim.Native.Nat.{◌*◌, ◌%◌, ◌^◌}
+-- `bit_reader::zeros::first_one` meets its contract. The invariant: no one stands before byte `i`. Assumes nothing.
+use Prim.Native.Nat.{◌+◌, ◌*◌, ◌%◌, ◌^◌}
 use native.Mathlib.Omega.{arith}
 use lib.Count as Count
 use Rattle.bit_reader.proofs.Clear.{first-clear, first_part, word-clear, word-one, all-clear}
+use Rattle.bit_reader.proofs.zeros.first_one.Goals.{else-loop-i-test, then-loop-i-test+else-bits-ne0+else-len-i-gt8}
 use Rattle.bit_reader.proofs.zeros.first_one.Goals as goal
 
 pub overflow_cast-result : goal.overflow_cast-result
@@ -40,4 +41,9 @@ loop-i-preserved c =
 
 pub returns : goal.returns
 returns c =
-    all-clear c.args.src.now c.loop-i.i c.loop-i.invariant c.loop-i-test.false
+    let src = c.args.src.now in
+    elim c.loop-i-test.branch [
+      | else-loop-i-test w ↦ all-clear src c.loop-i.i c.loop-i.invariant w.loop-i-test.false
+      | then-loop-i-test+else-bits-ne0+else-len-i-gt8 w ↦
+          all-clear src (c.loop-i.i + 8) (word-clear src c.loop-i.i c.loop-i.invariant w.word-bits.ensures (omega (arith, w.if-bits-ne0.false))) (omega arith)
+    ]
