@@ -75,19 +75,12 @@ pub fn lookup<'a>(white: &'a [u16; 8192], black: &'a [u16; 8192], colour: usize,
     }
 }
 
-// A cast of an element in place would ask each caller that the element fits.
-fn as_u32(x: u16) -> u32
-    ensures { result ≡ x }
-{
-    x as u32
-}
-
 fn from_row(row: [u16; 3]) -> Code
     ensures { SameBits result (code_of row) }
 {
     Code {
-        size: as_u32(row[1]),
-        word: as_u32(row[2]),
+        size: u32::from(row[1]),
+        word: u32::from(row[2]),
     }
 }
 
