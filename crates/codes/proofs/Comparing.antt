@@ -6,6 +6,7 @@ use Prim.Native.Nat.{ℕ, suc, ◌+◌, ◌-◌, ◌*◌, ◌^◌, ◌≤◌, �
 use native.Mathlib.Omega.{arith}
 use native.Mathlib.Numerals.{add-one}
 use lib.Dec.{leb, ltb}
+use Rattle.std.specs.Prelude.{Result, Ok, Err}
 use lib.ListN.{length, get_or, take, drop, length-drop, drop_of_length-le}
 use lib.Pow.{pow_mono}
 use lib.Seq.{take-suc, drop-cons}
@@ -23,8 +24,8 @@ use Rattle.rules.proofs.Bits.{window-take, peek-lt, peek-one, bits-peek, length-
 use Rattle.rules.proofs.Codes.{shape}
 use Rattle.codes.specs.Plain.{agreed, found_of}
 use Rattle.codes.specs.Runs.{summed, Addable}
-use Rattle.codes.specs.declared.plain.Found as OfCode
-use Rattle.codes.specs.declared.plain.Found.TheVariants as Variant
+use Rattle.codes.specs.declared.plain.Code.{Code}
+use Rattle.codes.specs.declared.plain.LostCode.{LostCode}
 use Rattle.codes.proofs.Runs.{Summing, sum-stops, sum_goes}
 use Rattle.codes.proofs.Verdicts.{saying}
 
@@ -195,9 +196,9 @@ module _ (colour : Colour) (bytes : List ℕ) (at : ℕ) (inside' : at ≤ 8 * l
 
 -- whichever code was found at a bit of the data, it can be added, and that is a step of the run
 module _ (colour : Colour) (bytes : List ℕ) (at : ℕ) (inside' : at ≤ 8 * length bytes) where
-  pub addable : length bytes ≤ most_bytes → (f : OfCode.Found) → found_of f ≡ plain colour (drop at (bits_of bytes)) → Addable at f
-  addable h (Variant.Code run taken) e = let k = found_inside colour bytes at inside' 0 run taken e in (omega (arith, k), omega (arith, k))
-  addable h (Variant.Lost n taken) e = tt
+  pub addable : length bytes ≤ most_bytes → (f : Result Code LostCode) → found_of f ≡ plain colour (drop at (bits_of bytes)) → Addable at f
+  addable h (Ok c) e = let k = found_inside colour bytes at inside' 0 c.run c.taken e in (omega (arith, k), omega (arith, k))
+  addable h (Err l) e = tt
 
   pub code-steps : (total : ℕ) (f : Found) → f ≡ plain colour (drop at (bits_of bytes)) → summed (sum at total) f ≡ run_step colour (bits_of bytes) (sum at total)
   code-steps total (found run taken) e = sym (added colour bytes at inside' total run taken e)

@@ -9,6 +9,7 @@ use native.Mathlib.Omega.{arith}
 use native.Mathlib.Nat.{suc-add}
 use lib.Count as Count
 use lib.Dec.{eqb, leb}
+use Rattle.std.specs.Prelude.{Option, Some, None}
 use lib.IntN.{ℤ, pos, negsuc}
 use lib.ListN.{length, drop}
 use lib.Signed.{mag}
@@ -23,8 +24,6 @@ use Rattle.rules.proofs.Bits.{peek-high, peek-low, length-bits_of}
 use Rattle.rules.proofs.Modes.{modes-agree}
 use Rattle.bit_reader.specs.Cursor.{moved_by}
 use Rattle.bit_reader.specs.Loaded.{on_top, Ahead}
-use Rattle.bit_reader.specs.declared.Moved.{Moved}
-use Rattle.bit_reader.specs.declared.Moved.TheVariants.{To, End}
 use Rattle.bit_reader.proofs.Window.{ahead-first}
 use Rattle.bit_reader.proofs.Clear.{zeros-of-number, top-leading}
 use Rattle.codes.specs.Modes.{offset_mode}
@@ -183,28 +182,28 @@ module _ {bytes : List ℕ} {at live bits : ℕ} (h : Ahead bytes at live bits) 
 -- ---- The bits of a code
 
 -- what a mode's code, and six zeros, come to, by whether the data has their bits
-abbrev pub moved : ℕ → Mode → Moved → Res Moded
-moved at m (To next) = ok (moded next m)
-moved at m End = fault 2 at
+abbrev pub moved : ℕ → Mode → Option ℕ → Res Moded
+moved at m (Some next) = ok (moded next m)
+moved at m None = fault 2 at
 
-abbrev pub missed : ℕ → Moved → Res Moded
-missed at (To next) = fault 1 at
-missed at End = fault 2 at
+abbrev pub missed : ℕ → Option ℕ → Res Moded
+missed at (Some next) = fault 1 at
+missed at None = fault 2 at
 
 module _ (len at : ℕ) where
-  pub mode-moved : (n : ℕ) {k m : Mode} {o : Moved} → k ≡ m → moved_by len at n ≡ o → moved at m o ≡ mode_take (8 * len) at (known k n)
+  pub mode-moved : (n : ℕ) {k m : Mode} {o : Option ℕ} → k ≡ m → moved_by len at n ≡ o → moved at m o ≡ mode_take (8 * len) at (known k n)
   unfolding mode_take
   mode-moved n {m = m} q e =
       ap (moved at m) (sym e) ∙ tests (leb (at + n) (8 * len)) ∙ ap (λ (k : Mode). mode_take (8 * len) at (known k n)) (sym q)
     where
-      tests : (b : Bool) → moved at m (cond b (To (at + n)) End) ≡ cond b (ok (moded (at + n) m)) (fault 2 at)
+      tests : (b : Bool) → moved at m (cond b (Some (at + n)) None) ≡ cond b (ok (moded (at + n) m)) (fault 2 at)
       tests true = refl
       tests false = refl
 
-  pub mode-missed : {o : Moved} → moved_by len at 6 ≡ o → missed at o ≡ mode_take (8 * len) at unknown
+  pub mode-missed : {o : Option ℕ} → moved_by len at 6 ≡ o → missed at o ≡ mode_take (8 * len) at unknown
   unfolding mode_take
   mode-missed e = ap (missed at) (sym e) ∙ tests (leb (at + 6) (8 * len))
     where
-      tests : (b : Bool) → missed at (cond b (To (at + 6)) End) ≡ fault (cond b 1 2) at
+      tests : (b : Bool) → missed at (cond b (Some (at + 6)) None) ≡ fault (cond b 1 2) at
       tests true = refl
       tests false = refl

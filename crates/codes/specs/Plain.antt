@@ -1,19 +1,19 @@
 -- What the plain engine's answers mean, and what its parts are lent.
-use Rattle.std.specs.Prelude.{◌≡◌, List, [], ◌∷◌, ◌++◌, map, Bool, ℕ, ◌^◌, ◌≤◌, ◌<◌, length}
+use Rattle.std.specs.Prelude.{◌≡◌, List, [], ◌∷◌, ◌++◌, map, Bool, ℕ, ◌^◌, ◌≤◌, ◌<◌, length, Result, Ok, Err}
 use Rattle.rules.specs.Codes as Codes
 use Rattle.rules.specs.Codes.{Colour, common_makeup, terminating_of, makeup_of, codes_of}
 use Rattle.rules.specs.Plain as Rule
 use Rattle.rules.specs.Plain.{Candidate, agreeing, found, lost, no_code, is_code, more_bits}
 use Rattle.tables.specs.Tables.{rows, code_of}
 use Rattle.answer.specs.Answer.{number_of}
-use Rattle.codes.specs.declared.plain.Found.{Found}
-use Rattle.codes.specs.declared.plain.Found.TheVariants.{Code, Lost}
+use Rattle.codes.specs.declared.plain.Code.{Code}
+use Rattle.codes.specs.declared.plain.LostCode.{LostCode}
 use Rattle.codes.specs.declared.plain.Verdict.{Verdict}
 use Rattle.codes.specs.declared.plain.Verdict.TheVariants.{NoCode, IsCode, MoreBits}
 
-abbrev pub found_of : Found → Rule.Found
-found_of (Code run taken) = found run taken
-found_of (Lost e taken) = lost (number_of e) taken
+abbrev pub found_of : Result Code LostCode → Rule.Found
+found_of (Ok c) = found c.run c.taken
+found_of (Err e) = lost (number_of e.error) e.taken
 
 abbrev pub verdict_of : Verdict → Rule.Verdict
 verdict_of NoCode = no_code

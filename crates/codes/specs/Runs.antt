@@ -1,5 +1,5 @@
 -- What the answer of the run reader means.
-use Rattle.std.specs.Prelude.{◌≡◌, cond, List, ℕ, ◌+◌, ◌*◌, ◌≤◌, leb, ltb, length}
+use Rattle.std.specs.Prelude.{◌≡◌, cond, List, ℕ, ◌+◌, ◌*◌, ◌≤◌, leb, ltb, length, Result, Ok, Err}
 use Rattle.rules.specs.Bits.{bits_of}
 use Rattle.rules.specs.Codes.{Colour}
 use Rattle.rules.specs.Machine.{Out, more, done}
@@ -10,35 +10,35 @@ use Rattle.rules.specs.Plain.{found, lost}
 use Rattle.bit_reader.specs.Loaded.{Loaded}
 use Rattle.bit_reader.specs.declared.buffer.Buffer.{Buffer}
 use Rattle.answer.specs.Answer.{number_of}
-use Rattle.codes.specs.declared.plain.Found.{Found}
-use Rattle.codes.specs.declared.run.Run.{Run}
-use Rattle.codes.specs.declared.run.Run.TheVariants.{Length, Bad}
+use Rattle.codes.specs.declared.fault.Fault.{Fault}
+use Rattle.codes.specs.declared.plain.Code.{Code}
+use Rattle.codes.specs.declared.plain.LostCode.{LostCode}
 use Rattle.codes.specs.declared.run.RunCode.{RunCode}
 
-abbrev pub run_of : Run → Res Sum
-run_of (Length n b) = ok (sum b.at n)
-run_of (Bad e place) = fault (number_of e) place
+abbrev pub run_of : Result (ℕ × Buffer) Fault → Res Sum
+run_of (Ok r) = ok (sum r.1.at r.0)
+run_of (Err e) = fault (number_of e.error) e.at
 
 -- the buffer behind a run holds the data again
-abbrev pub LoadedAfter : List ℕ → Run → Type 0
-LoadedAfter bytes (Length n b) = Loaded bytes b
-LoadedAfter bytes (Bad e place) = Unit {0}
+abbrev pub LoadedAfter : List ℕ → Result (ℕ × Buffer) Fault → Type 0
+LoadedAfter bytes (Ok r) = Loaded bytes r.1
+LoadedAfter bytes (Err e) = Unit {0}
 
 -- what the run reader asks: a buffer that holds the data
 pub record Reading (bytes : List ℕ) (start : Buffer) : Type 0 where
   pub size : length bytes ≤ most_bytes
   pub loaded : Loaded bytes start
 
-pub record RunRead (colour : Colour) (bytes : List ℕ) (at : ℕ) (r : Run) : Type 0 where
+pub record RunRead (colour : Colour) (bytes : List ℕ) (at : ℕ) (r : Result (ℕ × Buffer) Fault) : Type 0 where
   pub same : run_of r ≡ read_run colour (bits_of bytes) at
   pub loaded : LoadedAfter bytes r
 
 -- ---- One code of a run
 
-abbrev pub code_of : RunCode → Out Sum (Res Sum)
-code_of (RunCode.Last total at) = done (ok (sum at total))
-code_of (RunCode.More total at) = more (sum at total)
-code_of (RunCode.Bad e place) = done (fault (number_of e) place)
+abbrev pub code_of : Result RunCode Fault → Out Sum (Res Sum)
+code_of (Ok (RunCode.Last total at)) = done (ok (sum at total))
+code_of (Ok (RunCode.More total at)) = more (sum at total)
+code_of (Err e) = done (fault (number_of e.error) e.at)
 
 -- What a code makes of the sum so far, whichever engine found it: "A sum above 4,294,967,295 is 3" (01, "Codes"), and a run of less than 64 is the last.
 abbrev pub summed : Sum → Rule.Found → Out Sum (Res Sum)
@@ -49,6 +49,6 @@ summed s (found run taken) =
 summed s (lost n taken) = done (fault n s.at)
 
 -- what adding one asks: no code has a longer run than 2,560, and its bits lie in the data
-abbrev pub Addable : ℕ → Found → Type 0
-Addable at (Found.Code run taken) = (run ≤ 2560) × (at + taken ≤ 8 * most_bytes)
-Addable at (Found.Lost e taken) = Unit {0}
+abbrev pub Addable : ℕ → Result Code LostCode → Type 0
+Addable at (Ok c) = (c.run ≤ 2560) × (at + c.taken ≤ 8 * most_bytes)
+Addable at (Err e) = Unit {0}

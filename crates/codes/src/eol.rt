@@ -18,29 +18,26 @@ pub fn read_eols(src: &[u8], from: usize, max: usize) -> Eols
     ensures { eols_of result ≡ read_eols max (bits_of src.now) from }
 {
     let end = 8 * src.len();
-    let mut count: usize = 0;
     let mut at = from;
-    while count < max {
+    for count in 0..max {
         let ahead = bit_reader::peek(src, at) >> 20;
         // A one among the next eleven bits: no EOL begins here.
         if 1 < ahead {
-            break;
+            return Eols { count, at };
         }
         // Eleven zeros and a one: an EOL without fill. The next code need not wait for a count.
         if ahead == 1 {
             at += 12;
-            count += 1;
             continue;
         }
         // Twelve zeros, of the data or past it.
         let one = bit_reader::zeros::first_one(src, at);
         if one >= end {
-            break;
+            return Eols { count, at };
         }
         at = one + 1;
-        count += 1;
     }
-    Eols { count, at }
+    Eols { count: max, at }
 }
 
 // There are fewer of them than bits.
@@ -51,14 +48,8 @@ pub fn read_all_eols(src: &[u8], from: usize) -> Eols
     read_eols(src, from, 8 * src.len())
 }
 
-#[derive(Clone, Copy)]
-pub enum Skip {
-    To(usize),
-    Nowhere,
-}
-
-// The first bit of the next EOL, fill included. A one that closes fewer zeros is passed, and the count begins anew behind it.
-pub fn skip_to_eol(src: &[u8], from: usize) -> Skip
+// The first bit of the next EOL, fill included, if there is one. A one that closes fewer zeros is passed, and the count begins anew behind it.
+pub fn skip_to_eol(src: &[u8], from: usize) -> Option<usize>
     requires { Loading src.now from }
     ensures { skip_of result ≡ skip_to_eol (bits_of src.now) from }
 {
@@ -81,7 +72,7 @@ pub fn skip_to_eol(src: &[u8], from: usize) -> Skip
     }
     // Eleven zeros, of the data or past it: an EOL where a one closes them.
     if bit_reader::zeros::first_one(src, at) >= 8 * src.len() {
-        return Skip::Nowhere;
+        return None;
     }
-    Skip::To(at)
+    Some(at)
 }

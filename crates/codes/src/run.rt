@@ -9,20 +9,14 @@ ghost use Rattle.bit_reader.specs.Loaded.{Loading};
 ghost use Rattle.codes.specs.Plain.{found_of};
 ghost use Rattle.codes.specs.Runs.{Reading, RunRead, code_of, Addable, summed};
 
-use crate::plain::Found;
+use crate::Fault;
+use crate::plain::{Code, LostCode};
 use answer::DecodeError;
 use bit_reader::buffer;
-use bit_reader::buffer::{Buffer, Fed};
+use bit_reader::buffer::Buffer;
 
 // A sum of runs, where it is counted in 64 bits.
 pub(crate) const MOST_SUM: usize = answer::MOST_PIXELS as usize;
-
-// A run and the buffer behind it; or the error, and the bit at which the failing code began.
-#[derive(Clone, Copy)]
-pub enum Run {
-    Length(u32, Buffer),
-    Bad(DecodeError, usize),
-}
 
 // An entry has its run in the low 12 bits, and the length of its code above them.
 pub(crate) fn run_in(entry: u16) -> u32
@@ -37,49 +31,46 @@ pub(crate) fn size_in(entry: u16) -> usize
     (entry / 4096) as usize
 }
 
-// The run of a colour: 0 is white, any other number black.
-pub fn read_run(colour: usize, src: &[u8], start: Buffer) -> Run
+// The run of a colour, and the buffer behind it: 0 is white, any other number black.
+pub fn read_run(colour: usize, src: &[u8], start: Buffer) -> Result<(u32, Buffer), Fault>
     requires { Reading src.now start }
     ensures { RunRead (colour_of colour) src.now start.at result }
 {
     let mut b = start;
     let mut sum: u32 = 0;
-    let total = loop {
+    loop {
         let at = b.at;
         let top = buffer::top13(b);
         let entry = squeezed::entry(colour, top);
         let run = run_in(entry);
         // The zeros that are seen past the end never complete a code: its bits must all be there.
-        let Fed::On(next) = buffer::feed(src, b, size_in(entry)) else {
-            return Run::Bad(DecodeError::UnexpectedEof, at);
+        let Some(next) = buffer::feed(src, b, size_in(entry)) else {
+            return Err(Fault::new(DecodeError::UnexpectedEof, at));
         };
         if run == 4095 {
-            return Run::Bad(DecodeError::InvalidCode, at);
+            return Err(Fault::new(DecodeError::InvalidCode, at));
         }
         if answer::MOST_PIXELS - run < sum {
-            return Run::Bad(DecodeError::Overflow, at);
+            return Err(Fault::new(DecodeError::Overflow, at));
         }
         b = next;
         sum += run;
         if run < 64 {
-            break sum;
+            return Ok((sum, b));
         }
-    };
-    Run::Length(total, b)
+    }
 }
 
-// One code of a run, with the sum so far: the last code, or a make-up code, each with the bit after it; or the error, and the
-// code's first bit.
+// One code of a run, with the sum so far: the last code, or a make-up code, each with the bit after it.
 #[derive(Clone, Copy)]
 pub enum RunCode {
     Last(u32, usize),
     More(u32, usize),
-    Bad(DecodeError, usize),
 }
 
 // The code of a colour that begins at a bit, by its lookup table. The zeros that are seen past the end never complete a code: its
 // bits must all be there.
-pub fn look_up(colour: usize, src: &[u8], at: usize) -> Found
+pub fn look_up(colour: usize, src: &[u8], at: usize) -> Result<Code, LostCode>
     requires { Loading src.now at }
     ensures { found_of result ≡ by_lookup (colour_of colour) (drop at (bits_of src.now)) }
 {
@@ -89,36 +80,46 @@ pub fn look_up(colour: usize, src: &[u8], at: usize) -> Found
     let size = size_in(entry);
     let left = 8 * src.len() - at;
     if left < size {
-        return Found::Lost(DecodeError::UnexpectedEof, left);
+        return Err(LostCode {
+            error: DecodeError::UnexpectedEof,
+            taken: left,
+        });
     }
     if run == 4095 {
-        return Found::Lost(DecodeError::InvalidCode, size);
+        return Err(LostCode {
+            error: DecodeError::InvalidCode,
+            taken: size,
+        });
     }
-    Found::Code(run as usize, size)
+    Ok(Code {
+        run: run as usize,
+        taken: size,
+    })
 }
 
 // What a code makes of the sum so far, whichever engine found it.
-pub(crate) fn add_code(found: Found, at: usize, total: u32) -> RunCode
+pub(crate) fn add_code(
+    found: Result<Code, LostCode>,
+    at: usize,
+    total: u32,
+) -> Result<RunCode, Fault>
     requires { Addable at found }
     ensures { code_of result ≡ summed (sum at total) (found_of found) }
 {
-    match found {
-        Found::Lost(e, _) => RunCode::Bad(e, at),
-        Found::Code(run, taken) => {
-            let sum = total as usize + run;
-            if MOST_SUM < sum {
-                return RunCode::Bad(DecodeError::Overflow, at);
-            }
-            if run < 64 {
-                return RunCode::Last(sum as u32, at + taken);
-            }
-            RunCode::More(sum as u32, at + taken)
-        }
+    let code = found.map_err(|lost| Fault::new(lost.error, at))?;
+    let sum = total as usize + code.run;
+    if MOST_SUM < sum {
+        return Err(Fault::new(DecodeError::Overflow, at));
     }
+    let next = at + code.taken;
+    if code.run < 64 {
+        return Ok(RunCode::Last(sum as u32, next));
+    }
+    Ok(RunCode::More(sum as u32, next))
 }
 
 // One step of `read_run`, for a form that may stop between make-up codes (A9). The page form does not call it.
-pub fn read_code(colour: usize, src: &[u8], at: usize, total: u32) -> RunCode
+pub fn read_code(colour: usize, src: &[u8], at: usize, total: u32) -> Result<RunCode, Fault>
     requires { Loading src.now at }
     ensures { code_of result ≡ run_step (colour_of colour) (bits_of src.now) (sum at total) }
 {

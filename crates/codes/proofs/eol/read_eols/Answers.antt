@@ -1,5 +1,8 @@
--- `codes::eol::read_eols` meets its contract. The invariant: the EOLs counted so far stand before `at`. The measure is the EOLs left. Assumes nothing.
+-- `codes::eol::read_eols` meets its contract. The invariant: the EOLs counted so far stand before `at`. Assumes nothing.
+use mathlib.Core.Path.{◌≡◌, ap, ◌∙◌}
+use Prim.Native.Nat.{ℕ}
 use native.Mathlib.Omega.{arith}
+use Rattle.rules.specs.Eols.{eols_to}
 use Rattle.codes.proofs.Eols.{unclosed, closed, many, early, plain-eol, twelve-zeros, none_yet, enough, no_one, without_eol, eol}
 use Rattle.codes.proofs.eol.read_eols.Goals as goal
 
@@ -17,8 +20,10 @@ loop-count-preserved c =
     let zeros = twelve-zeros src c.loop-count.at c.peek-ahead.ensures (omega (arith, c.if-ahead-gt1.false, c.if-ahead-eq1.false)) in
     eol c.loop-count.invariant c.loop-count-test.true one (omega (arith, many src c.loop-count.at 12 zeros one))
 
-pub returns-after-loop-count : goal.returns-after-loop-count
-returns-after-loop-count c = enough c.loop-count.invariant c.loop-count-test.false
+pub returns : goal.returns
+returns c =
+    let all : c.args.max ≡ c.loop-count.count = omega (arith, c.loop-count-test.false, c.loop-count.auto.count-end) in
+    ap (λ (n : ℕ). eols_to n c.loop-count.at) all ∙ enough c.loop-count.invariant c.loop-count-test.false
 
 pub returns-then-ahead-gt1 : goal.returns-then-ahead-gt1
 returns-then-ahead-gt1 c =

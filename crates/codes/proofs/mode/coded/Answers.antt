@@ -1,28 +1,15 @@
 -- `codes::mode::coded` meets its contract. Assumes nothing.
-use mathlib.Core.Path.{refl, sym, ap, ◌∙◌}
-use native.Mathlib.Omega.{arith}
-use Rattle.codes.specs.Modes.{offset_mode, kind_of}
-use Rattle.codes.proofs.Modes.{back, mode-moved}
+use mathlib.Core.Path.{refl, sym, ◌∙◌}
+use Rattle.codes.specs.Modes.{kind_of}
+use Rattle.codes.proofs.Modes.{mode-moved}
 use Rattle.codes.proofs.mode.coded.Goals as goal
 
-pub returns-in_default : goal.returns-in_default
-returns-in_default c =
+pub returns-in-Some : goal.returns-in-Some
+returns-in-Some c =
     let a = c.args in
-    mode-moved a.len a.at a.size refl (sym c.consume.ensures ∙ c.in_default.is)
+    mode-moved a.len a.at a.size refl (sym c.consume.ensures ∙ c.in-Some.is)
 
-pub returns-in-Pass : goal.returns-in-Pass
-returns-in-Pass c =
+pub returns-in-None : goal.returns-in-None
+returns-in-None c =
     let a = c.args in
-    mode-moved a.len a.at a.size (ap kind_of c.in-Pass.is) (sym c.consume.ensures ∙ c.in-To.is)
-
-pub returns-in-Horizontal : goal.returns-in-Horizontal
-returns-in-Horizontal c =
-    let a = c.args in
-    mode-moved a.len a.at a.size (ap kind_of c.in-Horizontal.is) (sym c.consume.ensures ∙ c.in-To.is)
-
-pub returns-in-Vertical : goal.returns-in-Vertical
-returns-in-Vertical c =
-    let a = c.args in
-    mode-moved a.len a.at a.size
-    (ap kind_of c.in-Vertical.is ∙ ap offset_mode (sym (back {z = c.in-Vertical.offset} (omega arith))))
-    (sym c.consume.ensures ∙ c.in-To.is)
+    rw c.new.ensures (mode-moved a.len a.at a.size {k = kind_of a.mode} refl (sym c.consume.ensures ∙ c.in-None.is))

@@ -3,12 +3,12 @@ use mathlib.Core.Path.{sym, ◌∙◌}
 use Rattle.codes.proofs.Modes.{mode-missed}
 use Rattle.codes.proofs.mode.no_mode.Goals as goal
 
-pub returns-in-To : goal.returns-in-To
-returns-in-To c =
+pub returns-in-Some : goal.returns-in-Some
+returns-in-Some c =
     let a = c.args in
-    mode-missed a.len a.at (sym c.consume.ensures ∙ c.in-To.is)
+    rw c.new.ensures (mode-missed a.len a.at (sym c.consume.ensures ∙ c.in-Some.is))
 
-pub returns-in-End : goal.returns-in-End
-returns-in-End c =
+pub returns-in-None : goal.returns-in-None
+returns-in-None c =
     let a = c.args in
-    mode-missed a.len a.at (sym c.consume.ensures ∙ c.in-End.is)
+    rw c.new-in-None.ensures (mode-missed a.len a.at (sym c.consume.ensures ∙ c.in-None.is))

@@ -2,4 +2,4 @@
 use Rattle.codes.proofs.mode.read_mode.Goals as goal
 
 pub returns : goal.returns
-returns c = c.by_zeros.ensures
+returns g c = c.by_zeros.ensures

@@ -4,7 +4,7 @@ use Rattle.codes.proofs.Comparing.{addable, code-steps}
 use Rattle.codes.proofs.plain.next_code.Goals as goal
 
 pub add_code-requires : goal.add_code-requires
-add_code-requires c = let p = c.requires in addable _ _ _ p.inside p.size c.code_at-found.result c.code_at-found.ensures
+add_code-requires c = let p = c.requires in addable _ _ _ p.inside p.size c.read_code-found.result c.read_code-found.ensures
 
 pub returns : goal.returns
-returns c = c.add_code.ensures ∙ code-steps _ _ _ c.requires.inside _ _ c.code_at-found.ensures
+returns c = c.add_code.ensures ∙ code-steps _ _ _ c.requires.inside _ _ c.read_code-found.ensures

@@ -10,12 +10,12 @@ use Rattle.codes.proofs.Verdicts.{all_codes}
 use Rattle.codes.proofs.plain.read_code.Goals as goal
 
 pub code_in-requires : goal.code_in-requires
-code_in-requires c =
+code_in-requires g c =
     (record { colour = colour_of c.args.colour; terminating = c.terminating_of-terminating.ensures; makeup = c.makeup_of-makeup.ensures; common = c.common_makeup-common.ensures }, c.requires)
 
 pub returns : goal.returns
 unfolding plain
-returns c =
+returns g c =
     let a = c.args in
     c.code_in.ensures
     ∙ ap (λ (cs : List Code). compare 0 (candidates cs) (drop a.at (bits_of a.src.now)))

@@ -6,8 +6,8 @@ use Rattle.tables.specs.Tables.{colour_of}
 use Rattle.codes.proofs.Comparing.{Adding}
 use Rattle.codes.proofs.plain.read_run.Given as goal
 
-abbrev pub invariant-loop-e : goal.invariant-loop-e
-invariant-loop-e l = Adding (colour_of l.colour) l.src l.start l.at l.sum
+abbrev pub invariant-loop-code : goal.invariant-loop-code
+invariant-loop-code l = Adding (colour_of l.colour) l.src l.start l.at l.sum
 
-abbrev pub decreases-loop-e : goal.decreases-loop-e
-decreases-loop-e l = 8 * length l.src - l.at
+abbrev pub decreases-loop-code : goal.decreases-loop-code
+decreases-loop-code l = 8 * length l.src - l.at

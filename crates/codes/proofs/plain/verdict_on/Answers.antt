@@ -1,24 +1,23 @@
--- `codes::plain::verdict_on` meets its contract. The loop's invariant: what was met, and what the codes from the i-th on say, is what all say. The measure is
--- the rows left. Assumes nothing.
+-- `codes::plain::verdict_on` meets its contract. The loop's invariant: what was met, and what the codes from the i-th on say, is what all say. Assumes nothing.
 use mathlib.Core.Path.{◌≡◌, sym, ap, ◌∙◌}
 use Rattle.rules.specs.Plain.{is_code, no_code}
 use Rattle.codes.specs.Plain.{codes_in}
 use Rattle.codes.proofs.Verdicts.{saying, with_met, look-first, look-last, asked-count, Turn, turn-words, turn-is-code, turn-met, turn_on}
-use Rattle.codes.proofs.plain.verdict_on.Goals.{After-as_usize, then-begins+else-size-taken, else-begins}
+use Rattle.codes.proofs.plain.verdict_on.Goals.{After-from, then-begins+else-size-taken, else-begins}
 use Rattle.codes.proofs.plain.verdict_on.Goals as goal
 
 -- what a turn knows once it has the row
-turn : (c : After-as_usize) →
+turn : (c : After-from) →
     let a = c.args in
     let l = c.loop-i in
-    Turn a.terminating.now a.makeup.now a.common.now a.taken a.word l.begun l.i c.row_at-row.result c.as_usize-size.result c.as_usize.result
+    Turn a.terminating.now a.makeup.now a.common.now a.taken a.word l.begun l.i c.row_at-row.result c.from-size.result c.from.result
 turn c = record {
   asked = c.requires;
   looking = c.loop-i.invariant;
   more = c.loop-i-test.true;
   row_is = c.row_at-row.ensures;
-  size_is = c.as_usize-size.ensures;
-  code_is = c.as_usize.ensures;
+  size_is = c.from-size.ensures;
+  code_is = c.from.ensures;
 }
 
 pub loop-i-init : goal.loop-i-init
@@ -29,11 +28,11 @@ begins-requires c = turn-words (turn c)
 
 pub returns-then-size-taken : goal.returns-then-size-taken
 returns-then-size-taken c =
-    ap is_code c.as_usize-then-size-taken.ensures ∙ turn-is-code (turn (goal.at.returns-then-size-taken c).After-as_usize) c.begins.result c.begins.ensures c.if-begins.true c.if-size-taken.true
+    ap is_code c.from-then-size-taken.ensures ∙ turn-is-code (turn (goal.at.returns-then-size-taken c).After-from) c.begins.result c.begins.ensures c.if-begins.true c.if-size-taken.true
 
 pub loop-i-preserved : goal.loop-i-preserved
 loop-i-preserved c =
-    let t = turn (goal.at.loop-i-preserved c).After-as_usize in
+    let t = turn (goal.at.loop-i-preserved c).After-from in
     elim c.if-begins.branch [
       | then-begins+else-size-taken w ↦ rw w.begun-is (turn-met t c.begins.result c.begins.ensures w.if-begins.true w.if-size-taken.false)
       | else-begins w ↦ rw w.begun-is (turn_on t c.begins.result c.begins.ensures w.if-begins.false)

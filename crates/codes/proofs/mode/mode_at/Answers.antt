@@ -1,5 +1,0 @@
--- `codes::mode::mode_at` meets its contract: the next 32 bits, and the mode by them. Assumes nothing.
-use Rattle.codes.proofs.mode.mode_at.Goals as goal
-
-pub returns : goal.returns
-returns c = c.by_zeros.ensures
