@@ -8,17 +8,18 @@ use native.Mathlib.Omega.{arith}
 use lib.Dec.{eqb, leb}
 use lib.ListN.{length, take, drop, length-append, length-drop}
 use lib.Seq.{drop-append-add, drop-drop, take_at}
+use Rattle.std.specs.Prelude.{Ok, Err}
 use Rattle.rules.specs.Codes.{Colour, white, black}
 use Rattle.rules.specs.Lines as Rule
 use Rattle.rules.specs.Lines.{Rules, Went, went, failed, moved_to, turned, with_cut, recorded, add, push}
 use Rattle.rules.specs.Pages.{overlaid}
 use Rattle.rules.proofs.Grows.{Grows, GrowsTo, push-grows, behind}
 use Rattle.context.specs.declared.line.Line.{Line}
-use Rattle.context.specs.declared.line.Push.{Push}
+use Rattle.context.specs.declared.line.PushFault.{PushFault}
 use Rattle.context.specs.declared.step.Rules as Code
-use Rattle.context.specs.declared.step.Step.{Step}
-use Rattle.context.specs.State.{line_at, line_for, turned_for, rules_for, push_rules, Holds, changes_of, push_for, Comes, Pushes, colour_number, flag_number}
-use Rattle.context.specs.Outcome.{place_for, step_for, Steps}
+use Rattle.context.specs.declared.step.Stop.{Stop}
+use Rattle.context.specs.State.{line_at, line_for, turned_for, rules_for, push_rules, Holds, changes_of, Push, push_for, Comes, Pushes, colour_number, flag_number}
+use Rattle.context.specs.Outcome.{place_for, Step, step_for, Steps}
 use Rattle.context.proofs.State.{line-for, at_line, overlaid-same}
 
 -- ---- Slices whose front is written
@@ -185,18 +186,20 @@ module _ {width : ℕ} {xs : List ℕ} {s : Rule.Line} {l : Line} {ys : List ℕ
 
 -- ---- Which outcome an answer stands for
 
-pub push-on : (width : ℕ) (w : Went) (m : Line) → Push.On m ≡ push_for width w → (t : Rule.Line) × (w ≡ went t) × (m ≡ line_for width t)
+pub push-on : (width : ℕ) (w : Went) (m : Line) → Ok m ≡ push_for width w → (t : Rule.Line) × (w ≡ went t) × (m ≡ line_for width t)
 push-on width (went t) m e = (t, refl, cc)
 push-on width (failed n p t) m e = absurd (let z : ◌≡◌ {A = ℕ} 0 1 = cc in omega arith)
 
-pub push-stop : (width : ℕ) (w : Went) (k : ℕ) (m : Line) → Push.Stop k m ≡ push_for width w → (p : ℕ) × (t : Rule.Line) × (w ≡ failed k p t) × (m ≡ line_for width t)
-push-stop width (failed n p t) k m e = (p, t, (let q : n ≡ k = cc in ap (λ (n : ℕ). failed n p t) q), cc)
-push-stop width (went t) k m e = absurd (let z : ◌≡◌ {A = ℕ} 0 1 = cc in omega arith)
+pub push-stop : (width : ℕ) (w : Went) (f : PushFault) → Err f ≡ push_for width w → (p : ℕ) × (t : Rule.Line) × (w ≡ failed f.number p t) × (f.line ≡ line_for width t)
+push-stop width (failed n p t) f e = (p, t, (let q : n ≡ f.number = cc in ap (λ (n : ℕ). failed n p t) q), cc)
+push-stop width (went t) f e = absurd (let z : ◌≡◌ {A = ℕ} 0 1 = cc in omega arith)
 
-pub step-on : (width : ℕ) (w : Went) (m : Line) (at : ℕ) → Step.On m at ≡ step_for width w → (t : Rule.Line) × (w ≡ went t) × (m ≡ line_for width t) × (at ≡ t.at)
-step-on width (went t) m at e = (t, refl, cc, cc)
+pub step-on : (width : ℕ) (w : Went) (m : Line) (at : ℕ) → Ok (m, at) ≡ step_for width w → (t : Rule.Line) × (w ≡ went t) × (m ≡ line_for width t) × (at ≡ t.at)
+step-on width (went t) m at e =
+    let q : ◌≡◌ {A = Line × ℕ} (m, at) (line_for width t, t.at) = cc in
+    (t, refl, ap (λ (p : Line × ℕ). p.0) q, ap (λ (p : Line × ℕ). p.1) q)
 step-on width (failed n p t) m at e = absurd (let z : ◌≡◌ {A = ℕ} 0 1 = cc in omega arith)
 
-pub step-stop : (width : ℕ) (w : Went) (k a : ℕ) (m : Line) → Step.Stop k m a ≡ step_for width w → (t : Rule.Line) × (w ≡ failed k a t) × (m ≡ line_for width t)
-step-stop width (failed n p t) k a m e = (t, (let q : n ≡ k = cc in let r : p ≡ a = cc in λ i. failed (q i) (r i) t), cc)
-step-stop width (went t) k a m e = absurd (let z : ◌≡◌ {A = ℕ} 0 1 = cc in omega arith)
+pub step-stop : (width : ℕ) (w : Went) (f : Stop) → Err f ≡ step_for width w → (t : Rule.Line) × (w ≡ failed f.number f.place t) × (f.line ≡ line_for width t)
+step-stop width (failed n p t) f e = (t, (let q : n ≡ f.number = cc in let r : p ≡ f.place = cc in λ i. failed (q i) (r i) t), cc)
+step-stop width (went t) f e = absurd (let z : ◌≡◌ {A = ℕ} 0 1 = cc in omega arith)

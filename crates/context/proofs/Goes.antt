@@ -11,7 +11,7 @@ use Rattle.rules.specs.Runs.{ok, sum, read_run}
 use Rattle.rules.specs.Modes.{Mode, pass, horizontal, VR, VL, moded, read_mode}
 use Rattle.rules.specs.Lines.{Rules, Line, line, turned, moved_to, Went, went, next, last_colour, recorded, add, push, push_turn, after_run, push_run, b1, b2, unless_idle, apply, after_mode, code_2d}
 use Rattle.rules.proofs.Lines.{not-idle}
-use Rattle.context.specs.declared.offset.Move.TheVariants.{By}
+use Rattle.std.specs.Prelude.{Some}
 use Rattle.context.specs.Offset.{move_by}
 use Rattle.context.proofs.Moves.{Upright, after_move, mode-moves}
 use Rattle.context.proofs.Idle.{pass-busy, move_some}
@@ -96,17 +96,17 @@ recorded-next t n p =
 
 -- a vertical move that stays in 32 bits
 module _ (b a1 k position : ℕ) (small : a1 ≤ 4294967295) (right : position ≤ a1) where
-  pub moves-right : b + k ≡ a1 → move_by b (VR k) position ≡ By (a1 - position)
+  pub moves-right : b + k ≡ a1 → move_by b (VR k) position ≡ Some (a1 - position)
   unfolding move_by
   moves-right e = rw (e, le-leb a1 4294967295 small, le-leb position a1 right)
 
-  pub moves-left : b ≡ a1 + k → move_by b (VL k) position ≡ By (a1 - position)
+  pub moves-left : b ≡ a1 + k → move_by b (VL k) position ≡ Some (a1 - position)
   unfolding move_by
   moves-left e = let d : b - k ≡ a1 = omega arith in rw (le-leb k b (omega arith), d, le-leb a1 4294967295 small, le-leb position a1 right)
 
 module _ (R : Rules) (reference : List ℕ) (bs : List Bool) (t : Line) (n : ℕ) where
   module _ (m : Mode) (upright : Upright m) (read : read_mode bs t.at ≡ ok (moded n m)) (a1 : ℕ)
-      (move : move_by (b1 R.width reference t.position t.colour) m t.position ≡ By (a1 - t.position))
+      (move : move_by (b1 R.width reference t.position t.colour) m t.position ≡ Some (a1 - t.position))
       (right : t.position < a1) (fits : a1 ≤ R.width) (roomy : length (recorded t) ≤ R.room) where
     pub vertical-goes : code_2d R reference bs t ≡ went (line n a1 (opposite t.colour) (recorded t) t.cut)
     unfolding code_2d recorded

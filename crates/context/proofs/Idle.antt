@@ -7,6 +7,7 @@ use native.Mathlib.Omega.{arith}
 use lib.Dec.{eqb, leb}
 use lib.ListN.{length}
 use borrow.Author.Tests.{eqb-true, eq-eqb, ne_eqb, le-leb}
+use Rattle.std.specs.Prelude.{Ok, Err}
 use Rattle.rules.specs.Bits.{bits_of}
 use Rattle.rules.specs.Codes.{black, differ}
 use Rattle.rules.specs.Modes.{Mode, pass, horizontal, VR, VL}
@@ -18,10 +19,8 @@ use Rattle.rules.proofs.Grows.{GrowsTo, two_runs-grows}
 use Rattle.tables.specs.Tables.{colour_of}
 use Rattle.context.specs.declared.line.Line.{Line}
 use Rattle.context.specs.declared.step.Rules as Code
-use Rattle.context.specs.declared.step.Step.{Step}
-use Rattle.context.specs.declared.step.Step.TheVariants.{On, Stop}
 use Rattle.context.specs.State.{line_at, line_for, rules_for, Holds}
-use Rattle.context.specs.Outcome.{Steps, runs_from}
+use Rattle.context.specs.Outcome.{Step, stop_at, Steps, runs_from}
 use Rattle.context.specs.Coding.{unless_idle_for, TwoRuns}
 use Rattle.context.proofs.State.{line-for}
 use Rattle.context.proofs.Moves.{Upright}
@@ -113,8 +112,8 @@ module _ (bytes xs : List ℕ) (l : Line) (at next' : ℕ) (rules : Code.Rules) 
   runs-tested h c = cases W (two_runs-grows R (bits_of bytes) (line_at next' xs l)) c
     where
       idle-or-not : (t : Rule.Line) → (t.position ≡ l.position → t.changes ≡ s.changes) → ys ≡ overlaid t.changes xs → (x : Bool) → rules.exact ≡ x → (y : Bool) → eqb t.position l.position ≡ y
-          → Steps l.width xs (cond (x && y) (failed 1 at s) (went t)) (cond (x && y) (Stop 1 l at) (On (line_for l.width t) t.at)) ys
-      idle-or-not t still e true a true b = record { answer = ap (λ (k : Line). Stop 1 k at) (sym (line-for xs l h at)); store = e ∙ ap (λ (zs : List ℕ). overlaid zs xs) (still (eqb-true t.position l.position b)) }
+          → Steps l.width xs (cond (x && y) (failed 1 at s) (went t)) (cond (x && y) (Err (stop_at 1 l at)) (Ok (line_for l.width t, t.at))) ys
+      idle-or-not t still e true a true b = record { answer = ap (λ (k : Line). Err (stop_at 1 k at)) (sym (line-for xs l h at)); store = e ∙ ap (λ (zs : List ℕ). overlaid zs xs) (still (eqb-true t.position l.position b)) }
       idle-or-not t still e true a false b = record { answer = refl; store = e }
       idle-or-not t still e false a y b = record { answer = refl; store = e }
 

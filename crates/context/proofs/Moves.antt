@@ -7,15 +7,14 @@ use lib.Dec.{leb}
 use lib.IntN.{ℤ, pos, negsuc}
 use Rattle.rules.specs.Modes.{Mode, pass, horizontal, VR, VL}
 use Rattle.rules.specs.Lines.{Rules, Line, Went, failed, push_turn, b1, vertical, apply}
-use Rattle.context.specs.declared.offset.Move.{Move}
-use Rattle.context.specs.declared.offset.Move.TheVariants.{By, Over}
+use Rattle.std.specs.Prelude.{Option, Some, None}
 use Rattle.context.specs.Offset.{move_to, move_by}
 use Rattle.codes.specs.Modes.{offset_mode}
 
 -- a line after a move: pushed and turned, or failed with 3
-abbrev pub after_move : Rules → ℕ → Line → Move → Went
-after_move R place s (By count) = push_turn R place count s
-after_move R place s Over = failed 3 place s
+abbrev pub after_move : Rules → ℕ → Line → Option ℕ → Went
+after_move R place s (Some count) = push_turn R place count s
+after_move R place s None = failed 3 place s
 
 -- the modes that move
 abbrev pub Upright : Mode → Type 0
@@ -39,7 +38,7 @@ module _ (R : Rules) (reference : List ℕ) (bs : List Bool) (place : ℕ) (s : 
   unfolding vertical
   to-a1 a1 = by (leb a1 4294967295 && leb s.position a1)
     where
-      by : (t : Bool) → cond t (push_turn R place (a1 - s.position) s) (failed 3 place s) ≡ after_move R place s (cond t (By (a1 - s.position)) Over)
+      by : (t : Bool) → cond t (push_turn R place (a1 - s.position) s) (failed 3 place s) ≡ after_move R place s (cond t (Some (a1 - s.position)) None)
       by true = refl
       by false = refl
 
@@ -52,12 +51,12 @@ module _ (R : Rules) (reference : List ℕ) (bs : List Bool) (place : ℕ) (s : 
   mode-moves (VL k) u = by (leb k b1_of) (vertical R reference place (b1_of - k) s) (to-a1 (b1_of - k))
     where
       by : (t : Bool) (v : Went) → v ≡ after_move R place s (move_to s.position (b1_of - k))
-          → cond t v (failed 3 place s) ≡ after_move R place s (cond t (move_to s.position (b1_of - k)) Over)
+          → cond t v (failed 3 place s) ≡ after_move R place s (cond t (move_to s.position (b1_of - k)) None)
       by true v e = e
       by false v e = refl
 
   -- and so of an offset, by a b1 that was found and the move from it
-  pub offset-moves : (z : ℤ) {b : ℕ} {m : Move} → b ≡ b1_of → m ≡ move_by b (offset_mode z) s.position → apply R reference bs place (offset_mode z) s ≡ after_move R place s m
+  pub offset-moves : (z : ℤ) {b : ℕ} {m : Option ℕ} → b ≡ b1_of → m ≡ move_by b (offset_mode z) s.position → apply R reference bs place (offset_mode z) s ≡ after_move R place s m
   offset-moves z e f =
       mode-moves (offset_mode z) (upright z)
       ∙ ap (λ (n : ℕ). after_move R place s (move_by n (offset_mode z) s.position)) (sym e)

@@ -10,8 +10,7 @@ use mir.Syntax.{w32, w64}
 use mir.Val.{Fits, SFits, of_z, to_z}
 use mir.Facts.{to_z-of_z, to_z_pos}
 use borrow.Author.Tests.{ltb-true, ltb-false, leb-true, leb-false, lt-ltb, le-ltb, le-leb, lt-leb}
-use Rattle.context.specs.declared.offset.Move.{Move}
-use Rattle.context.specs.declared.offset.Move.TheVariants.{By, Over}
+use Rattle.std.specs.Prelude.{Option, Some, None}
 use Rattle.context.specs.Offset.{Offset, move_to, move_by}
 use Rattle.codes.specs.Modes.{offset_mode}
 
@@ -50,34 +49,34 @@ minus-below k (suc p) = ap negsuc (let q : suc (k + p) ≡ k + suc p = omega ari
 
 -- ---- The move, by b1 plus the offset
 
-abbrev to : ℕ → ℤ → Move
+abbrev to : ℕ → ℤ → Option ℕ
 to position (pos a1) = move_to position a1
-to position (negsuc k) = Over
+to position (negsuc k) = None
 
 move-is : (b position : ℕ) (z : ℤ) → move_by b (offset_mode z) position ≡ to position (pos b +ℤ z)
 unfolding move_by
 move-is b position (pos k) = refl
 move-is b position (negsuc k) = by (ltb b (suc k)) refl
   where
-    by : (t : Bool) → ltb b (suc k) ≡ t → cond (leb (suc k) b) (move_to position (b - suc k)) Over ≡ to position (cond t (negsuc (suc k - suc b)) (pos (b - suc k)))
+    by : (t : Bool) → ltb b (suc k) ≡ t → cond (leb (suc k) b) (move_to position (b - suc k)) None ≡ to position (cond t (negsuc (suc k - suc b)) (pos (b - suc k)))
     by true e = rw (lt-leb (suc k) b (ltb-true b (suc k) e))
     by false e = rw (le-leb (suc k) b (ltb-false b (suc k) e))
 
 -- a1 above 32 bits
-too_far : (position : ℕ) (x : ℤ) → lt_z (pos 4294967295) x ≡ true → Over ≡ to position x
+too_far : (position : ℕ) (x : ℤ) → lt_z (pos 4294967295) x ≡ true → None ≡ to position x
 too_far position (pos a1) e = rw (lt-leb a1 4294967295 (ltb-true 4294967295 a1 e))
 too_far position (negsuc k) e = refl
 
 -- what the difference of any other to the position tells: a1 lies left of the position, or the line moves by the difference
 data Gap (position : ℕ) (x : ℤ) : ℤ → Type 0 where
-  left : (k : ℕ) → Over ≡ to position x → Gap position x (negsuc k)
-  right : (count : ℕ) → count < 4294967296 → By count ≡ to position x → Gap position x (pos count)
+  left : (k : ℕ) → None ≡ to position x → Gap position x (negsuc k)
+  right : (count : ℕ) → count < 4294967296 → Some count ≡ to position x → Gap position x (pos count)
 
 gap : (position : ℕ) (x : ℤ) → lt_z (pos 4294967295) x ≡ false → Gap position x (x -ℤ pos position)
 gap position (negsuc k) e = rw (minus-below k position) (left (k + position) refl)
 gap position (pos a1) e = by (leb position a1) refl (ltb-false 4294967295 a1 e)
   where
-    no : (t : Bool) → Over ≡ cond (t && false) (By (a1 - position)) Over
+    no : (t : Bool) → None ≡ cond (t && false) (Some (a1 - position)) None
     no true = refl
     no false = refl
 
@@ -88,11 +87,11 @@ gap position (pos a1) e = by (leb position a1) refl (ltb-false 4294967295 a1 e)
     by false f h =
         rw (minus-left a1 position (leb-false position a1 f)) (left (position - suc a1) (rw f (no (leb a1 4294967295))))
 
-gap-left : {position : ℕ} {x d : ℤ} → Gap position x d → lt_z d (pos 0) ≡ true → Over ≡ to position x
+gap-left : {position : ℕ} {x d : ℤ} → Gap position x d → lt_z d (pos 0) ≡ true → None ≡ to position x
 gap-left (left k e) f = e
 gap-left (right count h e) f = absurd (omega (arith, ltb-true count 0 f))
 
-gap-right : {position : ℕ} {x d : ℤ} → Gap position x d → lt_z d (pos 0) ≡ false → T (non_neg d) × Fits w32 (nat_abs d) × (By (nat_abs d) ≡ to position x)
+gap-right : {position : ℕ} {x d : ℤ} → Gap position x d → lt_z d (pos 0) ≡ false → T (non_neg d) × Fits w32 (nat_abs d) × (Some (nat_abs d) ≡ to position x)
 gap-right (left k e) f = absurd (true≢false f)
 gap-right (right count h e) f = (tt, record { fits = h }, e)
 
@@ -137,19 +136,19 @@ module _ {b : ℕ} {z : ℤ} {position : ℕ} (fb : Fits w32 b) (fz : SFits w64 
   difference-held : held (difference b z position) ≡ (pos b +ℤ z) -ℤ pos position
   difference-held = to_z-of_z difference-fits ∙ difference-is
 
-  pub over-right : lt_z (pos 4294967295) (held (sum b z)) ≡ true → Over ≡ move_by b (offset_mode z) position
+  pub over-right : lt_z (pos 4294967295) (held (sum b z)) ≡ true → None ≡ move_by b (offset_mode z) position
   over-right e = too_far position (pos b +ℤ z) (rw sum-held at e) ∙ sym (move-is b position z)
 
   module _ (e : lt_z (pos 4294967295) (held (sum b z)) ≡ false) where
     here : Gap position (pos b +ℤ z) (held (difference b z position))
     here = rw difference-held (gap position (pos b +ℤ z) (rw sum-held at e))
 
-    pub over-left : lt_z (held (difference b z position)) (pos 0) ≡ true → Over ≡ move_by b (offset_mode z) position
+    pub over-left : lt_z (held (difference b z position)) (pos 0) ≡ true → None ≡ move_by b (offset_mode z) position
     over-left f = gap-left here f ∙ sym (move-is b position z)
 
     module _ (f : lt_z (held (difference b z position)) (pos 0) ≡ false) where
       pub difference-narrow : T (non_neg (held (difference b z position))) × Fits w32 (nat_abs (held (difference b z position)))
       difference-narrow = let g = gap-right here f in (g.0, g.1)
 
-      pub goes : By (nat_abs (held (difference b z position))) ≡ move_by b (offset_mode z) position
+      pub goes : Some (nat_abs (held (difference b z position))) ≡ move_by b (offset_mode z) position
       goes = (gap-right here f).2 ∙ sym (move-is b position z)

@@ -8,6 +8,7 @@ use lib.Dec.{eqb}
 use lib.ListN.{length, take, drop, set, length-append, take-append-drop}
 use lib.Seq.{length-take-le, set_split, take_at}
 use borrow.Author.Tests.{eq-eqb, ne_eqb, le-leb, lt-leb}
+use Rattle.std.specs.Prelude.{Ok, Err}
 use Rattle.rules.specs.Codes.{Colour, white, black, opposite, differ}
 use Rattle.rules.specs.Lines as Rule
 use Rattle.rules.specs.Lines.{last_colour, recorded, add, push}
@@ -15,9 +16,7 @@ use Rattle.rules.specs.Rows.{read_mark}
 use Rattle.rules.specs.Pages.{overlaid}
 use Rattle.tables.specs.Tables.{colour_of}
 use Rattle.context.specs.declared.line.Line.{Line}
-use Rattle.context.specs.declared.line.Push.{Push}
-use Rattle.context.specs.declared.line.Push.TheVariants.{On, Stop}
-use Rattle.context.specs.State.{flag_of, colour_number, flag_number, line_at, line_for, moved_for, cut_for, push_rules, Holds, turns, Comes, Added, Pushes}
+use Rattle.context.specs.State.{flag_of, colour_number, flag_number, line_at, line_for, moved_for, cut_for, push_rules, Holds, turns, Push, push_fault, Comes, Added, Pushes}
 
 -- ---- The two lines are one
 
@@ -117,18 +116,18 @@ module _ (xs : List ℕ) (l : Line) (h : Holds xs l) (count : ℕ) (strict : Boo
   turning : differ (last_colour (take l.changes xs)) (colour_of l.colour) ≡ turns l.changes l.colour
   turning = turns-is (take l.changes xs) l.colour h.coloured ∙ ap (λ (n : ℕ). turns n l.colour) len
 
-  pub add_nothing : count ≡ 0 → Comes l.width xs (add (push_rules l.width strict xs) count (line_at at xs l)) (On l) xs
+  pub add_nothing : count ≡ 0 → Comes l.width xs (add (push_rules l.width strict xs) count (line_at at xs l)) (Ok l) xs
   unfolding add
-  add_nothing e = rw (eq-eqb count 0 e) (record { answer = ap On (sym (line-for xs l h at)); store = overlaid-same l.changes xs h.held })
+  add_nothing e = rw (eq-eqb count 0 e) (record { answer = ap Ok (sym (line-for xs l h at)); store = overlaid-same l.changes xs h.held })
 
   module _ (some : count ≡ 0 → ⊥) where
     pub add_turned : turns l.changes l.colour ≡ true → l.changes < length xs
-        → Comes l.width xs (add (push_rules l.width strict xs) count (line_at at xs l)) (On (moved_for l count (l.changes + 1))) (set xs l.changes l.position)
+        → Comes l.width xs (add (push_rules l.width strict xs) count (line_at at xs l)) (Ok (moved_for l count (l.changes + 1))) (set xs l.changes l.position)
     unfolding add recorded
     add_turned t k =
         rw (ne_eqb count 0 some, turning ∙ t, le-leb (length (take l.changes xs ++ l.position ∷ [])) (length xs) fits)
         (record {
-          answer = ap On (λ i. record { width = l.width; position = l.position + count; changes = sym size i; colour = sym (number-colour l.colour h.coloured) i; cut = sym (number-flag l.cut h.flagged) i });
+          answer = ap Ok (λ i. record { width = l.width; position = l.position + count; changes = sym size i; colour = sym (number-colour l.colour h.coloured) i; cut = sym (number-flag l.cut h.flagged) i });
           store = overlaid-set l.changes xs l.position k;
         })
       where
@@ -139,22 +138,22 @@ module _ (xs : List ℕ) (l : Line) (h : Holds xs l) (count : ℕ) (strict : Boo
         fits = omega (arith, size)
 
     pub add-full : turns l.changes l.colour ≡ true → length xs ≤ l.changes
-        → Comes l.width xs (add (push_rules l.width strict xs) count (line_at at xs l)) (Stop 4 l) xs
+        → Comes l.width xs (add (push_rules l.width strict xs) count (line_at at xs l)) (Err (push_fault 4 l)) xs
     unfolding add recorded
     add-full t k =
         rw (ne_eqb count 0 some, turning ∙ t, lt-leb (length (take l.changes xs ++ l.position ∷ [])) (length xs) over)
-        (record { answer = ap (Stop 4) (sym (line-for xs l h at)); store = overlaid-same l.changes xs h.held })
+        (record { answer = ap (λ (k : Line). Err (push_fault 4 k)) (sym (line-for xs l h at)); store = overlaid-same l.changes xs h.held })
       where
         over : length xs < length (take l.changes xs ++ l.position ∷ [])
         over = omega (arith, length-append (take l.changes xs) (l.position ∷ []), len)
 
     pub add_same : turns l.changes l.colour ≡ false
-        → Comes l.width xs (add (push_rules l.width strict xs) count (line_at at xs l)) (On (moved_for l count l.changes)) xs
+        → Comes l.width xs (add (push_rules l.width strict xs) count (line_at at xs l)) (Ok (moved_for l count l.changes)) xs
     unfolding add recorded
     add_same t =
         rw (ne_eqb count 0 some, turning ∙ t, le-leb (length (take l.changes xs)) (length xs) (omega (arith, len, h.held)))
         (record {
-          answer = ap On (λ i. record { width = l.width; position = l.position + count; changes = sym len i; colour = sym (number-colour l.colour h.coloured) i; cut = sym (number-flag l.cut h.flagged) i });
+          answer = ap Ok (λ i. record { width = l.width; position = l.position + count; changes = sym len i; colour = sym (number-colour l.colour h.coloured) i; cut = sym (number-flag l.cut h.flagged) i });
           store = overlaid-same l.changes xs h.held;
         })
 
@@ -166,11 +165,11 @@ module _ (xs : List ℕ) (l : Line) (h : Holds xs l) (count : ℕ) (strict : Boo
   push-whole f r ys a at place = rw (le-leb count (l.width - l.position) f) (a strict at)
 
   module _ (over : l.width - l.position < count) where
-    pub push-refused : strict ≡ true → Pushes xs l count strict (Stop 1 l) xs
+    pub push-refused : strict ≡ true → Pushes xs l count strict (Err (push_fault 1 l)) xs
     unfolding push
     push-refused e at place =
         rw (lt-leb count (l.width - l.position) over, e)
-        (record { answer = ap (Stop 1) (sym (line-for xs l h at)); store = overlaid-same l.changes xs h.held })
+        (record { answer = ap (λ (k : Line). Err (push_fault 1 k)) (sym (line-for xs l h at)); store = overlaid-same l.changes xs h.held })
 
     pub push-cut : strict ≡ false → (r : Push) (ys : List ℕ) → Added xs (cut_for l) (l.width - l.position) r ys → Pushes xs l count strict r ys
     unfolding push

@@ -1,5 +1,5 @@
 -- What one mode code does to a line, given b1 and b2, and what a 2D line does to the array that holds it.
-use Rattle.std.specs.Prelude.{◌≡◌, Bool, true, false, cond, not, ◌&&◌, List, ◌++◌, ℕ, ◌-◌, ◌≤◌, ◌<◌, eqb, length, take, drop}
+use Rattle.std.specs.Prelude.{◌≡◌, Bool, true, false, cond, not, ◌&&◌, List, ◌++◌, ℕ, ◌-◌, ◌≤◌, ◌<◌, eqb, length, take, drop, Ok, Err}
 use Rattle.rules.specs.Bits.{bits_of}
 use Rattle.rules.specs.Modes.{horizontal}
 use Rattle.rules.specs.Lines as Rule
@@ -9,34 +9,32 @@ use Rattle.rules.specs.Rising.{Rising}
 use Rattle.tables.specs.Pairs.{pair_table}
 use Rattle.tables.specs.Tables.{colour_of, Lookups}
 use Rattle.context.specs.declared.line.Line.{Line}
-use Rattle.context.specs.declared.line.Push.{Push}
 use Rattle.context.specs.declared.step.Rules.{Rules}
-use Rattle.context.specs.declared.step.Step.{Step}
 use Rattle.context.specs.declared.reference.Reference.{Reference}
 use Rattle.context.specs.declared.reference.Reference.TheVariants.{Lent, Kept}
-use Rattle.context.specs.State.{line_at, turned_for, rules_for, changes_of}
-use Rattle.context.specs.Outcome.{place_for, step_for, Steps, Reads, Starts, runs_from}
+use Rattle.context.specs.State.{line_at, turned_for, rules_for, changes_of, Push}
+use Rattle.context.specs.Outcome.{place_for, Step, stop_at, step_for, Steps, Reads, Starts, runs_from}
 use Rattle.context.specs.Reference.{Searches}
 
 -- ---- One code
 
 -- a line that goes on has one of the two colours
 abbrev pub Coloured : Push → Type 0
-Coloured (Push.On l) = l.colour ≤ 1
-Coloured (Push.Stop n l) = Unit {0}
+Coloured (Ok l) = l.colour ≤ 1
+Coloured (Err fault) = Unit {0}
 
 abbrev pub after_push : Push → ℕ → ℕ → Bool → Step
-after_push (Push.On l) at next turns = Step.On (cond turns (turned_for l) l) next
-after_push (Push.Stop n l) at next turns = Step.Stop n l (place_for n at)
+after_push (Ok l) at next turns = Ok (cond turns (turned_for l) l, next)
+after_push (Err fault) at next turns = Err (stop_at fault.number fault.line (place_for fault.number at))
 
 -- a vertical move of nothing, whose code began at `at` and ends at `next`: an exact line refuses it (A12), unless it is the line's first code
 abbrev pub unmoved_for : Line → ℕ → ℕ → Bool → Step
-unmoved_for l at next exact = cond (exact && not (eqb l.position 0 && eqb l.colour 0)) (Step.Stop 1 l at) (Step.On (turned_for l) next)
+unmoved_for l at next exact = cond (exact && not (eqb l.position 0 && eqb l.colour 0)) (Err (stop_at 1 l at)) (Ok (turned_for l, next))
 
 -- what two runs came to, of a code that began at `at`: where both are zero an exact line refuses it
 abbrev pub unless_idle_for : Step → Line → ℕ → Bool → Step
-unless_idle_for (Step.On m after) l at exact = cond (exact && eqb m.position l.position) (Step.Stop 1 l at) (Step.On m after)
-unless_idle_for (Step.Stop n m place) l at exact = Step.Stop n m place
+unless_idle_for (Ok stepped) l at exact = cond (exact && eqb stepped.0.position l.position) (Err (stop_at 1 l at)) (Ok stepped)
+unless_idle_for (Err stop) l at exact = Err stop
 
 -- the two runs, from the bit `next` on, of a horizontal code at a bit
 abbrev pub TwoRuns : List ℕ → List ℕ → Line → ℕ → ℕ → Rules → Step → List ℕ → Type 0

@@ -1,5 +1,5 @@
 -- What a code or a line answers, and the outcome of the rules that it stands for.
-use Rattle.std.specs.Prelude.{◌≡◌, Bool, true, false, cond, not, List, ℕ, ◌<◌, eqb, ltb}
+use Rattle.std.specs.Prelude.{◌≡◌, Bool, true, false, cond, not, List, ℕ, ◌<◌, eqb, ltb, Result, Ok, Err}
 use Rattle.rules.specs.Bits.{bits_of}
 use Rattle.rules.specs.Lines as Rule
 use Rattle.rules.specs.Lines.{Went, went, failed, next, push_run, one, code_of, line_end}
@@ -7,17 +7,23 @@ use Rattle.rules.specs.Pages.{overlaid}
 use Rattle.bit_reader.specs.Loaded.{Loading}
 use Rattle.context.specs.declared.line.Line.{Line}
 use Rattle.context.specs.declared.step.Rules.{Rules}
-use Rattle.context.specs.declared.step.Step.{Step}
-use Rattle.context.specs.declared.step.Step.TheVariants.{On, Stop}
+use Rattle.context.specs.declared.step.Stop.{Stop}
 use Rattle.context.specs.State.{line_at, line_for, rules_for, changes_of, Holds}
 
 -- "the bit at fault (0 for 4)"
 abbrev pub place_for : ℕ → ℕ → ℕ
 place_for number place = cond (eqb number 4) 0 place
 
+-- what a code or a line answers
+abbrev pub Step : Type 0
+Step = Result (Line × ℕ) Stop
+
+abbrev pub stop_at : ℕ → Line → ℕ → Stop
+stop_at n l place = record { line = l; place = place; number = n }
+
 abbrev pub step_for : ℕ → Went → Step
-step_for width (went s) = On (line_for width s) s.at
-step_for width (failed n place s) = Stop n (line_for width s) place
+step_for width (went s) = Ok (line_for width s, s.at)
+step_for width (failed n place s) = Err (stop_at n (line_for width s) place)
 
 -- an answer and the slice after it are those of an outcome
 pub record Steps (width : ℕ) (xs : List ℕ) (w : Went) (r : Step) (ys : List ℕ) : Type 0 where

@@ -1,13 +1,12 @@
 -- A line of the code, and the line of the rules that it stands for.
-use Rattle.std.specs.Prelude.{◌≡◌, Bool, true, false, not, List, ℕ, zero, suc, ◌+◌, ◌-◌, ◌%◌, ◌≤◌, ◌<◌, eqb, length, take}
+use Rattle.std.specs.Prelude.{◌≡◌, Bool, true, false, not, List, ℕ, zero, suc, ◌+◌, ◌-◌, ◌%◌, ◌≤◌, ◌<◌, eqb, length, take, Result, Ok, Err}
 use Rattle.rules.specs.Codes.{Colour, white, black}
 use Rattle.rules.specs.Lines as Rule
 use Rattle.rules.specs.Lines.{Went, went, failed, add, push, line_in}
 use Rattle.rules.specs.Pages.{overlaid}
 use Rattle.tables.specs.Tables.{colour_of}
 use Rattle.context.specs.declared.line.Line.{Line}
-use Rattle.context.specs.declared.line.Push.{Push}
-use Rattle.context.specs.declared.line.Push.TheVariants.{On, Stop}
+use Rattle.context.specs.declared.line.PushFault.{PushFault}
 use Rattle.context.specs.declared.step.Rules.{Rules}
 
 -- ---- The two lines
@@ -80,9 +79,16 @@ turns changes colour = not (eqb (changes % 2) colour)
 abbrev pub changes_of : Went → List ℕ
 changes_of w = (line_in w).changes
 
+-- what a push answers
+abbrev pub Push : Type 0
+Push = Result Line PushFault
+
+abbrev pub push_fault : ℕ → Line → PushFault
+push_fault n l = record { line = l; number = n }
+
 abbrev pub push_for : ℕ → Went → Push
-push_for width (went s) = On (line_for width s)
-push_for width (failed n place s) = Stop n (line_for width s)
+push_for width (went s) = Ok (line_for width s)
+push_for width (failed n place s) = Err (push_fault n (line_for width s))
 
 -- what `add` asks: a count that fits the line
 pub record Adds (xs : List ℕ) (l : Line) (count : ℕ) : Type 0 where

@@ -15,7 +15,8 @@ pub struct FoundChanges {
     pub b2: u32,
 }
 
-// Where the reference lies: in a slice of its own, or in the row's array, from a place to the row's first.
+// Where the reference lies: in a slice of its own, or in the row's array, from a place to the row's first. As an `Option` it would say
+// less: its variants name the two places.
 #[derive(Clone, Copy)]
 pub enum Reference {
     Lent,
@@ -47,14 +48,13 @@ fn scan(reference: &[u32], seen: usize, least: u32) -> usize
     requires { Passed least seen reference.now }
     ensures { Stopped least result reference.now }
 {
-    let mut place = seen;
-    while place < reference.len() {
+    let end = reference.len();
+    for place in seen..end {
         if least <= reference[place] {
             return place;
         }
-        place += 1;
     }
-    place
+    end
 }
 
 // Changes at even places turn black: b1 under white, which is 0, has an even place, under black an odd one.
@@ -114,12 +114,10 @@ pub fn ascends(row: &[u32], width: u32) -> bool
         return false;
     }
     let mut rising = true;
-    let mut place: usize = 1;
-    while place < count {
+    for place in 1..count {
         if row[place] <= row[place - 1] {
             rising = false;
         }
-        place += 1;
     }
     rising
 }

@@ -12,13 +12,17 @@ pub struct Rules {
     pub plain: bool,
 }
 
-// The line and the bit after; or the number of the fault, the line so far, whose `changes` says how many it has recorded, and the fault's
-// bit. The line stands at one place in both, which the line loops feel.
+// Why a line stops: the line so far, whose `changes` says how many it has recorded, the fault's bit, and the fault's number. The line
+// lies in front here, as in a `Step` that goes on, so that it stands at one place in both, which the line loops feel.
 #[derive(Clone, Copy)]
-pub enum Step {
-    On(Line, usize),
-    Stop(u32, Line, usize),
+pub struct Stop {
+    pub line: Line,
+    pub place: usize,
+    pub number: u32,
 }
+
+// The line and the bit after.
+pub type Step = Result<(Line, usize), Stop>;
 
 // A change for which there is no room is at no bit's fault.
 pub fn place_of(number: u32, place: usize) -> usize

@@ -1,5 +1,5 @@
 -- The invariant: what was noted, and the test of what is left, are the test of the whole row, below the width that every change of 32 bits
--- is below. The measure is what is left.
+-- is below.
 use mathlib.Core.Path.{sym, ap, ◌∙◌}
 use Prim.Native.Nat.{ℕ, ◌+◌}
 use native.Mathlib.Omega.{arith}
@@ -14,42 +14,12 @@ wide = 4294967296
 pub returns-then-count-eq0 : goal.returns-then-count-eq0
 returns-then-count-eq0 c = ascends_none _ _ c.if-count-eq0.true
 
-pub overflow_sub-count : goal.overflow_sub-count
-overflow_sub-count c = omega arith
-
-pub offset_bounds-row-count : goal.offset_bounds-row-count
-offset_bounds-row-count c = omega arith
-
-pub bounds-row-count : goal.bounds-row-count
-bounds-row-count c = omega arith
-
 pub returns-then-width-row : goal.returns-then-width-row
 returns-then-width-row c = ascends-out _ _ (omega arith) c.if-width-row.true
 
 pub loop-place-init : goal.loop-place-init
 loop-place-init c =
     (omega arith, first-left wide c.args.row.now (omega arith) (omega (arith, c.type_inv.row 0)))
-
-pub offset_bounds-row-place : goal.offset_bounds-row-place
-offset_bounds-row-place c = omega arith
-
-pub bounds-row-place : goal.bounds-row-place
-bounds-row-place c = omega arith
-
-pub overflow_sub-place : goal.overflow_sub-place
-overflow_sub-place c = omega arith
-
-pub offset_bounds-row-place-in-loop-place : goal.offset_bounds-row-place-in-loop-place
-offset_bounds-row-place-in-loop-place c = omega arith
-
-pub bounds-row-place-in-loop-place : goal.bounds-row-place-in-loop-place
-bounds-row-place-in-loop-place c = omega arith
-
-pub overflow_add-place : goal.overflow_add-place
-overflow_add-place c = omega arith
-
-pub loop-place-smaller : goal.loop-place-smaller
-loop-place-smaller c = omega arith
 
 pub loop-place-preserved : goal.loop-place-preserved
 loop-place-preserved c =
