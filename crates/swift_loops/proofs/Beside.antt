@@ -1,4 +1,5 @@
 -- V0, VR1 and VL1 codes one behind the other: a line that such a code has turned, and the loop over them. Assumes nothing.
+use Rattle.std.specs.Prelude.{Option, Some, None}
 use mathlib.Core.Path.{◌≡◌, refl, sym, ap, ◌∙◌, subst}
 use mathlib.Core.List.{List}
 use Prim.Native.Nat.{ℕ, ◌+◌, ◌-◌, ◌*◌, ◌/◌, ◌%◌, ◌^◌, ◌≤◌, ◌<◌}
@@ -21,8 +22,6 @@ use Rattle.context.proofs.RowPart.{placed-base}
 use Rattle.context.proofs.Search.{right-more}
 use Rattle.context.proofs.Placing.{seen_next}
 use Rattle.swift_loops.specs.declared.fast_2d.BetweenCodes.{BetweenCodes}
-use Rattle.swift_loops.specs.declared.fast_2d.TakenCode.{TakenCode}
-use Rattle.swift_loops.specs.declared.fast_2d.TakenCode.TheVariants.{On, Other}
 use Rattle.swift_loops.specs.Swift.{WalkedIn, TookIn, side_mode, TookAhead, Ready, Asks, Sided, Turned, TurnedOn, GoesAlong}
 use Rattle.swift_loops.specs.Swift.{WentStraight, Turns, WalkedTo}
 use Rattle.swift_loops.proofs.Swiftly.{NotedIn, fits-b1, noted-few, after-length, after-placed, after-reference, room-full}
@@ -70,7 +69,7 @@ module _ {place : Reference} {lent xs : List ℕ} {base width : ℕ} {s : Betwee
     (q : Sided place lent xs base width s b d twice size)
     (far : s.position + d < b + twice) (within : b + twice ≤ width + d) {r : ℕ} {zs : List ℕ} (n : NotedIn base xs s r zs) where
   pub side-turned : (p : ℕ) → Reached (reference_in place base lent zs) (b + twice - d + 1) (s.place + 1) p
-      → TurnedOn place lent zs base width s (On (record { at = s.at + size; position = b + twice - d; count = r; place = p }))
+      → TurnedOn place lent zs base width s (Some (record { at = s.at + size; position = b + twice - d; count = r; place = p }))
   side-turned p reached =
       let there : Reached (reference_in place base lent xs) (b + twice - d + 1) (s.place + 1) p =
       subst (λ (l : List ℕ). Reached l (b + twice - d + 1) (s.place + 1) p) (after-reference q.asks.ready n) reached in (
@@ -192,18 +191,18 @@ module _ {place : Reference} {lent xs : List ℕ} {base width : ℕ} {s : Betwee
       shown bytes live h k = let v = a.walked bytes live h k in shows-on v.1 u.at w.forth (omega arith)
 
       -- and one beside b1, if there is one
-      module _ {r : TakenCode} {us : List ℕ} (n : Turns place lent ys base width u behind r us) where
+      module _ {r : Option BetweenCodes} {us : List ℕ} (n : Turns place lent ys base width u behind r us) where
         took : (bytes : List ℕ) (live : ℕ) → Ahead bytes s.at live bits → stop + 7 ≤ s.at + live
             → TookIn bytes place lent ys base width u r us
         took bytes live h k = let v = shown bytes live h k in n.took bytes v.live v.next (omega (arith, v.ends))
 
-        pub nearing-other : r ≡ Other → WalkedTo place lent xs base width s bits stop u us
+        pub nearing-other : r ≡ None → WalkedTo place lent xs base width s bits stop u us
         nearing-other e = λ bytes live h k.
-            let same = subst (λ (q : TakenCode). TookIn bytes place lent ys base width u q us) e (took bytes live h k) in
+            let same = subst (λ (q : Option BetweenCodes). TookIn bytes place lent ys base width u q us) e (took bytes live h k) in
             rw same (nearing-done bytes live h k)
 
-        module _ {next : BetweenCodes} (e : r ≡ On next) where
-          turns-on : TurnedOn place lent us base width u (On next)
+        module _ {next : BetweenCodes} (e : r ≡ Some next) where
+          turns-on : TurnedOn place lent us base width u (Some next)
           turns-on = subst (TurnedOn place lent us base width u) e n.turned
 
           -- a code has seven bits at most
@@ -218,7 +217,7 @@ module _ {place : Reference} {lent xs : List ℕ} {base width : ℕ} {s : Betwee
             forth = omega (arith, nearing-short, w.forth, a.forth);
             size = m ∙ l ∙ a.size;
             walked = λ bytes live h k.
-                let one = subst (λ (q : TakenCode). TookIn bytes place lent ys base width u q us) e (took bytes live h k) in (
+                let one = subst (λ (q : Option BetweenCodes). TookIn bytes place lent ys base width u q us) e (took bytes live h k) in (
                   walked_further place lent g.turned.placed (nearing-done bytes live h k) one.0,
                   shows-on (shown bytes live h k) next.at (omega (arith, nearing-short)) (omega (arith, nearing-short)),
                 );
@@ -231,14 +230,14 @@ module _ {place : Reference} {lent xs : List ℕ} {base width : ℕ} {s : Betwee
 -- ---- The first code, and those behind it
 
 module _ {place : Reference} {lent xs : List ℕ} {base width : ℕ} {s : BetweenCodes} {b : ℕ} (q : Asks place lent xs base width s b)
-    (low : s.at ≤ most_bits) {bits : ℕ} {r : TakenCode}
+    (low : s.at ≤ most_bits) {bits : ℕ} {r : Option BetweenCodes}
     {ys : List ℕ} (n : Turns place lent xs base width s bits r ys) where
-  pub first-other : r ≡ Other → TookAhead place lent xs base width s bits Other ys
+  pub first-other : r ≡ None → TookAhead place lent xs base width s bits None ys
   first-other e = λ bytes live h k.
-      subst (λ (o : TakenCode). TookIn bytes place lent xs base width s o ys) e (n.took bytes live h (omega arith))
+      subst (λ (o : Option BetweenCodes). TookIn bytes place lent xs base width s o ys) e (n.took bytes live h (omega arith))
 
-  module _ {t : BetweenCodes} (e : r ≡ On t) where
-    turned : TurnedOn place lent ys base width s (On t)
+  module _ {t : BetweenCodes} (e : r ≡ Some t) where
+    turned : TurnedOn place lent ys base width s (Some t)
     turned = subst (TurnedOn place lent ys base width s) e n.turned
 
     pub first_short : (s.at < t.at) × (t.at ≤ s.at + 7)
@@ -254,10 +253,10 @@ module _ {place : Reference} {lent xs : List ℕ} {base width : ℕ} {s : Betwee
 
     pub first_then : {u : BetweenCodes} {us : List ℕ}
         → WalkedTo place lent ys base width t (bits * 2 ^ (t.at - s.at) % 2 ^ 64) (s.at + 50) u us
-        → TookAhead place lent xs base width s bits (On u) us
+        → TookAhead place lent xs base width s bits (Some u) us
     first_then f = λ bytes live h k.
         let v =
         shows-on (record { live = live; next = h; ends = refl }) t.at (omega (arith, first_short)) (omega (arith, first_short)) in
-        let one = subst (λ (o : TakenCode). TookIn bytes place lent xs base width s o ys) e (n.took bytes live h (omega arith)) in
+        let one = subst (λ (o : Option BetweenCodes). TookIn bytes place lent xs base width s o ys) e (n.took bytes live h (omega arith)) in
         let rest = f bytes v.live v.next (omega (arith, v.ends)) in
         (walked_further place lent q.ready.placed one.0 rest, omega (arith, first_short, rest.forth))

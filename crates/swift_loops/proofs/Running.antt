@@ -1,4 +1,5 @@
 -- A 1D line by pairs: what runs make of a line and its row, one run and one pair; and the line behind its pairs. Assumes nothing.
+use Rattle.std.specs.Prelude.{Option, Some, Ok}
 use mathlib.Core.Path.{◌≡◌, refl, sym, ap, ◌∙◌, subst}
 use mathlib.Core.Bool.{Bool, true, false}
 use mathlib.Core.List.{List, [], ◌∷◌, ◌++◌}
@@ -22,14 +23,11 @@ use Rattle.bit_reader.specs.Loaded.{Ahead}
 use Rattle.bit_reader.proofs.Window.{ahead-shift}
 use Rattle.context.specs.declared.line.Line.{Line}
 use Rattle.context.specs.declared.step.Rules as Code
-use Rattle.context.specs.declared.step.Step.{Step}
-use Rattle.context.specs.declared.step.Step.TheVariants.{On}
 use Rattle.swift_loops.specs.declared.fast_1d.BetweenRuns.{BetweenRuns}
 use Rattle.swift_loops.specs.declared.fast_1d.BeforePair.{BeforePair}
 use Rattle.swift_loops.specs.declared.fast_1d.Pair.{Pair}
-use Rattle.swift_loops.specs.declared.fast_1d.AfterPair.{AfterPair}
 use Rattle.context.specs.State.{rules_for, ruling, turns, Holds}
-use Rattle.context.specs.Outcome.{Steps, Runs}
+use Rattle.context.specs.Outcome.{Step, Steps, Runs}
 use Rattle.swift_loops.specs.Pairs.{PairRun, KnownIn, halting, halt_line, start_at, pace_of, Halts, Ran, Paces, BegunTo, Begins, Filled}
 use Rattle.context.proofs.State.{line-for, turns-is, overlaid-same, overlaid-set}
 use Rattle.context.proofs.Carried.{Carries, carries-step, front_of, overlaid-over}
@@ -252,10 +250,10 @@ module _ (bytes xs : List ℕ) (width at : ℕ) (rules : Code.Rules) (narrow : w
   }
 
   -- which may be nothing,
-  pub ran-done : t.position ≡ width → Steps width xs (read_line (rules_for width rules xs) one (bits_of bytes) at) (On (halt_line width t) t.at) ys
+  pub ran-done : t.position ≡ width → Steps width xs (read_line (rules_for width rules xs) one (bits_of bytes) at) (Ok (halt_line width t, t.at)) ys
   ran-done e =
       rw (whole ∙ line-done width (push_run R-of (bits_of bytes)) (bits_of bytes) (moves R-of one (bits_of bytes)) (halting ys t) e)
-      (record { answer = ap (λ (l : Line). On l t.at) carried.line-is; store = v.store })
+      (record { answer = ap (λ (l : Line). Ok (l, t.at)) carried.line-is; store = v.store })
 
   -- or runs to the width
   pub ran-rest : {r : Step} {zs : List ℕ} → Runs bytes ys false (halt_line width t) t.at rules r zs → Steps width xs (read_line (rules_for width rules xs) one (bits_of bytes) at) r zs
@@ -264,7 +262,7 @@ module _ (bytes xs : List ℕ) (width at : ℕ) (rules : Code.Rules) (narrow : w
       (carries-step carried rules (λ R s. line_end R.width (code_of R one (bits_of bytes)) (bits_of bytes) s) (rest-grows R-of (bits_of bytes) (halting ys t)) r zs u)
 
 -- a line that begins so, and whose first run comes to the width, is filled by it
-pub begun-fills : {bytes : List ℕ} {width at room live bits : ℕ} {r : AfterPair} → Begins width at bits r → Ahead bytes at live bits → 57 ≤ live → width ≤ room
-    → (t : BeforePair) → r ≡ AfterPair.On t → t.position ≡ width → Filled bytes room width at (AfterPair.On t)
+pub begun-fills : {bytes : List ℕ} {width at room live bits : ℕ} {r : Option BeforePair} → Begins width at bits r → Ahead bytes at live bits → 57 ≤ live → width ≤ room
+    → (t : BeforePair) → r ≡ Some t → t.position ≡ width → Filled bytes room width at (Some t)
 begun-fills {bytes} {width} {at} {live = live} b h enough fits t e z =
-    (z, λ xs l. (subst (λ (r : AfterPair). BegunTo bytes xs width at r) e (b bytes xs live h enough (omega arith))).0)
+    (z, λ xs l. (subst (λ (r : Option BeforePair). BegunTo bytes xs width at r) e (b bytes xs live h enough (omega arith))).0)

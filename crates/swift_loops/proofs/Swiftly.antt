@@ -1,4 +1,5 @@
 -- The stands of a line that is read swiftly: the array behind a change that was noted, what each code makes of a stand, and codes one behind the other. Assumes nothing.
+use Rattle.std.specs.Prelude.{Option, Some, None}
 use mathlib.Core.Path.{◌≡◌, refl, sym, ap, ◌∙◌, subst}
 use mathlib.Core.Logic.{◌⊎◌, inl, inr}
 use mathlib.Core.Bool.{Bool, true, false, cond}
@@ -23,10 +24,7 @@ use Rattle.rules.proofs.Bits.{length-bits_of}
 use Rattle.rules.proofs.Lines.{moves, line-more}
 use Rattle.tables.specs.Tables.{colour_of}
 use Rattle.bit_reader.specs.Cursor.{most_bits}
-use Rattle.context.specs.declared.offset.Move.TheVariants.{By}
 use Rattle.swift_loops.specs.declared.fast_2d.BetweenCodes.{BetweenCodes}
-use Rattle.swift_loops.specs.declared.fast_2d.TakenCode.{TakenCode}
-use Rattle.swift_loops.specs.declared.fast_2d.TakenCode.TheVariants.{On, Other}
 use Rattle.context.specs.State.{ruling, turns}
 use Rattle.context.specs.Coding.{reference_in, Placed}
 use Rattle.context.specs.Offset.{move_by}
@@ -326,7 +324,7 @@ module _ {place : Reference} {lent xs : List ℕ} {base width : ℕ} {s : Betwee
     -- ---- Vertical modes
 
     module _ (bytes : List ℕ) (m : Mode) (upright : Upright m) (end a1 p : ℕ) (read : read_mode (bits_of bytes) s.at ≡ ok (moded end m))
-        (move : move_by b m s.position ≡ By (a1 - s.position))
+        (move : move_by b m s.position ≡ Some (a1 - s.position))
         (right : s.position < a1) (fits : a1 ≤ width) (seen : Seen ref (a1 + 1) p) (parity : p % 2 ≡ (s.place + 1) % 2)
         (near : p ≤ suc (length ref) + end) where
       vertical-code : OneCodeIn bytes place lent xs base width s zs (record { at = end; position = a1; count = r; place = p })
@@ -471,13 +469,13 @@ module _ {bytes : List ℕ} {place : Reference} {lent xs : List ℕ} {base width
   }
 
   -- as the code is seen to be, with what it makes of the loop's measure
-  module _ (r : TakenCode) (ys : List ℕ) (took : TookIn bytes place lent zs base width t r ys) where
-    pub took-other : r ≡ Other → WalkedIn bytes place lent xs base width s ys t
-    took-other e = rw (subst (λ (q : TakenCode). TookIn bytes place lent zs base width t q ys) e took) v
+  module _ (r : Option BetweenCodes) (ys : List ℕ) (took : TookIn bytes place lent zs base width t r ys) where
+    pub took-other : r ≡ None → WalkedIn bytes place lent xs base width s ys t
+    took-other e = rw (subst (λ (q : Option BetweenCodes). TookIn bytes place lent zs base width t q ys) e took) v
 
-    module _ {u : BetweenCodes} (e : r ≡ On u) where
+    module _ {u : BetweenCodes} (e : r ≡ Some u) where
       on : WalkedIn bytes place lent zs base width t ys u × (t.at < u.at)
-      on = subst (λ (q : TakenCode). TookIn bytes place lent zs base width t q ys) e took
+      on = subst (λ (q : Option BetweenCodes). TookIn bytes place lent zs base width t q ys) e took
 
       pub took-on : WalkedIn bytes place lent xs base width s ys u
       took-on = walked_further place lent h.placed v on.0
@@ -514,10 +512,10 @@ module _ {place : Reference} {lent xs : List ℕ} {base width : ℕ} {s : Betwee
     (q : Sided place lent xs base width s b d twice size)
     (far : s.position + d < b + twice) (within : b + twice ≤ width + d) where
   -- it moves to a1
-  side-moves : move_by b (side_mode d twice) s.position ≡ By (b + twice - d - s.position)
+  side-moves : move_by b (side_mode d twice) s.position ≡ Some (b + twice - d - s.position)
   side-moves = cases q.sides
     where
-      cases : (twice ≡ 0) ⊎ (twice ≡ 2 * d) → move_by b (side_mode d twice) s.position ≡ By (b + twice - d - s.position)
+      cases : (twice ≡ 0) ⊎ (twice ≡ 2 * d) → move_by b (side_mode d twice) s.position ≡ Some (b + twice - d - s.position)
       cases (inl e) =
           rw (eq-eqb twice 0 e)
           (moves-left b (b + twice - d) d s.position (omega (arith, within, q.asks.ready.narrow)) (omega (arith, far)) (omega (arith, far)))

@@ -1,5 +1,5 @@
 -- The pairs of a 1D line: where a line stands between its runs, and what pairs make of it and of the row that holds it.
-use Rattle.std.specs.Prelude.{◌≡◌, Bool, true, false, cond, List, ℕ, ◌+◌, ◌*◌, ◌/◌, ◌%◌, ◌≤◌, ◌<◌, eqb, length, take, drop}
+use Rattle.std.specs.Prelude.{◌≡◌, Bool, true, false, cond, List, ℕ, ◌+◌, ◌*◌, ◌/◌, ◌%◌, ◌≤◌, ◌<◌, eqb, length, take, drop, Option, Some, None}
 use Rattle.rules.specs.Bits.{bits_of, peek}
 use Rattle.rules.specs.Codes.{white, black}
 use Rattle.rules.specs.Runs.{ok, sum, read_run}
@@ -14,8 +14,6 @@ use Rattle.codes.specs.declared.front.Front.{Front}
 use Rattle.context.specs.declared.line.Line.{Line}
 use Rattle.swift_loops.specs.declared.fast_1d.BetweenRuns.{BetweenRuns}
 use Rattle.swift_loops.specs.declared.fast_1d.BeforePair.{BeforePair}
-use Rattle.swift_loops.specs.declared.fast_1d.AfterPair.{AfterPair}
-use Rattle.swift_loops.specs.declared.fast_1d.AfterPair.TheVariants.{On, Other}
 use Rattle.swift_loops.specs.declared.fast_1d.Pair.{Pair}
 use Rattle.context.specs.State.{ruling}
 
@@ -105,9 +103,9 @@ pub record Paces (bytes xs : List ℕ) (width : ℕ) (s : BeforePair) : Type 0 w
   pub known : KnownIn bytes s.at s.bits
 
 -- what a pair makes of it; it takes pixels
-abbrev pub PacedTo : List ℕ → List ℕ → ℕ → BeforePair → AfterPair → List ℕ → Type 0
-PacedTo bytes xs width s (On t) ys = Ran (bits_of bytes) (length xs) width xs (pace_of s) ys (pace_of t) × Paces bytes ys width t × (s.position < t.position)
-PacedTo bytes xs width s Other ys = ys ≡ xs
+abbrev pub PacedTo : List ℕ → List ℕ → ℕ → BeforePair → Option BeforePair → List ℕ → Type 0
+PacedTo bytes xs width s (Some t) ys = Ran (bits_of bytes) (length xs) width xs (pace_of s) ys (pace_of t) × Paces bytes ys width t × (s.position < t.position)
+PacedTo bytes xs width s None ys = ys ≡ xs
 
 -- ---- What the functions ask
 
@@ -121,7 +119,7 @@ pub record Putting (row : List ℕ) (width : ℕ) (s : BeforePair) (pair : Pair)
   pub thin : pair.black + pair.white ≤ 16380
   pub both : 0 < pair.white → 0 < pair.black
 
-abbrev pub Puts : List ℕ → ℕ → BeforePair → Pair → ℕ → AfterPair → List ℕ → Type 0
+abbrev pub Puts : List ℕ → ℕ → BeforePair → Pair → ℕ → Option BeforePair → List ℕ → Type 0
 Puts row width s pair bits r ys = (bytes : List ℕ) → (0 < pair.white → PairRun bytes s.at pair) → KnownIn bytes (s.at + pair.size) bits → PacedTo bytes row width s r ys
 
 pub record Pacing (bytes row : List ℕ) (width last : ℕ) (s : BeforePair) : Type 0 where
@@ -139,11 +137,11 @@ pub record Beginning (width at : ℕ) : Type 0 where
   pub low : at ≤ most_bits
 
 -- whatever data the bits stand in, 57 of them at least, and whatever row has room for the line
-abbrev pub BegunTo : List ℕ → List ℕ → ℕ → ℕ → AfterPair → Type 0
-BegunTo bytes xs width at (On t) = Ran (bits_of bytes) (length xs) width xs (start_at at) xs (pace_of t) × Paces bytes xs width t
-BegunTo bytes xs width at Other = Unit {0}
+abbrev pub BegunTo : List ℕ → List ℕ → ℕ → ℕ → Option BeforePair → Type 0
+BegunTo bytes xs width at (Some t) = Ran (bits_of bytes) (length xs) width xs (start_at at) xs (pace_of t) × Paces bytes xs width t
+BegunTo bytes xs width at None = Unit {0}
 
-abbrev pub Begins : ℕ → ℕ → ℕ → AfterPair → Type 0
+abbrev pub Begins : ℕ → ℕ → ℕ → Option BeforePair → Type 0
 Begins width at bits r =
     (bytes xs : List ℕ) (live : ℕ) → Ahead bytes at live bits → 57 ≤ live → width ≤ length xs → BegunTo bytes xs width at r
 
@@ -151,10 +149,10 @@ abbrev pub Fit : ℕ → ℕ → ℕ → ℕ → Bool → Type 0
 Fit room width len at r = r ≡ true → (0 < width) × (width ≤ room) × (at + 64 ≤ 8 * len)
 
 -- a line that its first run fills, whatever row there is so much room in
-abbrev pub Filled : List ℕ → ℕ → ℕ → ℕ → AfterPair → Type 0
-Filled bytes room width at (On t) =
+abbrev pub Filled : List ℕ → ℕ → ℕ → ℕ → Option BeforePair → Type 0
+Filled bytes room width at (Some t) =
     (t.position ≡ width) × ((xs : List ℕ) → length xs ≡ room → Ran (bits_of bytes) (length xs) width xs (start_at at) xs (pace_of t))
-Filled bytes room width at Other = Unit {0}
+Filled bytes room width at None = Unit {0}
 
 -- the tables, where they are lent
 abbrev pub Tabled : Bool → List ℕ → List ℕ → List ℕ → Type 0

@@ -1,5 +1,5 @@
 -- The swift codes of a 2D line: where a line stands between two of them, and what they make of it and of the array that holds it.
-use Rattle.std.specs.Prelude.{◌≡◌, ◌⊎◌, Bool, false, cond, List, ℕ, suc, ◌+◌, ◌*◌, ◌%◌, ◌≤◌, ◌<◌, eqb, length, take, drop}
+use Rattle.std.specs.Prelude.{◌≡◌, ◌⊎◌, Bool, false, cond, List, ℕ, suc, ◌+◌, ◌*◌, ◌%◌, ◌≤◌, ◌<◌, eqb, length, take, drop, Option, Some, None}
 use Rattle.rules.specs.Bits.{bits_of}
 use Rattle.rules.specs.Runs.{ok}
 use Rattle.rules.specs.Modes.{Mode, VR, VL, moded, read_mode}
@@ -13,8 +13,6 @@ use Rattle.bit_reader.specs.Loaded.{Ahead, Loading}
 use Rattle.context.specs.declared.line.Line.{Line}
 use Rattle.context.specs.declared.reference.Reference.{Reference}
 use Rattle.swift_loops.specs.declared.fast_2d.BetweenCodes.{BetweenCodes}
-use Rattle.swift_loops.specs.declared.fast_2d.TakenCode.{TakenCode}
-use Rattle.swift_loops.specs.declared.fast_2d.TakenCode.TheVariants.{On, Other}
 use Rattle.context.specs.State.{ruling}
 use Rattle.context.specs.Coding.{reference_in, Placed}
 use Rattle.context.specs.Places.{Seen}
@@ -66,16 +64,16 @@ pub record Walked (reference : List ℕ) (bs : List Bool) (base room width : ℕ
       → let code = code_2d (ruling width room strict exact) reference bs in line_end width code bs (standing (drop base xs) cut s) ≡ line_end width code bs (standing (drop base ys) cut t)
 
 -- a code takes bits; one that is another leaves the array
-abbrev pub Took : List ℕ → List Bool → ℕ → ℕ → ℕ → List ℕ → BetweenCodes → TakenCode → List ℕ → Type 0
-Took reference bs base room width xs s (On t) ys = Walked reference bs base room width xs s ys t × (s.at < t.at)
-Took reference bs base room width xs s Other ys = ys ≡ xs
+abbrev pub Took : List ℕ → List Bool → ℕ → ℕ → ℕ → List ℕ → BetweenCodes → Option BetweenCodes → List ℕ → Type 0
+Took reference bs base room width xs s (Some t) ys = Walked reference bs base room width xs s ys t × (s.at < t.at)
+Took reference bs base room width xs s None ys = ys ≡ xs
 
 -- the same of the data whose bits these are, under a reference that is lent or kept before the row, in the row's room
 abbrev pub WalkedIn : List ℕ → Reference → List ℕ → List ℕ → ℕ → ℕ → BetweenCodes → List ℕ → BetweenCodes → Type 0
 WalkedIn bytes place lent xs base width s ys t =
     Walked (reference_in place base lent xs) (bits_of bytes) base (room_in base xs) width xs s ys t
 
-abbrev pub TookIn : List ℕ → Reference → List ℕ → List ℕ → ℕ → ℕ → BetweenCodes → TakenCode → List ℕ → Type 0
+abbrev pub TookIn : List ℕ → Reference → List ℕ → List ℕ → ℕ → ℕ → BetweenCodes → Option BetweenCodes → List ℕ → Type 0
 TookIn bytes place lent xs base width s r ys = Took (reference_in place base lent xs) (bits_of bytes) base (room_in base xs) width xs s r ys
 
 -- the mode that a vertical code of `d` pixels is: to the right where `twice` is twice d, to the left where it is 0
@@ -83,17 +81,17 @@ abbrev pub side_mode : ℕ → ℕ → Mode
 side_mode d twice = cond (eqb twice 0) (VL d) (VR d)
 
 -- in any data that has a mode's code at the stand, up to a bit; and the same where the next bits are known, so many of them at least
-abbrev pub TookMode : Reference → List ℕ → List ℕ → ℕ → ℕ → BetweenCodes → ℕ → Mode → TakenCode → List ℕ → Type 0
+abbrev pub TookMode : Reference → List ℕ → List ℕ → ℕ → ℕ → BetweenCodes → ℕ → Mode → Option BetweenCodes → List ℕ → Type 0
 TookMode place lent xs base width s next mode r ys =
     (bytes : List ℕ) → read_mode (bits_of bytes) s.at ≡ ok (moded next mode) → TookIn bytes place lent xs base width s r ys
 
-abbrev pub TookBits : Reference → List ℕ → List ℕ → ℕ → ℕ → BetweenCodes → ℕ → ℕ → ℕ → Mode → TakenCode → List ℕ → Type 0
+abbrev pub TookBits : Reference → List ℕ → List ℕ → ℕ → ℕ → BetweenCodes → ℕ → ℕ → ℕ → Mode → Option BetweenCodes → List ℕ → Type 0
 TookBits place lent xs base width s bits least next mode r ys =
     (bytes : List ℕ) (live : ℕ) → Ahead bytes s.at live bits → least ≤ live
     → read_mode (bits_of bytes) s.at ≡ ok (moded next mode) → TookIn bytes place lent xs base width s r ys
 
 -- in any data that has these bits at the stand, 57 of them at least
-abbrev pub TookAhead : Reference → List ℕ → List ℕ → ℕ → ℕ → BetweenCodes → ℕ → TakenCode → List ℕ → Type 0
+abbrev pub TookAhead : Reference → List ℕ → List ℕ → ℕ → ℕ → BetweenCodes → ℕ → Option BetweenCodes → List ℕ → Type 0
 TookAhead place lent xs base width s bits r ys =
     (bytes : List ℕ) (live : ℕ) → Ahead bytes s.at live bits → 57 ≤ live → TookIn bytes place lent xs base width s r ys
 
@@ -137,12 +135,12 @@ pub record Turned (place : Reference) (lent xs : List ℕ) (base width : ℕ) (s
   pub long : length (reference_in place base lent xs) < 2305843009213693952
 
 -- behind a code, if it was taken: it has at most seven bits
-abbrev pub TurnedOn : Reference → List ℕ → List ℕ → ℕ → ℕ → BetweenCodes → TakenCode → Type 0
-TurnedOn place lent ys base width s (On t) = Turned place lent ys base width t × (s.at < t.at) × (t.at ≤ s.at + 7)
-TurnedOn place lent ys base width s Other = Unit {0}
+abbrev pub TurnedOn : Reference → List ℕ → List ℕ → ℕ → ℕ → BetweenCodes → Option BetweenCodes → Type 0
+TurnedOn place lent ys base width s (Some t) = Turned place lent ys base width t × (s.at < t.at) × (t.at ≤ s.at + 7)
+TurnedOn place lent ys base width s None = Unit {0}
 
 -- a vertical code of `size` bits, and the line behind it
-abbrev pub SideTaken : Reference → List ℕ → List ℕ → ℕ → ℕ → BetweenCodes → ℕ → ℕ → ℕ → TakenCode → List ℕ → Type 0
+abbrev pub SideTaken : Reference → List ℕ → List ℕ → ℕ → ℕ → BetweenCodes → ℕ → ℕ → ℕ → Option BetweenCodes → List ℕ → Type 0
 SideTaken place lent xs base width s d twice size r ys =
     TookMode place lent xs base width s (s.at + size) (side_mode d twice) r ys × TurnedOn place lent ys base width s r
 
@@ -164,7 +162,7 @@ pub record WentStraight (place : Reference) (lent xs : List ℕ) (base width : �
       → WalkedIn bytes place lent xs base width s ys t × (t.at ≤ s.at + live)
 
 -- a code that turns the line, in any data that has these bits at the stand, seven of them at least
-pub record Turns (place : Reference) (lent xs : List ℕ) (base width : ℕ) (s : BetweenCodes) (bits : ℕ) (r : TakenCode) (ys : List ℕ) : Type
+pub record Turns (place : Reference) (lent xs : List ℕ) (base width : ℕ) (s : BetweenCodes) (bits : ℕ) (r : Option BetweenCodes) (ys : List ℕ) : Type
     0 where
   pub took : (bytes : List ℕ) (live : ℕ) → Ahead bytes s.at live bits → 7 ≤ live → TookIn bytes place lent xs base width s r ys
   pub turned : TurnedOn place lent ys base width s r

@@ -32,13 +32,6 @@ pub struct BeforePair {
     pub bits: u64,
 }
 
-// Where it stands behind a pair; or the next runs are no such pair.
-#[derive(Clone, Copy)]
-pub enum AfterPair {
-    On(BeforePair),
-    Other,
-}
-
 // Where a line stands between two runs.
 #[derive(Clone, Copy)]
 pub struct BetweenRuns {
@@ -137,16 +130,22 @@ pub(crate) fn bits_behind(src: &[u8], last: usize, at: usize, size: usize, windo
     bit_reader::ahead(src, at + size)
 }
 
-// Both runs pushed, each with its change.
-pub(crate) fn put(row: &mut [u32], width: u32, s: BeforePair, pair: Pair, bits: u64) -> AfterPair
+// Both runs pushed, each with its change: where the line stands behind them; none where they are no pair, or run past the line.
+pub(crate) fn put(
+    row: &mut [u32],
+    width: u32,
+    s: BeforePair,
+    pair: Pair,
+    bits: u64,
+) -> Option<BeforePair>
     requires { Putting row.old width s pair }
     ensures { Puts row.old width s pair bits result row.new }
 {
     if pair.white == 0 {
-        return AfterPair::Other;
+        return None;
     }
     if width - s.position < pair.black + pair.white {
-        return AfterPair::Other;
+        return None;
     }
     let count = s.count;
     let position = s.position;
@@ -154,7 +153,7 @@ pub(crate) fn put(row: &mut [u32], width: u32, s: BeforePair, pair: Pair, bits: 
     let next = count + 1;
     row[count] = position;
     row[next] = middle;
-    AfterPair::On(BeforePair {
+    Some(BeforePair {
         at: s.at + pair.size,
         position: middle + pair.white,
         count: count + 2,
@@ -162,8 +161,8 @@ pub(crate) fn put(row: &mut [u32], width: u32, s: BeforePair, pair: Pair, bits: 
     })
 }
 
-// One pair. The window is loaded while the bits of the pair before it still tell the first code: so no load stands between one code
-// and the next.
+// Where the line stands behind one pair; none where the next runs are no such pair. The window is loaded while the bits of the pair before
+// it still tell the first code: so no load stands between one code and the next.
 fn step<'a>(
     white: &'a [u16],
     black: &'a [u16],
@@ -173,7 +172,7 @@ fn step<'a>(
     width: u32,
     last: usize,
     s: BeforePair,
-) -> AfterPair
+) -> Option<BeforePair>
     requires { Stepping src.now row.old width last s × Lookups white.now black.now × (both.now ≡ pair_table) }
     ensures { PacedTo src.now row.old width s result row.new }
 {
@@ -203,31 +202,33 @@ fn pairs_from<'a>(
         if last < s.at {
             return s;
         }
-        match step(white, black, both, src, row, width, last, s) {
-            AfterPair::Other => {
-                return s;
-            }
-            AfterPair::On(next) => {
-                s = next;
-            }
-        }
+        let Some(next) = step(white, black, both, src, row, width, last, s) else {
+            return s;
+        };
+        s = next;
     }
     s
 }
 
 // The line before its first pair. The white run that opens it records nothing; where it begins with black that is a run of 0.
-pub(crate) fn begun(lent: bool, white: &[u16], width: u32, at: usize, bits: u64) -> AfterPair
+pub(crate) fn begun(
+    lent: bool,
+    white: &[u16],
+    width: u32,
+    at: usize,
+    bits: u64,
+) -> Option<BeforePair>
     requires { Beginning width at × (lent ≡ true → white.now ≡ lookup_table Colour.white) }
     ensures { Begins width at bits result }
 {
     let first = front::front_run_by(lent, white, WHITE, front::top13(bits), bits);
     if first.size == 0 {
-        return AfterPair::Other;
+        return None;
     }
     if width < first.pixels {
-        return AfterPair::Other;
+        return None;
     }
-    AfterPair::On(BeforePair {
+    Some(BeforePair {
         at: at + first.size,
         position: first.pixels,
         count: 0,
@@ -264,22 +265,18 @@ pub fn whole_run(
     at: usize,
     room: usize,
     plain: bool,
-) -> AfterPair
+) -> Option<BeforePair>
     requires { Loading src.now at × (lent ≡ true → white.now ≡ lookup_table Colour.white) }
     ensures { Filled src.now room width at result }
 {
     if !fit(plain, room, width, src.len(), at) {
-        return AfterPair::Other;
+        return None;
     }
-    match begun(lent, white, width, at, bit_reader::ahead(src, at)) {
-        AfterPair::Other => AfterPair::Other,
-        AfterPair::On(t) => {
-            if t.position != width {
-                return AfterPair::Other;
-            }
-            AfterPair::On(t)
-        }
+    let t = begun(lent, white, width, at, bit_reader::ahead(src, at))?;
+    if t.position != width {
+        return None;
     }
+    Some(t)
 }
 
 fn halted(s: BeforePair) -> BetweenRuns
@@ -318,15 +315,13 @@ pub fn pairs<'a>(
         return start;
     }
     let last = 8 * src.len() - 64;
-    match begun(lent, white, width, at, bit_reader::ahead(src, at)) {
-        AfterPair::Other => start,
-        AfterPair::On(from) => {
-            if lent {
-                let t = pairs_from(white, black, both, src, row, width, last, from);
-                return halted(t);
-            }
-            let t = unlent_1d::pairs_from(src, row, width, last, from);
-            halted(t)
-        }
+    let Some(from) = begun(lent, white, width, at, bit_reader::ahead(src, at)) else {
+        return start;
+    };
+    if lent {
+        let t = pairs_from(white, black, both, src, row, width, last, from);
+        return halted(t);
     }
+    let t = unlent_1d::pairs_from(src, row, width, last, from);
+    halted(t)
 }

@@ -14,20 +14,13 @@ use codes::front;
 use context::{line, reference};
 
 // Where a line stands between two codes: the next bit, the position, the changes it has, and b1's place on the reference. Its colour is the
-// place's parity.
+// place's parity. A function that takes a code answers where it stands behind the code, and none where the code is another.
 #[derive(Clone, Copy)]
 pub struct BetweenCodes {
     pub at: usize,
     pub position: u32,
     pub count: usize,
     pub place: usize,
-}
-
-// Where the line stands behind a code; or the code is another.
-#[derive(Clone, Copy)]
-pub enum TakenCode {
-    On(BetweenCodes),
-    Other,
 }
 
 // How many changes there are once pixels of the line's colour follow: one more where the colour is not that of the last pixel.
@@ -44,7 +37,8 @@ pub fn note(row: &mut [u32], s: BetweenCodes) -> usize
     count
 }
 
-// The first place right of `position`, from `from` on, of the same parity.
+// The first place right of `position`, from `from` on, of the same parity. A `for` by twos would lose it behind the last change, where it
+// still counts.
 pub fn onward(reference: &[u32], from: usize, position: u32) -> usize
     requires { Onward reference.now from position }
     ensures { Reached reference.now (position + 1) from result }
@@ -96,21 +90,21 @@ fn vertical(
     d: usize,
     twice: usize,
     size: usize,
-) -> TakenCode
+) -> Option<BetweenCodes>
     requires { Sided (Kept start) [] changes.old base width s b1 d twice size }
     ensures { SideTaken (Kept start) [] changes.old base width s d twice size result changes.new }
 {
     let to = b1 as usize + twice;
     if to <= s.position as usize + d {
-        return TakenCode::Other;
+        return None;
     }
     if width as usize + d < to {
-        return TakenCode::Other;
+        return None;
     }
     let a1 = (to - d) as u32;
     let count = note(&mut changes[base..], s);
     let place = behind(&changes[start..base], s.place, d, a1);
-    TakenCode::On(BetweenCodes {
+    Some(BetweenCodes {
         at: s.at + size,
         position: a1,
         count: count,
@@ -170,16 +164,16 @@ fn beside(
     width: u32,
     s: BetweenCodes,
     rest: u64,
-) -> TakenCode
+) -> Option<BetweenCodes>
     requires { Turned (Kept start) [] changes.old base width s × (s.at ≤ most_bits + 64) }
     ensures { Turns (Kept start) [] changes.old base width s rest result changes.new }
 {
     if rest >> 62 != 1 {
-        return TakenCode::Other;
+        return None;
     }
     let b1 = reference::change_or(&changes[start..base], s.place, width);
     if b1 <= s.position {
-        return TakenCode::Other;
+        return None;
     }
     vertical(
         changes,
@@ -215,15 +209,11 @@ fn along(
             return t;
         }
         let left = rest << (t.at - s.at);
-        match beside(changes, start, base, width, t, left) {
-            TakenCode::Other => {
-                return t;
-            }
-            TakenCode::On(next) => {
-                rest = left << (next.at - t.at);
-                s = next;
-            }
-        }
+        let Some(next) = beside(changes, start, base, width, t, left) else {
+            return t;
+        };
+        rest = left << (next.at - t.at);
+        s = next;
     }
 }
 
@@ -237,13 +227,13 @@ fn to_b1(
     b1: u32,
     bits: u64,
     zeros: u32,
-) -> TakenCode
+) -> Option<BetweenCodes>
     requires { Asks (Kept start) [] changes.old base width s b1 × (zeros ≡ count_leading_zeros 64 bits) × (zeros ≤ 1) }
     ensures { Turns (Kept start) [] changes.old base width s bits result changes.new }
 {
     if zeros == 0 {
         let count = note(&mut changes[base..], s);
-        return TakenCode::On(BetweenCodes {
+        return Some(BetweenCodes {
             at: s.at + 1,
             position: b1,
             count: count,
@@ -273,18 +263,14 @@ fn straight(
     b1: u32,
     bits: u64,
     zeros: u32,
-) -> TakenCode
+) -> Option<BetweenCodes>
     requires { Asks (Kept start) [] changes.old base width s b1 × (s.at ≤ most_bits) × (zeros ≡ count_leading_zeros 64 bits) × (zeros ≤ 1) }
     ensures { TookAhead (Kept start) [] changes.old base width s bits result changes.new }
 {
-    match to_b1(changes, start, base, width, s, b1, bits, zeros) {
-        TakenCode::Other => TakenCode::Other,
-        TakenCode::On(first) => {
-            let rest = bits << (first.at - s.at);
-            let last = along(changes, start, base, width, first, rest, s.at + 50);
-            TakenCode::On(last)
-        }
-    }
+    let first = to_b1(changes, start, base, width, s, b1, bits, zeros)?;
+    let rest = bits << (first.at - s.at);
+    let last = along(changes, start, base, width, first, rest, s.at + 50);
+    Some(last)
 }
 
 // To b2, in the same colour.
@@ -295,13 +281,13 @@ fn to_b2(
     width: u32,
     s: BetweenCodes,
     b1: u32,
-) -> TakenCode
+) -> Option<BetweenCodes>
     requires { Asks (Kept start) [] changes.old base width s b1 }
     ensures { TookMode (Kept start) [] changes.old base width s (s.at + 4) pass result changes.new }
 {
     let count = note(&mut changes[base..], s);
     let b2 = reference::change_or(&changes[start..base], s.place + 1, width);
-    TakenCode::On(BetweenCodes {
+    Some(BetweenCodes {
         at: s.at + 4,
         position: b2,
         count: count,
@@ -326,7 +312,7 @@ fn two_runs<'a>(
     s: BetweenCodes,
     b1: u32,
     bits: u64,
-) -> TakenCode
+) -> Option<BetweenCodes>
     requires { Lookups white.now black.now × Asks (Kept start) [] changes.old base width s b1 }
     ensures { TookBits (Kept start) [] changes.old base width s bits 57 (s.at + 3) horizontal result changes.new }
 {
@@ -338,13 +324,13 @@ fn two_runs<'a>(
     let other = pick(black, white, parity);
     let two = front::front_run(other, front::top13(rest), rest);
     if one.pixels == 0 {
-        return TakenCode::Other;
+        return None;
     }
     if two.pixels == 0 {
-        return TakenCode::Other;
+        return None;
     }
     if width - s.position < one.pixels + two.pixels {
-        return TakenCode::Other;
+        return None;
     }
     let count = note(&mut changes[base..], s);
     let a1 = s.position + one.pixels;
@@ -352,7 +338,7 @@ fn two_runs<'a>(
     changes[last] = a1;
     let position = a1 + two.pixels;
     let place = onward(&changes[start..base], s.place, position);
-    TakenCode::On(BetweenCodes {
+    Some(BetweenCodes {
         at: s.at + 3 + one.size + two.size,
         position: position,
         count: count + 1,
@@ -372,7 +358,7 @@ fn code<'a>(
     s: BetweenCodes,
     b1: u32,
     bits: u64,
-) -> TakenCode
+) -> Option<BetweenCodes>
     requires { Lookups white.now black.now × Asks (Kept start) [] changes.old base width s b1 × (s.at ≤ most_bits) }
     ensures { TookAhead (Kept start) [] changes.old base width s bits result changes.new }
 {
@@ -405,7 +391,7 @@ fn code<'a>(
             6 * bit_of(bits, 57),
             7,
         ),
-        _ => TakenCode::Other,
+        _ => None,
     }
 }
 
@@ -436,14 +422,10 @@ fn codes<'a>(
             return s;
         }
         let bits = bit_reader::ahead(src, s.at);
-        match code(white, black, changes, start, base, width, s, b1, bits) {
-            TakenCode::Other => {
-                return s;
-            }
-            TakenCode::On(next) => {
-                s = next;
-            }
-        }
+        let Some(next) = code(white, black, changes, start, base, width, s, b1, bits) else {
+            return s;
+        };
+        s = next;
     }
     s
 }

@@ -9,7 +9,7 @@ ghost use Rattle.swift_loops.specs.Swift.{WalkedIn, TookMode, TookBits, TookAhea
 ghost use Rattle.swift_loops.specs.Swift.{Asks, Sided, Turned, SideTaken, GoesAlong, WentStraight, Walks, Roomy};
 
 use crate::fast_2d;
-use crate::fast_2d::{BetweenCodes, TakenCode};
+use crate::fast_2d::BetweenCodes;
 use codes::front;
 use context::reference;
 
@@ -23,21 +23,21 @@ fn vertical(
     d: usize,
     twice: usize,
     size: usize,
-) -> TakenCode
+) -> Option<BetweenCodes>
     requires { Sided Lent reference.now row.old 0 width s b1 d twice size }
     ensures { SideTaken Lent reference.now row.old 0 width s d twice size result row.new }
 {
     let to = b1 as usize + twice;
     if to <= s.position as usize + d {
-        return TakenCode::Other;
+        return None;
     }
     if width as usize + d < to {
-        return TakenCode::Other;
+        return None;
     }
     let a1 = (to - d) as u32;
     let count = fast_2d::note(row, s);
     let place = fast_2d::behind(reference, s.place, d, a1);
-    TakenCode::On(BetweenCodes {
+    Some(BetweenCodes {
         at: s.at + size,
         position: a1,
         count: count,
@@ -81,16 +81,22 @@ fn to_each(
 }
 
 // VR1 or VL1, where `rest` begins with it, behind a code that turned the line: the bits are at hand, and no other mode is asked for.
-fn beside(reference: &[u32], row: &mut [u32], width: u32, s: BetweenCodes, rest: u64) -> TakenCode
+fn beside(
+    reference: &[u32],
+    row: &mut [u32],
+    width: u32,
+    s: BetweenCodes,
+    rest: u64,
+) -> Option<BetweenCodes>
     requires { Turned Lent reference.now row.old 0 width s × (s.at ≤ most_bits + 64) }
     ensures { Turns Lent reference.now row.old 0 width s rest result row.new }
 {
     if rest >> 62 != 1 {
-        return TakenCode::Other;
+        return None;
     }
     let b1 = reference::change_or(reference, s.place, width);
     if b1 <= s.position {
-        return TakenCode::Other;
+        return None;
     }
     vertical(
         reference,
@@ -124,15 +130,11 @@ fn along(
             return t;
         }
         let left = rest << (t.at - s.at);
-        match beside(reference, row, width, t, left) {
-            TakenCode::Other => {
-                return t;
-            }
-            TakenCode::On(next) => {
-                rest = left << (next.at - t.at);
-                s = next;
-            }
-        }
+        let Some(next) = beside(reference, row, width, t, left) else {
+            return t;
+        };
+        rest = left << (next.at - t.at);
+        s = next;
     }
 }
 
@@ -145,13 +147,13 @@ fn to_b1(
     b1: u32,
     bits: u64,
     zeros: u32,
-) -> TakenCode
+) -> Option<BetweenCodes>
     requires { Asks Lent reference.now row.old 0 width s b1 × (zeros ≡ count_leading_zeros 64 bits) × (zeros ≤ 1) }
     ensures { Turns Lent reference.now row.old 0 width s bits result row.new }
 {
     if zeros == 0 {
         let count = fast_2d::note(row, s);
-        return TakenCode::On(BetweenCodes {
+        return Some(BetweenCodes {
             at: s.at + 1,
             position: b1,
             count: count,
@@ -179,28 +181,30 @@ fn straight(
     b1: u32,
     bits: u64,
     zeros: u32,
-) -> TakenCode
+) -> Option<BetweenCodes>
     requires { Asks Lent reference.now row.old 0 width s b1 × (s.at ≤ most_bits) × (zeros ≡ count_leading_zeros 64 bits) × (zeros ≤ 1) }
     ensures { TookAhead Lent reference.now row.old 0 width s bits result row.new }
 {
-    match to_b1(reference, row, width, s, b1, bits, zeros) {
-        TakenCode::Other => TakenCode::Other,
-        TakenCode::On(first) => {
-            let rest = bits << (first.at - s.at);
-            let last = along(reference, row, width, first, rest, s.at + 50);
-            TakenCode::On(last)
-        }
-    }
+    let first = to_b1(reference, row, width, s, b1, bits, zeros)?;
+    let rest = bits << (first.at - s.at);
+    let last = along(reference, row, width, first, rest, s.at + 50);
+    Some(last)
 }
 
 // To b2, in the same colour.
-fn to_b2(reference: &[u32], row: &mut [u32], width: u32, s: BetweenCodes, b1: u32) -> TakenCode
+fn to_b2(
+    reference: &[u32],
+    row: &mut [u32],
+    width: u32,
+    s: BetweenCodes,
+    b1: u32,
+) -> Option<BetweenCodes>
     requires { Asks Lent reference.now row.old 0 width s b1 }
     ensures { TookMode Lent reference.now row.old 0 width s (s.at + 4) pass result row.new }
 {
     let count = fast_2d::note(row, s);
     let b2 = reference::change_or(reference, s.place + 1, width);
-    TakenCode::On(BetweenCodes {
+    Some(BetweenCodes {
         at: s.at + 4,
         position: b2,
         count: count,
@@ -216,7 +220,7 @@ fn two_runs(
     s: BetweenCodes,
     b1: u32,
     bits: u64,
-) -> TakenCode
+) -> Option<BetweenCodes>
     requires { Asks Lent reference.now row.old 0 width s b1 }
     ensures { TookBits Lent reference.now row.old 0 width s bits 57 (s.at + 3) horizontal result row.new }
 {
@@ -226,20 +230,20 @@ fn two_runs(
     let rest = ahead << one.size;
     let two = front::front_run_of(1 - parity, front::top13(rest), rest);
     if one.pixels == 0 {
-        return TakenCode::Other;
+        return None;
     }
     if two.pixels == 0 {
-        return TakenCode::Other;
+        return None;
     }
     if width - s.position < one.pixels + two.pixels {
-        return TakenCode::Other;
+        return None;
     }
     let count = fast_2d::note(row, s);
     let a1 = s.position + one.pixels;
     row[count] = a1;
     let position = a1 + two.pixels;
     let place = fast_2d::onward(reference, s.place, position);
-    TakenCode::On(BetweenCodes {
+    Some(BetweenCodes {
         at: s.at + 3 + one.size + two.size,
         position: position,
         count: count + 1,
@@ -255,7 +259,7 @@ fn code(
     s: BetweenCodes,
     b1: u32,
     bits: u64,
-) -> TakenCode
+) -> Option<BetweenCodes>
     requires { Asks Lent reference.now row.old 0 width s b1 × (s.at ≤ most_bits) }
     ensures { TookAhead Lent reference.now row.old 0 width s bits result row.new }
 {
@@ -286,7 +290,7 @@ fn code(
             6 * fast_2d::bit_of(bits, 57),
             7,
         ),
-        _ => TakenCode::Other,
+        _ => None,
     }
 }
 
@@ -314,14 +318,10 @@ fn codes(
             return s;
         }
         let bits = bit_reader::ahead(src, s.at);
-        match code(reference, row, width, s, b1, bits) {
-            TakenCode::Other => {
-                return s;
-            }
-            TakenCode::On(next) => {
-                s = next;
-            }
-        }
+        let Some(next) = code(reference, row, width, s, b1, bits) else {
+            return s;
+        };
+        s = next;
     }
     s
 }

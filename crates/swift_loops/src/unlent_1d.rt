@@ -5,7 +5,7 @@ ghost use Rattle.bit_reader.specs.Loaded.{Loading};
 ghost use Rattle.swift_loops.specs.Pairs.{pace_of, Paired, Stepping, PacedTo, Pacing, Ran, Filled};
 
 use crate::fast_1d;
-use crate::fast_1d::{AfterPair, BeforePair, Pair};
+use crate::fast_1d::{BeforePair, Pair};
 use codes::front;
 
 fn by_codes(top: usize, window: u64) -> Pair
@@ -29,7 +29,7 @@ fn pair_at(top: usize, window: u64) -> Pair
     fast_1d::by_entry(entry)
 }
 
-fn step(src: &[u8], row: &mut [u32], width: u32, last: usize, s: BeforePair) -> AfterPair
+fn step(src: &[u8], row: &mut [u32], width: u32, last: usize, s: BeforePair) -> Option<BeforePair>
     requires { Stepping src.now row.old width last s }
     ensures { PacedTo src.now row.old width s result row.new }
 {
@@ -55,14 +55,10 @@ pub(crate) fn pairs_from(
         if last < s.at {
             return s;
         }
-        match step(src, row, width, last, s) {
-            AfterPair::Other => {
-                return s;
-            }
-            AfterPair::On(next) => {
-                s = next;
-            }
-        }
+        let Some(next) = step(src, row, width, last, s) else {
+            return s;
+        };
+        s = next;
     }
     s
 }
@@ -75,20 +71,16 @@ pub fn whole_run(
     at: usize,
     room: usize,
     plain: bool,
-) -> AfterPair
+) -> Option<BeforePair>
     requires { Loading src.now at }
     ensures { Filled src.now room width at result }
 {
     if !fast_1d::fit(plain, room, width, src.len(), at) {
-        return AfterPair::Other;
+        return None;
     }
-    match fast_1d::begun(false, white, width, at, bit_reader::ahead(src, at)) {
-        AfterPair::Other => AfterPair::Other,
-        AfterPair::On(t) => {
-            if t.position != width {
-                return AfterPair::Other;
-            }
-            AfterPair::On(t)
-        }
+    let t = fast_1d::begun(false, white, width, at, bit_reader::ahead(src, at))?;
+    if t.position != width {
+        return None;
     }
+    Some(t)
 }

@@ -1,12 +1,11 @@
 -- The first run, and pairs behind it.
+use Rattle.std.specs.Prelude.{Option, Some}
 use mathlib.Core.Path.{◌≡◌, subst}
 use mathlib.Core.List.{List}
 use Prim.Native.Nat.{ℕ}
 use native.Mathlib.Omega.{arith}
 use borrow.Author.Tests.{not-false}
 use Rattle.rules.proofs.Bits.{length-bits_of}
-use Rattle.swift_loops.specs.declared.fast_1d.AfterPair.{AfterPair}
-use Rattle.swift_loops.specs.declared.fast_1d.AfterPair.TheVariants.{On}
 use Rattle.swift_loops.specs.declared.fast_1d.BeforePair.{BeforePair}
 use Rattle.swift_loops.specs.Pairs.{BegunTo}
 use Rattle.swift_loops.proofs.Running.{ran-none, ran_on}
@@ -28,37 +27,37 @@ pub begun-requires : goal.begun-requires
 begun-requires c = let f = c.fit.ensures (not-false _ c.if-not-fit.false-raw) in (record { some_pixels = f.0; low = omega (arith, c.requires.loading.inside, c.requires.loading.size) }, λ e. (c.requires.tables e).0.of_white)
 
 -- the line before its first pair, as the arm has it
-opened : (bytes row : List ℕ) (width at : ℕ) (from : BeforePair) {r : AfterPair} → r ≡ On from → BegunTo bytes row width at r → BegunTo bytes row width at (On from)
-opened bytes row width at from e h = subst (λ (r : AfterPair). BegunTo bytes row width at r) e h
+opened : (bytes row : List ℕ) (width at : ℕ) (from : BeforePair) {r : Option BeforePair} → r ≡ Some from → BegunTo bytes row width at r → BegunTo bytes row width at (Some from)
+opened bytes row width at from e h = subst (λ (r : Option BeforePair). BegunTo bytes row width at r) e h
 
 pub pairs_from-t-requires : goal.pairs_from-t-requires
 pairs_from-t-requires c =
     let a = c.args in
     let f = c.fit.ensures (not-false _ c.if-not-fit.false-raw) in
     let t = c.requires.tables c.if-lent.true in
-    let begun = opened a.src.now a.row.now a.width a.at c.in-On.from c.in-On.is (c.begun.ensures a.src.now a.row.now _ c.ahead.ensures (omega arith) f.1) in
+    let begun = opened a.src.now a.row.now a.width a.at c.in-Some.from c.in-Some.is (c.begun.ensures a.src.now a.row.now _ c.ahead.ensures (omega arith) f.1) in
     (record { limit = c.requires.loading.size; last-is = omega (arith, f.2); narrow = c.requires.narrow; paces = begun.1 }, t.0, t.1)
 
 pub returns-then-lent : goal.returns-then-lent
 returns-then-lent c =
     let a = c.args in
     let f = c.fit.ensures (not-false _ c.if-not-fit.false-raw) in
-    let begun = opened a.src.now a.row.now a.width a.at c.in-On.from c.in-On.is (c.begun.ensures a.src.now a.row.now _ c.ahead.ensures (omega arith) f.1) in
+    let begun = opened a.src.now a.row.now a.width a.at c.in-Some.from c.in-Some.is (c.begun.ensures a.src.now a.row.now _ c.ahead.ensures (omega arith) f.1) in
     rw c.halted.ensures (ran_on begun.0 c.pairs_from-t.ensures)
 
-pub pairs_from-t-requires-in-On : goal.pairs_from-t-requires-in-On
-pairs_from-t-requires-in-On c =
+pub pairs_from-t-requires-2 : goal.pairs_from-t-requires-2
+pairs_from-t-requires-2 c =
     let a = c.args in
     let f = c.fit.ensures (not-false _ c.if-not-fit.false-raw) in
-    let begun = opened a.src.now a.row.now a.width a.at c.in-On.from c.in-On.is (c.begun.ensures a.src.now a.row.now _ c.ahead.ensures (omega arith) f.1) in
+    let begun = opened a.src.now a.row.now a.width a.at c.in-Some.from c.in-Some.is (c.begun.ensures a.src.now a.row.now _ c.ahead.ensures (omega arith) f.1) in
     record { limit = c.requires.loading.size; last-is = omega (arith, f.2); narrow = c.requires.narrow; paces = begun.1 }
 
-pub returns-in-Other : goal.returns-in-Other
-returns-in-Other c = ran-none (record { fits = omega arith; held = omega arith; coloured = omega arith }) (omega arith) (omega (arith, c.requires.loading.inside, length-bits_of c.args.src.now))
+pub returns-in_default : goal.returns-in_default
+returns-in_default c = ran-none (record { fits = omega arith; held = omega arith; coloured = omega arith }) (omega arith) (omega (arith, c.requires.loading.inside, length-bits_of c.args.src.now))
 
-pub returns-else-lent : goal.returns-else-lent
-returns-else-lent c =
+pub returns : goal.returns
+returns c =
     let a = c.args in
     let f = c.fit.ensures (not-false _ c.if-not-fit.false-raw) in
-    let begun = opened a.src.now a.row.now a.width a.at c.in-On.from c.in-On.is (c.begun.ensures a.src.now a.row.now _ c.ahead.ensures (omega arith) f.1) in
-    rw c.halted-in-On.ensures (ran_on begun.0 c.pairs_from-t-in-On.ensures)
+    let begun = opened a.src.now a.row.now a.width a.at c.in-Some.from c.in-Some.is (c.begun.ensures a.src.now a.row.now _ c.ahead.ensures (omega arith) f.1) in
+    rw c.halted-2.ensures (ran_on begun.0 c.pairs_from-t-2.ensures)

@@ -29,21 +29,21 @@ pub beside-requires : goal.beside-requires
 beside-requires c =
     (c.to_each-t.ensures.turned, nearing-low c.requires c.loop-s.invariant c.to_each-t.ensures c.if-stop-t.false)
 
-pub shape_of-changes-in-Other : goal.shape_of-changes-in-Other
-shape_of-changes-in-Other c =
+pub shape_of-changes-in_default : goal.shape_of-changes-in_default
+shape_of-changes-in_default c =
     omega (arith, c.loop-s.invariant.size, c.to_each-t.auto.changes, c.beside.auto.changes)
 
-pub returns-in-Other : goal.returns-in-Other
-returns-in-Other c =
+pub returns-in_default : goal.returns-in_default
+returns-in_default c =
     nearing-other c.requires c.loop-s.invariant c.to_each-t.ensures c.if-stop-t.false c.beside.ensures
-    c.in-Other.is
+    c.in_default.is
 
 pub overflow_sub-rest : goal.overflow_sub-rest
 overflow_sub-rest c =
     omega (
       arith,
       nearing-short c.requires c.loop-s.invariant c.to_each-t.ensures c.if-stop-t.false c.beside.ensures
-          c.in-On.is,
+          c.in-Some.is,
     )
 
 pub overflow_shl-rest : goal.overflow_shl-rest
@@ -51,15 +51,15 @@ overflow_shl-rest c =
     omega (
       arith,
       nearing-short c.requires c.loop-s.invariant c.to_each-t.ensures c.if-stop-t.false c.beside.ensures
-          c.in-On.is,
+          c.in-Some.is,
     )
 
 pub loop-s-smaller : goal.loop-s-smaller
 loop-s-smaller c =
     nearing-less c.requires c.loop-s.invariant c.to_each-t.ensures c.if-stop-t.false c.beside.ensures
-    c.in-On.is
+    c.in-Some.is
 
 pub loop-s-preserved : goal.loop-s-preserved
 loop-s-preserved c =
     nearing-on c.requires c.loop-s.invariant c.to_each-t.ensures c.if-stop-t.false c.beside.ensures
-    c.in-On.is (omega (arith, c.to_each-t.auto.changes)) (omega (arith, c.beside.auto.changes))
+    c.in-Some.is (omega (arith, c.to_each-t.auto.changes)) (omega (arith, c.beside.auto.changes))

@@ -42,24 +42,24 @@ code-requires c =
       walked_low c.requires.1 inv,
     )
 
-pub shape_of-changes-in-Other : goal.shape_of-changes-in-Other
-shape_of-changes-in-Other c =
+pub shape_of-changes-in_default : goal.shape_of-changes-in_default
+shape_of-changes-in_default c =
     omega (arith, c.loop-s.invariant.size, c.code.auto.changes)
 
-pub returns-in-Other : goal.returns-in-Other
-returns-in-Other c =
+pub returns-in_default : goal.returns-in_default
+returns-in_default c =
     let took = c.code.ensures c.args.src.now _ c.ahead-bits.ensures (omega arith) in
-    took-other c.requires.1 c.loop-s.invariant _ _ took c.in-Other.is
+    took-other c.requires.1 c.loop-s.invariant _ _ took c.in_default.is
 
 pub loop-s-smaller : goal.loop-s-smaller
 loop-s-smaller c =
     let took = c.code.ensures c.args.src.now _ c.ahead-bits.ensures (omega arith) in
-    took-less c.requires.1 c.loop-s.invariant _ c.code.new.changes took c.in-On.is
+    took-less c.requires.1 c.loop-s.invariant _ c.code.new.changes took c.in-Some.is
 
 pub loop-s-preserved : goal.loop-s-preserved
 loop-s-preserved c =
     let took = c.code.ensures c.args.src.now _ c.ahead-bits.ensures (omega arith) in
-    took-on c.requires.1 c.loop-s.invariant _ _ took c.in-On.is
+    took-on c.requires.1 c.loop-s.invariant _ _ took c.in-Some.is
 
 pub shape_of-changes : goal.shape_of-changes
 shape_of-changes c = c.loop-s.invariant.size

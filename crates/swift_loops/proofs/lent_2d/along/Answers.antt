@@ -30,15 +30,15 @@ beside-requires c =
     let straights = c.to_each-t in
     (straights.ensures.turned, nearing-low c.requires c.loop-s.invariant straights.ensures c.if-stop-t.false)
 
-pub shape_of-row-in-Other : goal.shape_of-row-in-Other
-shape_of-row-in-Other c =
+pub shape_of-row-in_default : goal.shape_of-row-in_default
+shape_of-row-in_default c =
     omega (arith, c.loop-s.invariant.size, c.to_each-t.auto.row, c.beside.auto.row)
 
-pub returns-in-Other : goal.returns-in-Other
-returns-in-Other c =
+pub returns-in_default : goal.returns-in_default
+returns-in_default c =
     let straights = c.to_each-t in
     nearing-other c.requires c.loop-s.invariant straights.ensures c.if-stop-t.false c.beside.ensures
-    c.in-Other.is
+    c.in_default.is
 
 pub overflow_sub-rest : goal.overflow_sub-rest
 overflow_sub-rest c =
@@ -46,7 +46,7 @@ overflow_sub-rest c =
     omega (
       arith,
       nearing-short c.requires c.loop-s.invariant straights.ensures c.if-stop-t.false c.beside.ensures
-          c.in-On.is,
+          c.in-Some.is,
     )
 
 pub overflow_shl-rest : goal.overflow_shl-rest
@@ -55,18 +55,18 @@ overflow_shl-rest c =
     omega (
       arith,
       nearing-short c.requires c.loop-s.invariant straights.ensures c.if-stop-t.false c.beside.ensures
-          c.in-On.is,
+          c.in-Some.is,
     )
 
 pub loop-s-smaller : goal.loop-s-smaller
 loop-s-smaller c =
     let straights = c.to_each-t in
     nearing-less c.requires c.loop-s.invariant straights.ensures c.if-stop-t.false c.beside.ensures
-    c.in-On.is
+    c.in-Some.is
 
 pub loop-s-preserved : goal.loop-s-preserved
 loop-s-preserved c =
     let straights = c.to_each-t in
     let side = c.beside in
-    nearing-on c.requires c.loop-s.invariant straights.ensures c.if-stop-t.false side.ensures c.in-On.is
+    nearing-on c.requires c.loop-s.invariant straights.ensures c.if-stop-t.false side.ensures c.in-Some.is
     (omega (arith, straights.auto.row)) (omega (arith, side.auto.row))

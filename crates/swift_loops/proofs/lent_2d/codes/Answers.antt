@@ -24,24 +24,24 @@ code-requires c =
     let inv = c.loop-s.invariant in
     (walked-asks asks.0 inv asks.1 c.change_or-b1.ensures c.if-b1-s.false (omega arith), walked_low asks.0 inv)
 
-pub shape_of-row-in-Other : goal.shape_of-row-in-Other
-shape_of-row-in-Other c =
+pub shape_of-row-in_default : goal.shape_of-row-in_default
+shape_of-row-in_default c =
     omega (arith, c.loop-s.invariant.size, c.code.auto.row)
 
-pub returns-in-Other : goal.returns-in-Other
-returns-in-Other c =
+pub returns-in_default : goal.returns-in_default
+returns-in_default c =
     let took = c.code.ensures c.args.src.now _ c.ahead-bits.ensures (omega arith) in
-    took-other c.requires.0 c.loop-s.invariant _ _ took c.in-Other.is
+    took-other c.requires.0 c.loop-s.invariant _ _ took c.in_default.is
 
 pub loop-s-smaller : goal.loop-s-smaller
 loop-s-smaller c =
     let took = c.code.ensures c.args.src.now _ c.ahead-bits.ensures (omega arith) in
-    took-less c.requires.0 c.loop-s.invariant _ c.code.new.row took c.in-On.is
+    took-less c.requires.0 c.loop-s.invariant _ c.code.new.row took c.in-Some.is
 
 pub loop-s-preserved : goal.loop-s-preserved
 loop-s-preserved c =
     let took = c.code.ensures c.args.src.now _ c.ahead-bits.ensures (omega arith) in
-    took-on c.requires.0 c.loop-s.invariant _ _ took c.in-On.is
+    took-on c.requires.0 c.loop-s.invariant _ _ took c.in-Some.is
 
 pub shape_of-row : goal.shape_of-row
 shape_of-row c = c.loop-s.invariant.size

@@ -15,8 +15,8 @@ begun-requires c =
     let pre = c.requires in
     (record { some_pixels = f.0; low = omega (arith, pre.inside, pre.size) }, λ e. absurd (true≢false (sym e)))
 
-pub returns-else-t-width : goal.returns-else-t-width
-returns-else-t-width c =
+pub returns : goal.returns
+returns c =
     let f = c.fit.ensures (not-false _ c.if-not-fit.false-raw) in
     begun-fills c.begun.ensures c.ahead.ensures (omega arith) f.1 _
-    c.in-On.is (omega (arith, c.if-t-width.false))
+    c.in_ok-t.was (omega (arith, c.if-t-width.false))
