@@ -1,4 +1,5 @@
 -- Units one behind the other, and how many a code is. Assumes nothing.
+use Rattle.std.specs.Prelude.{Option, Some, None}
 use mathlib.Core.Path.{◌≡◌, refl, sym, ap, ◌∙◌, subst}
 use mathlib.Core.Bool.{Bool, true, false, cond}
 use mathlib.Core.List.{List, []}
@@ -33,8 +34,6 @@ use Rattle.swift_loops.specs.declared.fast_2d.BetweenCodes.{BetweenCodes}
 use Rattle.swift_loops.specs.Swift.{standing, Walked, Walks, room_in, side_mode, Ready, Turned}
 use Rattle.swift_loops.proofs.Swiftly.{OneCode, OneCodeIn, ready-note, walks-none, room-same, walked_further}
 use Rattle.swift_loops.proofs.StraightLoop.{Along, along-new, kept-code, kept_on}
-use Rattle.swift_units.specs.declared.CodeUnits.{CodeUnits}
-use Rattle.swift_units.specs.declared.CodeUnits.TheVariants.{On, Other}
 use Rattle.swift_units.specs.declared.UnitsLeft.{UnitsLeft}
 use Rattle.swift_units.specs.Counted.{Leads, line_in, Counted, CountedIn, Spent, Counts, CountedEach}
 
@@ -194,18 +193,18 @@ module _ (bytes : List ℕ) (start : ℕ) {xs : List ℕ} {base width : ℕ} {s 
 
   -- one is
   pub one_left : {ys : List ℕ} {t : BetweenCodes} (left : ℕ) → CountedIn bytes start xs base width s 1 ys t → 0 < left
-      → Counts bytes start xs base width s left (On (record { stand = t; left = left - 1 })) ys
+      → Counts bytes start xs base width s left (Some (record { stand = t; left = left - 1 })) ys
   one_left left c h = (left_of 1 left (left - 1) c (omega arith) (λ e. absurd (omega arith)), omega arith)
 
   -- behind units that were taken: a code is another, or it takes some of those that are left
-  module _ (placed : Placed (Kept start) base xs) {units : ℕ} {u : UnitsLeft} {zs : List ℕ} (v : Spent bytes start xs base width s units u zs) (r : CodeUnits) (ys : List ℕ)
+  module _ (placed : Placed (Kept start) base xs) {units : ℕ} {u : UnitsLeft} {zs : List ℕ} (v : Spent bytes start xs base width s units u zs) (r : Option UnitsLeft) (ys : List ℕ)
       (took : Counts bytes start zs base width u.stand u.left r ys) where
-    pub spent-other : r ≡ Other → Spent bytes start xs base width s units u ys
-    spent-other e = rw (subst (λ (q : CodeUnits). Counts bytes start zs base width u.stand u.left q ys) e took) v
+    pub spent-other : r ≡ None → Spent bytes start xs base width s units u ys
+    spent-other e = rw (subst (λ (q : Option UnitsLeft). Counts bytes start zs base width u.stand u.left q ys) e took) v
 
-    module _ {w : UnitsLeft} (e : r ≡ On w) where
+    module _ {w : UnitsLeft} (e : r ≡ Some w) where
       on : Spent bytes start zs base width u.stand u.left w ys × (w.left < u.left)
-      on = subst (λ (q : CodeUnits). Counts bytes start zs base width u.stand u.left q ys) e took
+      on = subst (λ (q : Option UnitsLeft). Counts bytes start zs base width u.stand u.left q ys) e took
 
       pub spent-less : w.left < u.left
       spent-less = on.1

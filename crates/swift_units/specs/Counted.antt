@@ -1,5 +1,5 @@
 -- The swift codes of a 2D line under the row before it, counted in units (02, A9): where the line stands behind some of them, and which units of the rules they are.
-use Rattle.std.specs.Prelude.{◌≡◌, Bool, List, [], ℕ, ◌-◌, ◌≤◌, ◌<◌, take, drop}
+use Rattle.std.specs.Prelude.{◌≡◌, Bool, List, [], ℕ, ◌-◌, ◌≤◌, ◌<◌, take, drop, Option, Some, None}
 use Rattle.rules.specs.Machine.{Out, and_then, run, onward, spent}
 use Rattle.rules.specs.Bits.{bits_of}
 use Rattle.rules.specs.Runs.{ok}
@@ -14,8 +14,6 @@ use Rattle.context.specs.declared.reference.Reference.TheVariants.{Kept}
 use Rattle.context.specs.Coding.{reference_in}
 use Rattle.swift_loops.specs.declared.fast_2d.BetweenCodes.{BetweenCodes}
 use Rattle.swift_loops.specs.Swift.{standing, Walked, room_in}
-use Rattle.swift_units.specs.declared.CodeUnits.{CodeUnits}
-use Rattle.swift_units.specs.declared.CodeUnits.TheVariants.{On, Other}
 use Rattle.swift_units.specs.declared.UnitsLeft.{UnitsLeft}
 
 -- ---- Units of the rules
@@ -53,22 +51,22 @@ abbrev pub Spent : List ℕ → ℕ → List ℕ → ℕ → ℕ → BetweenCode
 Spent bytes start xs base width s left u ys = CountedIn bytes start xs base width s (left - u.left) ys u.stand × (u.left ≤ left) × (u.left ≡ left → ys ≡ xs)
 
 -- a code took one at least; one that is another leaves the array
-abbrev pub Counts : List ℕ → ℕ → List ℕ → ℕ → ℕ → BetweenCodes → ℕ → CodeUnits → List ℕ → Type 0
-Counts bytes start xs base width s left (On u) ys = Spent bytes start xs base width s left u ys × (u.left < left)
-Counts bytes start xs base width s left Other ys = ys ≡ xs
+abbrev pub Counts : List ℕ → ℕ → List ℕ → ℕ → ℕ → BetweenCodes → ℕ → Option UnitsLeft → List ℕ → Type 0
+Counts bytes start xs base width s left (Some u) ys = Spent bytes start xs base width s left u ys × (u.left < left)
+Counts bytes start xs base width s left None ys = ys ≡ xs
 
 -- in any data that has a mode's code at the stand, up to a bit
-abbrev pub CountsMode : ℕ → List ℕ → ℕ → ℕ → BetweenCodes → ℕ → ℕ → Mode → CodeUnits → List ℕ → Type 0
+abbrev pub CountsMode : ℕ → List ℕ → ℕ → ℕ → BetweenCodes → ℕ → ℕ → Mode → Option UnitsLeft → List ℕ → Type 0
 CountsMode start xs base width s left next mode r ys =
     (bytes : List ℕ) → read_mode (bits_of bytes) s.at ≡ ok (moded next mode) → Counts bytes start xs base width s left r ys
 
 -- in any data that has these bits at the stand, 57 of them at least
-abbrev pub CountsAhead : ℕ → List ℕ → ℕ → ℕ → BetweenCodes → ℕ → ℕ → CodeUnits → List ℕ → Type 0
+abbrev pub CountsAhead : ℕ → List ℕ → ℕ → ℕ → BetweenCodes → ℕ → ℕ → Option UnitsLeft → List ℕ → Type 0
 CountsAhead start xs base width s left bits r ys =
     (bytes : List ℕ) (live : ℕ) → Ahead bytes s.at live bits → 57 ≤ live → Counts bytes start xs base width s left r ys
 
 -- and where they begin with a mode
-abbrev pub CountsBits : ℕ → List ℕ → ℕ → ℕ → BetweenCodes → ℕ → ℕ → ℕ → Mode → CodeUnits → List ℕ → Type 0
+abbrev pub CountsBits : ℕ → List ℕ → ℕ → ℕ → BetweenCodes → ℕ → ℕ → ℕ → Mode → Option UnitsLeft → List ℕ → Type 0
 CountsBits start xs base width s left bits next mode r ys =
     (bytes : List ℕ) (live : ℕ) → Ahead bytes s.at live bits → 57 ≤ live → read_mode (bits_of bytes) s.at ≡ ok (moded next mode)
     → Counts bytes start xs base width s left r ys

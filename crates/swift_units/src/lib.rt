@@ -14,18 +14,12 @@ use context::reference;
 use swift_loops::fast_2d;
 use swift_loops::fast_2d::BetweenCodes;
 
-// Where the line stands, and how many units are left.
+// Where the line stands, and how many units are left. A function that takes a code answers this behind it, and none where the code is
+// another.
 #[derive(Clone, Copy)]
 pub struct UnitsLeft {
     pub stand: BetweenCodes,
     pub left: usize,
-}
-
-// The same behind a code; or the code is another.
-#[derive(Clone, Copy)]
-pub enum CodeUnits {
-    On(UnitsLeft),
-    Other,
 }
 
 // To `d` pixels right of b1 where `twice` is twice d, left of it where it is 0.
@@ -40,16 +34,16 @@ fn vertical(
     d: usize,
     twice: usize,
     size: usize,
-) -> CodeUnits
+) -> Option<UnitsLeft>
     requires { Sided (Kept start) [] changes.old base width s b1 d twice size × (0 < left) }
     ensures { CountsMode start changes.old base width s left (s.at + size) (side_mode d twice) result changes.new }
 {
     let to = b1 as usize + twice;
     if to <= s.position as usize + d {
-        return CodeUnits::Other;
+        return None;
     }
     if width as usize + d < to {
-        return CodeUnits::Other;
+        return None;
     }
     let a1 = (to - d) as u32;
     let count = fast_2d::note(&mut changes[base..], s);
@@ -60,7 +54,7 @@ fn vertical(
         count: count,
         place: place,
     };
-    CodeUnits::On(UnitsLeft {
+    Some(UnitsLeft {
         stand,
         left: left - 1,
     })
@@ -111,7 +105,7 @@ fn to_each(
 fn at_most_64(units: usize) -> usize
     ensures { (result ≤ units) × (result ≤ 64) }
 {
-    if units < 64 { units } else { 64 }
+    usize::min(units, 64)
 }
 
 // V0, and those that follow it in the same bits.
@@ -124,7 +118,7 @@ fn straight(
     left: usize,
     b1: u32,
     bits: u64,
-) -> CodeUnits
+) -> Option<UnitsLeft>
     requires { Asks (Kept start) [] changes.old base width s b1 × (s.at ≤ most_bits) × (bits / 2 ^ 63 ≡ 1) × (0 < left) }
     ensures { CountsAhead start changes.old base width s left bits result changes.new }
 {
@@ -138,7 +132,7 @@ fn straight(
     let others = left - 1;
     let most = count + at_most_64(others);
     let last = to_each(changes, start, base, width, first, bits << 1, most);
-    CodeUnits::On(UnitsLeft {
+    Some(UnitsLeft {
         stand: last,
         left: others - (last.count - count),
     })
@@ -153,7 +147,7 @@ fn to_b2(
     s: BetweenCodes,
     left: usize,
     b1: u32,
-) -> CodeUnits
+) -> Option<UnitsLeft>
     requires { Asks (Kept start) [] changes.old base width s b1 × (0 < left) }
     ensures { CountsMode start changes.old base width s left (s.at + 4) pass result changes.new }
 {
@@ -165,7 +159,7 @@ fn to_b2(
         count: count,
         place: s.place + 2,
     };
-    CodeUnits::On(UnitsLeft {
+    Some(UnitsLeft {
         stand,
         left: left - 1,
     })
@@ -188,12 +182,12 @@ fn two_runs(
     left: usize,
     b1: u32,
     bits: u64,
-) -> CodeUnits
+) -> Option<UnitsLeft>
     requires { Asks (Kept start) [] changes.old base width s b1 }
     ensures { CountsBits start changes.old base width s left bits (s.at + 3) horizontal result changes.new }
 {
     if left < 5 {
-        return CodeUnits::Other;
+        return None;
     }
     let ahead = bits << 3;
     let parity = s.place % 2;
@@ -201,13 +195,13 @@ fn two_runs(
     let rest = ahead << one.size;
     let two = front::front_run_of(1 - parity, front::top13(rest), rest);
     if one.pixels == 0 {
-        return CodeUnits::Other;
+        return None;
     }
     if two.pixels == 0 {
-        return CodeUnits::Other;
+        return None;
     }
     if width - s.position < one.pixels + two.pixels {
-        return CodeUnits::Other;
+        return None;
     }
     let count = fast_2d::note(&mut changes[base..], s);
     let a1 = s.position + one.pixels;
@@ -221,7 +215,7 @@ fn two_runs(
         count: count + 1,
         place: place,
     };
-    CodeUnits::On(UnitsLeft {
+    Some(UnitsLeft {
         stand,
         left: left - 1 - codes_of(one.pixels) - codes_of(two.pixels),
     })
@@ -237,7 +231,7 @@ fn code(
     left: usize,
     b1: u32,
     bits: u64,
-) -> CodeUnits
+) -> Option<UnitsLeft>
     requires { Asks (Kept start) [] changes.old base width s b1 × (s.at ≤ most_bits) × (0 < left) }
     ensures { CountsAhead start changes.old base width s left bits result changes.new }
 {
@@ -283,7 +277,7 @@ fn code(
             6 * fast_2d::bit_of(bits, 57),
             7,
         ),
-        _ => CodeUnits::Other,
+        _ => None,
     }
 }
 
@@ -320,14 +314,10 @@ fn codes(
             return u;
         }
         let bits = bit_reader::ahead(src, s.at);
-        match code(changes, start, base, width, s, u.left, b1, bits) {
-            CodeUnits::Other => {
-                return u;
-            }
-            CodeUnits::On(next) => {
-                u = next;
-            }
-        }
+        let Some(next) = code(changes, start, base, width, s, u.left, b1, bits) else {
+            return u;
+        };
+        u = next;
     }
     u
 }

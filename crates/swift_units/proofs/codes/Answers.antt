@@ -53,20 +53,20 @@ pub code-requires : goal.code-requires
 code-requires c = (walked-asks c.requires.0 c.loop-u.invariant.0.walked c.requires.1 c.change_or-b1.ensures c.if-b1-s.false (kept-long c.args.start c.args.base c.args.changes.now (omega arith)), walked_low c.requires.0 c.loop-u.invariant.0.walked, c.loop-u-test.true)
 
 -- src/lib.rt:325:17
-pub shape_of-changes-in-Other : goal.shape_of-changes-in-Other
-shape_of-changes-in-Other c = omega (arith, c.loop-u.invariant.0.walked.size, c.code.auto.changes)
+pub shape_of-changes-in_default : goal.shape_of-changes-in_default
+shape_of-changes-in_default c = omega (arith, c.loop-u.invariant.0.walked.size, c.code.auto.changes)
 
 -- src/lib.rt:325:17
-pub returns-in-Other : goal.returns-in-Other
-returns-in-Other c = spent-other c.args.src.now c.args.start c.requires.0.placed c.loop-u.invariant _ _ (c.code.ensures c.args.src.now _ c.ahead-bits.ensures (omega arith)) c.in-Other.is
+pub returns-in_default : goal.returns-in_default
+returns-in_default c = spent-other c.args.src.now c.args.start c.requires.0.placed c.loop-u.invariant _ _ (c.code.ensures c.args.src.now _ c.ahead-bits.ensures (omega arith)) c.in_default.is
 
 -- src/lib.rt:312:5
 pub loop-u-smaller : goal.loop-u-smaller
-loop-u-smaller c = spent-less c.args.src.now c.args.start c.requires.0.placed c.loop-u.invariant _ c.code.new.changes (c.code.ensures c.args.src.now _ c.ahead-bits.ensures (omega arith)) c.in-On.is
+loop-u-smaller c = spent-less c.args.src.now c.args.start c.requires.0.placed c.loop-u.invariant _ c.code.new.changes (c.code.ensures c.args.src.now _ c.ahead-bits.ensures (omega arith)) c.in-Some.is
 
 -- src/lib.rt:312:5
 pub loop-u-preserved : goal.loop-u-preserved
-loop-u-preserved c = spent-on c.args.src.now c.args.start c.requires.0.placed c.loop-u.invariant _ _ (c.code.ensures c.args.src.now _ c.ahead-bits.ensures (omega arith)) c.in-On.is
+loop-u-preserved c = spent-on c.args.src.now c.args.start c.requires.0.placed c.loop-u.invariant _ _ (c.code.ensures c.args.src.now _ c.ahead-bits.ensures (omega arith)) c.in-Some.is
 
 -- src/lib.rt:291:1
 pub shape_of-changes : goal.shape_of-changes
