@@ -13,11 +13,10 @@ use Rattle.rules.specs.Group3.{row3}
 use Rattle.rules.specs.Pages.{row_of}
 use Rattle.settings.specs.declared.DecodeSettings.{DecodeSettings}
 use Rattle.settings.specs.declared.State.{State}
-use Rattle.settings.specs.declared.Row.{Row}
 use Rattle.settings.specs.declared.EncodingMode.{EncodingMode}
 use Rattle.settings.specs.declared.EncodingMode.TheVariants.{Group4, Group3_1D, Group3_2D}
 use Rattle.settings.specs.Settings.{encoding_of, settings_of, is_group4, tagging_of}
-use Rattle.settings.specs.Between.{state_of, RowGives, Rowed}
+use Rattle.settings.specs.Between.{state_of, Row, RowGives, Rowed}
 
 -- the encoding's row is Group 4's, or Group 3's with or without tags
 by_encoding : EncodingMode → Settings → List Bool → ℕ → Rule.State → RowOut

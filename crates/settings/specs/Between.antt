@@ -1,5 +1,5 @@
 -- The state between two rows and the answer of one row, and those of the rules that they stand for.
-use Rattle.std.specs.Prelude.{◌≡◌, List, ◌++◌, ℕ, ◌-◌, ◌≤◌, ◌<◌, length, take, drop}
+use Rattle.std.specs.Prelude.{◌≡◌, Bool, List, ◌++◌, ℕ, ◌-◌, ◌≤◌, ◌<◌, length, take, drop, Result, Ok, Err}
 use Rattle.rules.specs.Rows as Rule
 use Rattle.rules.specs.Rows.{RowOut, row, stop}
 use Rattle.rules.specs.Bits.{bits_of}
@@ -9,17 +9,27 @@ use Rattle.bit_reader.specs.Loaded.{Loading}
 use Rattle.context.specs.Coding.{reference_in, Placed}
 use Rattle.settings.specs.declared.DecodeSettings.{DecodeSettings}
 use Rattle.settings.specs.declared.State.{State}
-use Rattle.settings.specs.declared.Row.{Row}
-use Rattle.settings.specs.declared.Row.TheVariants.{Kept, Stop}
+use Rattle.settings.specs.declared.KeptRow.{KeptRow}
+use Rattle.settings.specs.declared.PageStop.{PageStop}
 use Rattle.settings.specs.Settings.{encoding_of, settings_of}
 
 -- the state whose reference is lent, or lies in a store of changes
 abbrev pub state_of : List ℕ → List ℕ → State → Rule.State
 state_of lent xs st = record { at = st.at; reference = reference_in st.reference st.base lent xs; count = st.rows; eols = st.eols }
 
+-- what one row answers
+abbrev pub Row : Type 0
+Row = Result KeptRow PageStop
+
+abbrev pub page_stop : ℕ → ℕ → ℕ → ℕ → PageStop
+page_stop n place bytes loose = record { number = n; place = place; bytes = bytes; loose = loose }
+
+abbrev pub kept_row : ℕ → ℕ → ℕ → Bool → KeptRow
+kept_row changes mark at eols = record { changes = changes; mark = mark; at = at; eols = eols }
+
 abbrev pub row_for : RowOut → Row
-row_for (row changes mark st) = Kept (length changes) mark st.at st.eols
-row_for (stop n place bytes loose) = Stop n place bytes (length loose)
+row_for (row changes mark st) = Ok (kept_row (length changes) mark st.at st.eols)
+row_for (stop n place bytes loose) = Err (page_stop n place bytes (length loose))
 
 -- the changes that a row leaves in the store: its own, or the loose ones
 abbrev pub changes_in : RowOut → List ℕ

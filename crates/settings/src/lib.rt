@@ -11,7 +11,7 @@ ghost use Rattle.settings.specs.Between.{row_for};
 
 use context::reference::Reference;
 
-#[derive(Clone, Copy)]
+#[derive(Clone, Copy, PartialEq, Eq)]
 pub enum EncodingMode {
     Group4,
     Group3_1D,
@@ -45,13 +45,25 @@ pub struct State {
     pub eols: bool,
 }
 
-// A row that is kept: its changes, its mark, the bit after it, and whether EOLs are expected. Or the page's end: its number, the bit at
-// fault, the bytes, and the loose changes.
+// A row that is kept: how many changes it has, its mark, the bit after it, and whether EOLs are expected behind it.
 #[derive(Clone, Copy)]
-pub enum Row {
-    Kept(usize, u32, usize, bool),
-    Stop(u32, usize, usize, usize),
+pub struct KeptRow {
+    pub changes: usize,
+    pub mark: u32,
+    pub at: usize,
+    pub eols: bool,
 }
+
+// The page's end: its number, the bit at fault, the bytes, and how many changes are loose.
+#[derive(Clone, Copy)]
+pub struct PageStop {
+    pub number: u32,
+    pub place: usize,
+    pub bytes: usize,
+    pub loose: usize,
+}
+
+pub type Row = Result<KeptRow, PageStop>;
 
 // A row that begins at a byte, where the settings say so.
 pub fn align_if(aligned: bool, at: usize) -> usize
@@ -70,7 +82,12 @@ pub fn end_at(at: usize) -> Row
     ensures { result ≡ row_for (finished at) }
 {
     let bytes = bit_reader::byte_pos(bit_reader::align(at));
-    Row::Stop(answer::COMPLETE, 0, bytes, 0)
+    Err(PageStop {
+        number: answer::COMPLETE,
+        place: 0,
+        bytes,
+        loose: 0,
+    })
 }
 
 // A count in the 64 bits that a row end has: more than 32, since a page may have more entries than those can count (A4).
@@ -84,12 +101,7 @@ pub fn row_end(count: usize) -> u64
 pub fn is_group4(settings: DecodeSettings) -> bool
     ensures { result ≡ is_group4 settings.encoding }
 {
-    let encoding = settings.encoding;
-    match encoding {
-        EncodingMode::Group4 => true,
-        EncodingMode::Group3_1D => false,
-        EncodingMode::Group3_2D => false,
-    }
+    settings.encoding == EncodingMode::Group4
 }
 
 // How a page is read: exact implies strict (A12).
@@ -97,19 +109,8 @@ pub fn strict_if_exact(settings: DecodeSettings) -> DecodeSettings
     ensures { result ≡ strict_for settings }
 {
     DecodeSettings {
-        columns: settings.columns,
-        rows: settings.rows,
-        end_of_block: settings.end_of_block,
-        end_of_line: settings.end_of_line,
-        rows_are_byte_aligned: settings.rows_are_byte_aligned,
-        encoding: settings.encoding,
-        strict: if settings.exact {
-            true
-        } else {
-            settings.strict
-        },
-        exact: settings.exact,
-        plain: settings.plain,
+        strict: settings.exact || settings.strict,
+        ..settings
     }
 }
 
@@ -117,11 +118,5 @@ pub fn strict_if_exact(settings: DecodeSettings) -> DecodeSettings
 pub fn is_short(settings: DecodeSettings, number: u32, rows: u64) -> bool
     ensures { result ≡ too_few (settings_of settings) number rows }
 {
-    if !settings.exact {
-        return false;
-    }
-    if number != answer::COMPLETE {
-        return false;
-    }
-    rows < settings.rows as u64
+    settings.exact && number == answer::COMPLETE && rows < u64::from(settings.rows)
 }
