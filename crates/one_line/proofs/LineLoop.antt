@@ -6,6 +6,7 @@ use Prim.Native.Nat.{ℕ, ◌+◌, ◌-◌, ◌*◌, ◌≤◌, ◌<◌}
 use native.Mathlib.Omega.{arith}
 use lib.ListN.{length, take, drop, length-append, take-append-drop}
 use borrow.Rule.Slice.PartMut.{mid_of, put_mid, same_len_mid}
+use Rattle.std.specs.Prelude.{Result, Ok, Err, IsErrAnd}
 use Rattle.rules.specs.Bits.{bits_of}
 use Rattle.rules.specs.Lines as Rule
 use Rattle.rules.specs.Lines.{Rules, Went, failed, new_line, right_of_a0, code_2d, two, code_of, line_end, read_line}
@@ -19,16 +20,20 @@ use Rattle.tables.specs.Tables.{colour_of}
 use Rattle.context.specs.declared.line.Line.{Line}
 use Rattle.context.specs.declared.reference.FoundChanges.{FoundChanges}
 use Rattle.context.specs.declared.step.Rules as Code
-use Rattle.context.specs.declared.step.Step.{Step}
-use Rattle.context.specs.declared.step.Step.TheVariants.{On, Stop}
+use Rattle.context.specs.declared.step.Stop.{Stop}
 use Rattle.context.specs.declared.reference.Reference.{Reference}
 use Rattle.context.specs.State.{new_for, rules_for, changes_of, Holds}
-use Rattle.context.specs.Outcome.{Steps}
+use Rattle.context.specs.Outcome.{Step, stop_at, Steps}
 use Rattle.context.specs.Reference.{Passed, Finds}
 use Rattle.context.specs.Coding.{Coding, Coded, reference_in, Placed, Seeks, Lines, StepsAt}
 use Rattle.context.proofs.Search.{right-grows, passed_none, passed_on}
 use Rattle.context.proofs.RowPart.{placed-base, placed-as, reference-same, row-lent, row_back, back-front, back-row}
 use Rattle.context.proofs.Carried.{Carries, carries-length, carries-holds, carries-step, carries-on, overlaid-none, step-on, step-stop}
+
+-- what `?` passes up is the fault that it met
+pub passed-up : {T E : Type 0} (r : Result T E) (e : E) → IsErrAnd r (λ y. y ≡ e) → r ≡ Err e
+passed-up (Ok x) e p = absurd p
+passed-up (Err y) e p = ap Err p
 
 -- what the loop is given
 pub record Task : Type 0 where
@@ -135,10 +140,10 @@ module _ {T : Task} {l : Line} {at seen : ℕ} {zs : List ℕ} (g : Reading T l 
   pub reading-holds : Holds (drop T.base zs) l
   reading-holds = carries-holds k
 
-  pub reading-done : l.position ≡ l.width → StepsAt T.base T.width T.xs (whole T) (On l at) zs
+  pub reading-done : l.position ≡ l.width → StepsAt T.base T.width T.xs (whole T) (Ok (l, at)) zs
   reading-done e =
       rw (g.same ∙ line-done T.width (code T) (bs T) (moves (R T) (two (ref T)) (bs T)) s (sym reading-position ∙ e ∙ reading-width))
-      (record { answer = λ i. On (k.line-is i) (g.place_is i); store = array-is })
+      (record { answer = λ i. Ok (k.line-is i, g.place_is i); store = array-is })
 
   module _ (t : l.position ≡ l.width → ⊥) where
     short : s.position ≡ T.width → ⊥
@@ -176,18 +181,18 @@ module _ {T : Task} {l : Line} {at seen : ℕ} {zs : List ℕ} (g : Reading T l 
         array-after : (o : Went) → code_2d (R T) (ref T) (bs T) s ≡ o → put_mid T.base (length zs - T.base) zs ys ≡ take T.base T.xs ++ overlaid (changes_of o) (row T)
         array-after o e = row_back zs T.base reading-room ys ∙ (λ i. g.front i ++ (steps.store ∙ ap (λ (o : Went). overlaid (changes_of o) (row T)) e) i)
 
-        pub reading-stop : {n p : ℕ} {m : Line} → r ≡ Stop n m p → StepsAt T.base T.width T.xs (whole T) (Stop n m p) (put_mid T.base (length zs - T.base) zs ys)
-        reading-stop {n} {p} {m} e =
-            let (u, o, same) = step-stop T.width (code_2d (R T) (ref T) (bs T) s) n p m (sym e ∙ steps.answer) in
-            rw (g.same ∙ line-failed T.width (code T) (bs T) (moves (R T) (two (ref T)) (bs T)) s u n p short o)
-            (record { answer = ap (λ (l : Line). Stop n l p) same; store = array-after (failed n p u) o })
+        pub reading-stop : {f : Stop} → r ≡ Err f → StepsAt T.base T.width T.xs (whole T) (Err f) (put_mid T.base (length zs - T.base) zs ys)
+        reading-stop {f} e =
+            let (u, o, same) = step-stop T.width (code_2d (R T) (ref T) (bs T) s) f (sym e ∙ steps.answer) in
+            rw (g.same ∙ line-failed T.width (code T) (bs T) (moves (R T) (two (ref T)) (bs T)) s u f.number f.place short o)
+            (record { answer = ap (λ (l : Line). Err (stop_at f.number l f.place)) same; store = array-after (failed f.number f.place u) o })
 
-        pub reading-less : {m : Line} {after : ℕ} → r ≡ On m after → (at < after) × (after ≤ 8 * length T.bytes)
+        pub reading-less : {m : Line} {after : ℕ} → r ≡ Ok (m, after) → (at < after) × (after ≤ 8 * length T.bytes)
         reading-less {m} {after} e =
             let (u, o, same, there) = step-on T.width (code_2d (R T) (ref T) (bs T) s) m after (sym e ∙ steps.answer) in
             omega (arith, g.place_is, there, moves (R T) (two (ref T)) (bs T) s u o, length-bits_of T.bytes)
 
-        pub reading-on : {m : Line} {after : ℕ} → r ≡ On m after → Reading T m after f.seen (put_mid T.base (length zs - T.base) zs ys)
+        pub reading-on : {m : Line} {after : ℕ} → r ≡ Ok (m, after) → Reading T m after f.seen (put_mid T.base (length zs - T.base) zs ys)
         reading-on {m} {after} e =
             let (u, o, same, there) = step-on T.width (code_2d (R T) (ref T) (bs T) s) m after (sym e ∙ steps.answer) in
             let grows : Grows (R T) s u = subst (GrowsTo (R T) s) o (code_2d-grows (R T) (ref T) (bs T) s) in

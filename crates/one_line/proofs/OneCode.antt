@@ -5,17 +5,17 @@ use mathlib.Core.List.{List}
 use Prim.Native.Nat.{ℕ}
 use native.Mathlib.Omega.{arith}
 use lib.IntN.{ℤ, pos, negsuc}
+use Rattle.std.specs.Prelude.{Result, Ok, Err}
 use Rattle.rules.specs.Bits.{bits_of}
 use Rattle.rules.specs.Modes.{pass, horizontal, Moded, moded, read_mode}
 use Rattle.rules.specs.Lines.{Went}
-use Rattle.answer.specs.declared.DecodeError.{DecodeError}
+use Rattle.codes.specs.declared.fault.Fault.{Fault}
 use Rattle.codes.specs.Modes.{offset_mode, mode_of}
 use Rattle.codes.specs.declared.mode.Mode.{Mode}
-use Rattle.codes.specs.declared.mode.Mode.TheVariants.{Pass, Horizontal, Vertical, Bad}
+use Rattle.codes.specs.declared.mode.Mode.TheVariants.{Pass, Horizontal, Vertical}
 use Rattle.context.specs.declared.line.Line.{Line}
-use Rattle.context.specs.declared.line.Push.{Push}
 use Rattle.context.specs.declared.step.Rules as Code
-use Rattle.context.specs.State.{line_at, rules_for, Comes, Pushes}
+use Rattle.context.specs.State.{line_at, rules_for, Push, Comes, Pushes}
 use Rattle.context.specs.Coding.{after_push}
 use Rattle.one_line.specs.OneCode.{RunsAt, RunEnded}
 use Rattle.context.proofs.Carried.{push-same}
@@ -23,21 +23,21 @@ use Rattle.one_line.proofs.ModeCode.{pushed-steps}
 
 -- ---- Which modes have runs to come
 
-module _ (bytes : List ℕ) (at : ℕ) (m : Mode) (q : mode_of m ≡ read_mode (bits_of bytes) at) where
-  pub runs-at : (next : ℕ) → m ≡ Horizontal next → RunsAt bytes at next
+module _ (bytes : List ℕ) (at : ℕ) (m : Result (Mode × ℕ) Fault) (q : mode_of m ≡ read_mode (bits_of bytes) at) where
+  pub runs-at : (next : ℕ) → m ≡ Ok (Horizontal, next) → RunsAt bytes at next
   runs-at next e = sym q ∙ ap mode_of e
 
-  pub bad-no-runs : (e : DecodeError) (place : ℕ) → m ≡ Bad e place → (next : ℕ) → RunsAt bytes at next → ⊥
-  bad-no-runs e place f next r = let z : ◌≡◌ {A = ℕ} 0 1 = cc in omega arith
+  pub bad-no-runs : (e : Fault) → m ≡ Err e → (next : ℕ) → RunsAt bytes at next → ⊥
+  bad-no-runs e f next r = let z : ◌≡◌ {A = ℕ} 0 1 = cc in omega arith
 
-  pub pass-no-runs : (n : ℕ) → m ≡ Pass n → (next : ℕ) → RunsAt bytes at next → ⊥
+  pub pass-no-runs : (n : ℕ) → m ≡ Ok (Pass, n) → (next : ℕ) → RunsAt bytes at next → ⊥
   pass-no-runs n f next r =
       let e : moded next horizontal ≡ moded n pass = cc in
       let g : horizontal ≡ pass = ap (λ (m : Moded). m.mode) e in
       let z : ◌≡◌ {A = ℕ} 0 1 = cc in
       omega arith
 
-  pub vertical-no-runs : (o : ℤ) (n : ℕ) → m ≡ Vertical o n → (next : ℕ) → RunsAt bytes at next → ⊥
+  pub vertical-no-runs : (o : ℤ) (n : ℕ) → m ≡ Ok (Vertical o, n) → (next : ℕ) → RunsAt bytes at next → ⊥
   vertical-no-runs o n f next r = moves-only o (let e : moded n (offset_mode o) ≡ moded next horizontal = cc in ap (λ (m : Moded). m.mode) e)
     where
       moves-only : (o : ℤ) → offset_mode o ≡ horizontal → ⊥

@@ -6,6 +6,7 @@ use Prim.Native.Nat.{ℕ, ◌+◌, ◌*◌, ◌≤◌, ◌<◌}
 use native.Mathlib.Omega.{arith}
 use lib.ListN.{length}
 use borrow.Author.Tests.{eq-eqb, ne_eqb, lt-ltb, le-ltb, le-leb, lt-leb}
+use Rattle.std.specs.Prelude.{Ok, Err}
 use Rattle.rules.specs.Bits.{bits_of}
 use Rattle.rules.specs.Lines.{Went, went, failed, new_line, two, read_line}
 use Rattle.rules.specs.Pages as Page
@@ -15,10 +16,10 @@ use Rattle.rules.proofs.Ascending.{ascends-rises}
 use Rattle.answer.specs.Answer.{row_answer_of}
 use Rattle.answer.specs.declared.Answer.{Answer}
 use Rattle.context.specs.declared.line.Line.{Line}
-use Rattle.context.specs.declared.step.Step.{Step}
-use Rattle.context.specs.declared.step.Step.TheVariants.{On, Stop}
+use Rattle.context.specs.declared.step.Stop.{Stop}
 use Rattle.context.specs.declared.reference.Reference.TheVariants.{Lent}
 use Rattle.context.specs.State.{rules_for, changes_of}
+use Rattle.context.specs.Outcome.{Step}
 use Rattle.context.specs.Coding.{Lines, Lined}
 use Rattle.one_line.specs.OneLine.{Answers, past_at, ReadOne}
 use Rattle.context.proofs.State.{mark-is}
@@ -26,18 +27,18 @@ use Rattle.context.proofs.Carried.{overlaid-none, step-on, step-stop}
 
 -- ---- An answer
 
-pub answers-on : (l : Line) (at : ℕ) → Answers (On l at) (record { number = 0; mark = l.cut; rows = 1; entries = l.changes; loose = 0; bytes = at; place = 0 })
+pub answers-on : (l : Line) (at : ℕ) → Answers (Ok (l, at)) (record { number = 0; mark = l.cut; rows = 1; entries = l.changes; loose = 0; bytes = at; place = 0 })
 unfolding entries
 answers-on l at width w e =
     let (t, o, same, there) = step-on width w l at e in
     let count : l.changes ≡ length t.changes + 0 = omega (arith, ap (λ (m : Line). m.changes) same) in
     rw o (λ i. record { number = 0; mark = mark-is width t l same i; rows = 1; entries = count i; loose = 0; bytes = there i; place = 0 })
 
-pub answers-stop : (n p : ℕ) (l : Line) → Answers (Stop n l p) (record { number = n; mark = 0; rows = 0; entries = 0; loose = l.changes; bytes = 0; place = p })
+pub answers-stop : (f : Stop) → Answers (Err f) (record { number = f.number; mark = 0; rows = 0; entries = 0; loose = f.line.changes; bytes = 0; place = f.place })
 unfolding entries
-answers-stop n p l width w e =
-    let (t, o, same) = step-stop width w n p l e in
-    rw o (λ i. record { number = n; mark = 0; rows = 0; entries = 0; loose = (same i).changes; bytes = 0; place = p })
+answers-stop f width w e =
+    let (t, o, same) = step-stop width w f e in
+    rw o (λ i. record { number = f.number; mark = 0; rows = 0; entries = 0; loose = (same i).changes; bytes = 0; place = f.place })
 
 -- what an outcome leaves in the array
 changes-after : (w : Went) (xs : List ℕ) → overlaid (changes_of w) xs ≡ changes_after (one_line w) xs

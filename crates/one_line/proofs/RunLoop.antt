@@ -7,6 +7,7 @@ use native.Mathlib.Omega.{arith}
 use lib.Dec.{eqb}
 use lib.ListN.{length}
 use borrow.Author.Tests.{eqb-true, eqb-false, ltb-true, ltb-false, not-true, not-false}
+use Rattle.std.specs.Prelude.{Ok, Err}
 use Rattle.rules.specs.Bits.{bits_of}
 use Rattle.rules.specs.Runs.{Res, ok, fault, Sum, sum, read_run}
 use Rattle.rules.specs.Lines as Rule
@@ -20,15 +21,13 @@ use Rattle.tables.specs.Tables.{colour_of}
 use Rattle.bit_reader.specs.Loaded.{Loaded, LoadedAt}
 use Rattle.bit_reader.specs.declared.buffer.Buffer.{Buffer}
 use Rattle.answer.specs.Answer.{number_of}
-use Rattle.answer.specs.declared.DecodeError.{DecodeError}
+use Rattle.codes.specs.declared.fault.Fault.{Fault}
 use Rattle.codes.specs.Runs.{RunRead}
-use Rattle.codes.specs.declared.run.Run.TheVariants.{Length, Bad}
 use Rattle.context.specs.declared.line.Line.{Line}
-use Rattle.context.specs.declared.line.Push.{Push}
+use Rattle.context.specs.declared.line.PushFault.{PushFault}
 use Rattle.context.specs.declared.step.Rules as Code
-use Rattle.context.specs.declared.step.Step.{Step}
-use Rattle.context.specs.State.{line_at, line_for, turned_for, rules_for, changes_of, Holds, Comes, Pushes}
-use Rattle.context.specs.Outcome.{place_for, Steps, runs_from, does_go_on}
+use Rattle.context.specs.State.{line_at, line_for, turned_for, rules_for, changes_of, Holds, Push, Comes, Pushes}
+use Rattle.context.specs.Outcome.{place_for, stop_at, Steps, runs_from, does_go_on}
 use Rattle.context.proofs.State.{colour-number}
 use Rattle.context.proofs.Carried.{Carries, carries-new, carries-length, carries-holds, carries-push, carries-on, turned-is, colour-small, push-on, push-stop, push_at, push-place}
 
@@ -140,10 +139,10 @@ module _ {T : Task} {count : ℕ} {l : Line} {b : Buffer} {ys : List ℕ} (g : G
   test : (t : Bool) → does_go_on T.two count l ≡ t → does_go_on T.two count (line_for (width_of T) s) ≡ t
   test t e = ap (does_go_on T.two count) (sym k.line-is) ∙ e
 
-  pub going_done : does_go_on T.two count l ≡ false → Steps (width_of T) T.xs (whole T) (Step.On l b.at) ys
+  pub going_done : does_go_on T.two count l ≡ false → Steps (width_of T) T.xs (whole T) (Ok (l, b.at)) ys
   going_done t =
       rw (g.same ∙ rest-done (R T) (bs T) T.two count s (test false t))
-      (record { answer = λ i. Step.On (k.line-is i) (g.place i); store = k.store })
+      (record { answer = λ i. Ok (k.line-is i, g.place i); store = k.store })
 
   module _ (t : does_go_on T.two count l ≡ true) where
     turn : whole T ≡ next (push_run (R T) (bs T) s) (rest (R T) (bs T) T.two (count + 1))
@@ -153,14 +152,14 @@ module _ {T : Task} {count : ℕ} {l : Line} {b : Buffer} {ys : List ℕ} (g : G
     read_same : read_run (colour_of l.colour) (bs T) b.at ≡ read_run s.colour (bs T) s.at
     read_same = λ i. read_run ((ap (λ (m : Line). colour_of m.colour) k.line-is ∙ colour-number s.colour) i) (bs T) (g.place i)
 
-    pub going-bad : {e : DecodeError} {p : ℕ} → RunRead (colour_of l.colour) T.bytes b.at (Bad e p) → Steps (width_of T) T.xs (whole T) (Step.Stop (number_of e) l p) ys
+    pub going-bad : {f : Fault} → RunRead (colour_of l.colour) T.bytes b.at (Err f) → Steps (width_of T) T.xs (whole T) (Err (stop_at (number_of f.error) l f.at)) ys
     unfolding push_run
-    going-bad {e} {p} q =
-        let r : read_run s.colour (bs T) s.at ≡ fault (number_of e) p = sym (q.same ∙ read_same) in
+    going-bad {f} q =
+        let r : read_run s.colour (bs T) s.at ≡ fault (number_of f.error) f.at = sym (q.same ∙ read_same) in
         rw (turn ∙ ap (λ (x : Res Sum). next (after_run (R T) s x) (rest (R T) (bs T) T.two (count + 1))) r)
-        (record { answer = λ i. Step.Stop (number_of e) (k.line-is i) p; store = k.store })
+        (record { answer = λ i. Err (stop_at (number_of f.error) (k.line-is i) f.at); store = k.store })
 
-    module _ {n : ℕ} {b' : Buffer} (q : RunRead (colour_of l.colour) T.bytes b.at (Length n b')) where
+    module _ {n : ℕ} {b' : Buffer} (q : RunRead (colour_of l.colour) T.bytes b.at (Ok (n, b'))) where
       read : read_run s.colour (bs T) s.at ≡ ok (sum b'.at n)
       read = sym (q.same ∙ read_same)
 
@@ -179,19 +178,19 @@ module _ {T : Task} {count : ℕ} {l : Line} {b : Buffer} {ys : List ℕ} (g : G
         comes : Comes (width_of T) T.xs pushed r zs
         comes = carries-push k T.rules n r zs p b'.at s.at
 
-        pub going-stop : {j : ℕ} {m : Line} → r ≡ Push.Stop j m → Steps (width_of T) T.xs (whole T) (Step.Stop j m (place_for j b.at)) zs
-        going-stop {j} {m} e =
-            let (a, u, w, same) = push-stop (width_of T) pushed j m (sym e ∙ comes.answer) in
-            let at-fault : place_for j b.at ≡ a = ap (place_for j) g.place ∙ sym (push-place (R T) s.at n (moved_to b'.at s) u j a w) in
-            rw (turn ∙ ap (λ (w : Went). next w (rest (R T) (bs T) T.two (count + 1))) (ran (failed j a u) w))
-            (record { answer = λ i. Step.Stop j (same i) (at-fault i); store = comes.store ∙ ap (λ (w : Went). overlaid (changes_of w) T.xs) w })
+        pub going-stop : {f : PushFault} → r ≡ Err f → Steps (width_of T) T.xs (whole T) (Err (stop_at f.number f.line (place_for f.number b.at))) zs
+        going-stop {f} e =
+            let (a, u, w, same) = push-stop (width_of T) pushed f (sym e ∙ comes.answer) in
+            let at-fault : place_for f.number b.at ≡ a = ap (place_for f.number) g.place ∙ sym (push-place (R T) s.at n (moved_to b'.at s) u f.number a w) in
+            rw (turn ∙ ap (λ (w : Went). next w (rest (R T) (bs T) T.two (count + 1))) (ran (failed f.number a u) w))
+            (record { answer = λ i. Err (stop_at f.number (same i) (at-fault i)); store = comes.store ∙ ap (λ (w : Went). overlaid (changes_of w) T.xs) w })
 
-        pub going-coloured : {m : Line} → r ≡ Push.On m → m.colour ≤ 1
+        pub going-coloured : {m : Line} → r ≡ Ok m → m.colour ≤ 1
         going-coloured {m} e =
             let (u, w, same) = push-on (width_of T) pushed m (sym e ∙ comes.answer) in
             subst (λ (m : Line). m.colour ≤ 1) (sym same) (colour-small u.colour)
 
-        pub going_on : {m : Line} → r ≡ Push.On m → Going T (count + 1) (turned_for m) b' zs
+        pub going_on : {m : Line} → r ≡ Ok m → Going T (count + 1) (turned_for m) b' zs
         going_on {m} e =
             let (u, w, same) = push-on (width_of T) pushed m (sym e ∙ comes.answer) in
             let grows : Grows (R T) s (turned u) = subst (GrowsTo (R T) s) (ran (went u) w) (push_run-grows (R T) (bs T) s) in

@@ -7,6 +7,7 @@ use native.Mathlib.Omega.{arith}
 use lib.ListN.{length, take, drop, length-append, length-take, length-drop}
 use lib.Seq.{length-take-le}
 use borrow.Rule.Slice.PartMut.{mid_of, put_mid}
+use Rattle.std.specs.Prelude.{Ok, Err}
 use Rattle.rules.specs.Bits.{bits_of}
 use Rattle.rules.specs.Lines.{right_of_a0, head_or, line_end}
 use Rattle.rules.specs.Pages.{overlaid}
@@ -16,13 +17,13 @@ use Rattle.tables.specs.Tables.{colour_of}
 use Rattle.context.specs.declared.line.Line.{Line}
 use Rattle.context.specs.declared.reference.FoundChanges.{FoundChanges}
 use Rattle.context.specs.declared.step.Rules as Code
-use Rattle.context.specs.declared.step.Step.{Step}
-use Rattle.context.specs.declared.step.Step.TheVariants.{On, Stop}
+use Rattle.context.specs.declared.step.Stop.{Stop}
 use Rattle.context.specs.declared.reference.Reference.{Reference}
 use Rattle.context.specs.declared.reference.Reference.TheVariants.{Lent}
 use Rattle.swift_loops.specs.declared.fast_2d.BetweenCodes.{BetweenCodes}
 use Rattle.context.specs.State.{flag_of}
 use Rattle.context.specs.Reference.{Passed, Finds}
+use Rattle.context.specs.Outcome.{Step}
 use Rattle.context.specs.Coding.{Coding, Coded, StepsAt, reference_in, Placed}
 use Rattle.context.specs.Places.{Seen}
 use Rattle.swift_loops.specs.Swift.{standing, line_of, room_in, Walked, Walks}
@@ -193,7 +194,7 @@ module _ (bytes : List ℕ) (place : Reference) (lent xs : List ℕ) (base width
         near = walked.stands.near;
       }
 
-    pub standing-done : s.position ≡ width → StepsAt base width xs (whole T) (On (line_of width s cut) s.at) zs
+    pub standing-done : s.position ≡ width → StepsAt base width xs (whole T) (Ok (line_of width s cut, s.at)) zs
     standing-done e = reading-done g.reading e
 
     -- a code by the full rules, at the changes of b1's place and the next
@@ -218,11 +219,11 @@ module _ (bytes : List ℕ) (place : Reference) (lent xs : List ℕ) (base width
         abbrev after : List ℕ
         after = put_mid base (length zs - base) zs ys
 
-        pub standing-stop : {n p : ℕ} {m : Line} → r ≡ Stop n m p
-            → StepsAt base width xs (whole T) (Stop n m p) (put_mid base (length zs - base) zs ys)
+        pub standing-stop : {f : Stop} → r ≡ Err f
+            → StepsAt base width xs (whole T) (Err f) (put_mid base (length zs - base) zs ys)
         standing-stop e = reading-stop g.reading short finds r ys c e
 
-        module _ {m : Line} {at : ℕ} (e : r ≡ On m at) where
+        module _ {m : Line} {at : ℕ} (e : r ≡ Ok (m, at)) where
           pub standing-less : (s.at < at) × (at ≤ 8 * length bytes)
           standing-less = reading-less g.reading short finds r ys c e
 

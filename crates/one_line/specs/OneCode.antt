@@ -7,11 +7,10 @@ use Rattle.rules.specs.Lines.{after_run}
 use Rattle.bit_reader.specs.Loaded.{Loading}
 use Rattle.context.specs.declared.line.Line.{Line}
 use Rattle.context.specs.declared.step.Rules.{Rules}
-use Rattle.context.specs.declared.step.Step.{Step}
 use Rattle.one_line.specs.declared.one_code.OneCode.{OneCode}
 use Rattle.one_line.specs.declared.one_code.OneCode.TheVariants.{Runs, Did}
 use Rattle.context.specs.State.{line_at, rules_for, Holds}
-use Rattle.context.specs.Outcome.{Steps}
+use Rattle.context.specs.Outcome.{Step, Steps}
 use Rattle.context.specs.Coding.{Coded}
 
 -- what a mode code asks: a bit inside the data, a line in its slice that is short of its width, and a b2 that does not lie left of it

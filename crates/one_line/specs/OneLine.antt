@@ -4,8 +4,7 @@ use Rattle.rules.specs.Lines.{Went}
 use Rattle.rules.specs.Pages.{one_line, read_one_line, changes_after}
 use Rattle.answer.specs.Answer.{row_answer_of}
 use Rattle.answer.specs.declared.Answer.{Answer}
-use Rattle.context.specs.declared.step.Step.{Step}
-use Rattle.context.specs.Outcome.{step_for}
+use Rattle.context.specs.Outcome.{Step, step_for}
 
 -- a step that stands for an outcome is answered as the outcome is
 abbrev pub Answers : Step → Answer → Type 0

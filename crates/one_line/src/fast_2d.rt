@@ -2,17 +2,14 @@
 ghost use Rattle.std.specs.Prelude.{◌≡◌, [], ◌-◌, min};
 ghost use Rattle.tables.specs.Tables.{Lookups};
 ghost use Rattle.context.specs.declared.reference.Reference.TheVariants.{Kept};
-ghost use Rattle.context.specs.Coding.{Coding, Coded, Lines, Lined};
+ghost use Rattle.context.specs.Coding.{Lines, Lined};
 ghost use Rattle.swift_loops.specs.Swift.{line_of};
 ghost use Rattle.one_line.specs.Kept.{Restands, Restood};
 
 use crate::line_2d;
-use codes::mode;
-use codes::mode::Mode;
 use context::line::Line;
-use context::offset::Move;
+use context::reference;
 use context::step::{Rules, Step};
-use context::{line, offset, reference};
 use swift_loops::fast_2d;
 use swift_loops::fast_2d::BetweenCodes;
 
@@ -20,11 +17,11 @@ pub(crate) fn line_at(width: u32, s: BetweenCodes, cut: u32) -> Line
     ensures { result ≡ line_of width s cut }
 {
     Line {
-        width: width,
+        width,
         position: s.position,
         changes: s.count,
         colour: (s.place % 2) as u32,
-        cut: cut,
+        cut,
     }
 }
 
@@ -49,45 +46,10 @@ pub(crate) fn stand_at(reference: &[u32], place: usize, line: Line, at: usize) -
     let seen = seen_before(reference.len(), place);
     let found = reference::b1_from(reference, seen, line.width, line.position, line.colour);
     BetweenCodes {
-        at: at,
+        at,
         position: line.position,
         count: line.changes,
         place: found,
-    }
-}
-
-// A code by the full rules, as `line_2d::code_2d`: with this caller too that one would no longer be compiled in place in the loop
-// of a line whose reference is lent, which feels it.
-pub(crate) fn full_code(
-    src: &[u8],
-    changes: &mut [u32],
-    line: Line,
-    at: usize,
-    b1: u32,
-    b2: u32,
-    rules: Rules,
-) -> Step
-    requires { Coding src.now changes.old line at b2 }
-    ensures { Coded src.now changes.old line at b1 b2 rules result changes.new }
-{
-    let bits = bit_reader::peek(src, at);
-    match mode::by_zeros(src, at, bits) {
-        Mode::Bad(e, place) => Step::Stop(answer::number(e), line, place),
-        Mode::Horizontal(next) => { line_2d::horizontal(src, changes, line, at, next, rules) }
-        Mode::Pass(next) => {
-            let pushed = line::push_pixels(changes, line, b2 - line.position, rules.strict);
-            line_2d::after_push(pushed, at, next, false)
-        }
-        Mode::Vertical(offset, next) => match offset::moved(b1, offset, line.position) {
-            Move::Over => Step::Stop(answer::OVERFLOW, line, at),
-            Move::By(count) => {
-                if count == 0 {
-                    return line_2d::unmoved(line, at, next, rules.exact);
-                }
-                let pushed = line::push_pixels(changes, line, count, rules.strict);
-                line_2d::after_push(pushed, at, next, true)
-            }
-        },
     }
 }
 
@@ -117,11 +79,11 @@ pub(crate) fn kept_line<'a>(
         let t = fast_2d::swift_codes(white, black, src, changes, first, base, width, s);
         // The line is made only where it is handed on: otherwise it would go through memory at every row's end.
         if t.position == width {
-            return Step::On(line_at(width, t, cut), t.at);
+            return Ok((line_at(width, t, cut), t.at));
         }
         let b1 = reference::change_or(&changes[first..base], t.place, width);
         let b2 = reference::change_or(&changes[first..base], t.place + 1, width);
-        match full_code(
+        let (next, after) = line_2d::code_2d::<true>(
             src,
             &mut changes[base..],
             line_at(width, t, cut),
@@ -129,14 +91,8 @@ pub(crate) fn kept_line<'a>(
             b1,
             b2,
             rules,
-        ) {
-            Step::Stop(number, stopped, fault) => {
-                return Step::Stop(number, stopped, fault);
-            }
-            Step::On(next, after) => {
-                s = stand_at(&changes[first..base], t.place, next, after);
-                cut = next.cut;
-            }
-        }
+        )?;
+        s = stand_at(&changes[first..base], t.place, next, after);
+        cut = next.cut;
     }
 }

@@ -3,7 +3,7 @@
 ghost use Rattle.context.specs.declared.reference.Reference.TheVariants.{Lent};
 ghost use Rattle.context.specs.Coding.{Lines, Lined};
 
-use crate::fast_2d;
+use crate::{fast_2d, line_2d};
 use context::reference;
 use context::step::{Rules, Step};
 use swift_loops::fast_2d::BetweenCodes;
@@ -33,11 +33,11 @@ pub(crate) fn lent_line(
         let t = lent_2d::swift_codes(src, reference, &mut changes[base..], width, s);
         // The line is made only where it is handed on: otherwise it would go through memory at every row's end.
         if t.position == width {
-            return Step::On(fast_2d::line_at(width, t, cut), t.at);
+            return Ok((fast_2d::line_at(width, t, cut), t.at));
         }
         let b1 = reference::change_or(reference, t.place, width);
         let b2 = reference::change_or(reference, t.place + 1, width);
-        match fast_2d::full_code(
+        let (next, after) = line_2d::code_2d::<true>(
             src,
             &mut changes[base..],
             fast_2d::line_at(width, t, cut),
@@ -45,14 +45,8 @@ pub(crate) fn lent_line(
             b1,
             b2,
             rules,
-        ) {
-            Step::Stop(number, stopped, fault) => {
-                return Step::Stop(number, stopped, fault);
-            }
-            Step::On(next, after) => {
-                s = fast_2d::stand_at(reference, t.place, next, after);
-                cut = next.cut;
-            }
-        }
+        )?;
+        s = fast_2d::stand_at(reference, t.place, next, after);
+        cut = next.cut;
     }
 }

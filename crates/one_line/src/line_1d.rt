@@ -11,10 +11,9 @@ ghost use Rattle.swift_loops.specs.Pairs.{Tabled};
 
 use bit_reader::buffer;
 use bit_reader::buffer::Buffer;
-use codes::run::Run;
-use codes::{plain, run};
-use context::line::{Line, Push};
-use context::step::{Rules, Step};
+use codes::{Fault, plain, run};
+use context::line::Line;
+use context::step::{Rules, Step, Stop};
 use context::{line, step};
 use swift_loops::fast_1d;
 
@@ -28,7 +27,7 @@ fn goes_on(two: bool, count: usize, line: Line) -> bool
 }
 
 // The run of a colour by either engine. The compiler takes the test out of the loop over runs: each engine has one of its own there.
-fn next_run(colour: usize, src: &[u8], buffer: Buffer, plain: bool) -> Run
+fn next_run(colour: usize, src: &[u8], buffer: Buffer, plain: bool) -> Result<(u32, Buffer), Fault>
     requires { Reading src.now buffer }
     ensures { RunRead (colour_of colour) src.now buffer.at result }
 {
@@ -56,19 +55,22 @@ pub fn runs(
     while goes_on(two, count, line) {
         let from = buffer.at;
         match next_run(line.colour as usize, src, buffer, rules.plain) {
-            Run::Bad(e, place) => {
-                return Step::Stop(answer::number(e), line, place);
+            Err(fault) => {
+                return Err(Stop {
+                    line,
+                    place: fault.at,
+                    number: answer::number(fault.error),
+                });
             }
-            Run::Length(pixels, next) => match line::push_pixels(
-                changes,
-                line,
-                pixels,
-                rules.strict,
-            ) {
-                Push::Stop(number, stopped) => {
-                    return Step::Stop(number, stopped, step::place_of(number, from));
+            Ok((pixels, next)) => match line::push_pixels(changes, line, pixels, rules.strict) {
+                Err(fault) => {
+                    return Err(Stop {
+                        line: fault.line,
+                        place: step::place_of(fault.number, from),
+                        number: fault.number,
+                    });
                 }
-                Push::On(pushed) => {
+                Ok(pushed) => {
                     line = line::turned(pushed);
                     buffer = next;
                     count += 1;
@@ -76,7 +78,7 @@ pub fn runs(
             },
         }
     }
-    Step::On(line, buffer.at)
+    Ok((line, buffer.at))
 }
 
 // Pairs of runs while they come, by the tables if they are lent, and any other run as in a horizontal code.
@@ -107,7 +109,7 @@ pub fn decode_1d_line<'a>(
     );
     let line = fast_1d::line_of(width, s);
     if s.position == width {
-        return Step::On(line, s.at);
+        return Ok((line, s.at));
     }
     runs(src, changes, false, line, s.at, rules)
 }

@@ -1,6 +1,10 @@
 // A 2D line: what one mode code does, given b1 and b2, and codes to the width.
 ghost use Rattle.std.specs.Prelude.{◌≡◌, ◌≤◌};
+ghost use Rattle.rules.specs.Bits.{bits_of};
+ghost use Rattle.rules.specs.Modes.{read_mode};
 ghost use Rattle.tables.specs.Tables.{colour_of};
+ghost use Rattle.bit_reader.specs.Loaded.{Loading};
+ghost use Rattle.codes.specs.Modes.{mode_of};
 ghost use Rattle.context.specs.Outcome.{Reads};
 ghost use Rattle.context.specs.Reference.{Finds};
 ghost use Rattle.context.specs.Coding.{Coloured, after_push, unmoved_for, unless_idle_for, TwoRuns};
@@ -8,12 +12,11 @@ ghost use Rattle.context.specs.Coding.{Coding, Coded, reference_in, Seeks, Lines
 ghost use Rattle.one_line.specs.White.{under_white};
 
 use crate::{fast_2d, lent_2d, line_1d};
-use codes::mode;
 use codes::mode::Mode;
+use codes::{Fault, mode};
 use context::line::{Line, Push};
-use context::offset::Move;
 use context::reference::{FoundChanges, Reference};
-use context::step::{Rules, Step};
+use context::step::{Rules, Step, Stop};
 use context::{line, offset, reference, step};
 
 // Whether the reference is white: it has no changes.
@@ -21,7 +24,7 @@ pub fn is_under_white(place: Reference, base: usize, lent: &[u32]) -> bool
     ensures { result ≡ under_white place base lent.now }
 {
     match place {
-        Reference::Lent => lent.len() == 0,
+        Reference::Lent => lent.is_empty(),
         Reference::Kept(start) => start == base,
     }
 }
@@ -32,12 +35,16 @@ pub(crate) fn after_push(push: Push, at: usize, next: usize, turns: bool) -> Ste
     ensures { result ≡ after_push push at next turns }
 {
     match push {
-        Push::Stop(number, line) => Step::Stop(number, line, step::place_of(number, at)),
-        Push::On(line) => {
+        Err(fault) => Err(Stop {
+            line: fault.line,
+            place: step::place_of(fault.number, at),
+            number: fault.number,
+        }),
+        Ok(line) => {
             if turns {
-                return Step::On(line::turned(line), next);
+                return Ok((line::turned(line), next));
             }
-            Step::On(line, next)
+            Ok((line, next))
         }
     }
 }
@@ -48,33 +55,29 @@ pub(crate) fn unmoved(line: Line, at: usize, next: usize, exact: bool) -> Step
     requires { line.colour ≤ 1 }
     ensures { result ≡ unmoved_for line at next exact }
 {
-    if !exact {
-        return Step::On(line::turned(line), next);
+    if exact && (line.position != 0 || line.colour != 0) {
+        return Err(Stop {
+            line,
+            place: at,
+            number: answer::INVALID_CODE,
+        });
     }
-    if line.position != 0 {
-        return Step::Stop(answer::INVALID_CODE, line, at);
-    }
-    if line.colour != 0 {
-        return Step::Stop(answer::INVALID_CODE, line, at);
-    }
-    Step::On(line::turned(line), next)
+    Ok((line::turned(line), next))
 }
 
 // What two runs make of the code that began at `at`: an exact line refuses it as idle where both are zero, and is as it was before it.
 pub(crate) fn unless_idle(step: Step, line: Line, at: usize, exact: bool) -> Step
     ensures { result ≡ unless_idle_for step line at exact }
 {
-    match step {
-        Step::Stop(number, stopped, place) => Step::Stop(number, stopped, place),
-        Step::On(after, end) => {
-            if exact {
-                if after.position == line.position {
-                    return Step::Stop(answer::INVALID_CODE, line, at);
-                }
-            }
-            Step::On(after, end)
-        }
+    let (after, end) = step?;
+    if exact && after.position == line.position {
+        return Err(Stop {
+            line,
+            place: at,
+            number: answer::INVALID_CODE,
+        });
     }
+    Ok((after, end))
 }
 
 // A function of its own, so that the line is put into memory for `runs` only where a code is horizontal, and not at every code.
@@ -93,7 +96,20 @@ pub(crate) fn horizontal(
     unless_idle(step, line, at, rules.exact)
 }
 
-fn code_2d(
+// The mode at a bit, for `code_2d`.
+fn mode_at<const SWIFT: bool>(src: &[u8], at: usize) -> Result<(Mode, usize), Fault>
+    requires { Loading src.now at }
+    ensures { mode_of result ≡ read_mode (bits_of src.now) at }
+{
+    if SWIFT {
+        return mode::by_zeros(src, at, bit_reader::peek(src, at));
+    }
+    mode::read_mode::<false>(src, at)
+}
+
+// A code by the full rules, between swift codes or in a line that is read code by code: each of the two has an instance of its own, which
+// is compiled in place only while it has few callers.
+pub(crate) fn code_2d<const SWIFT: bool>(
     src: &[u8],
     changes: &mut [u32],
     line: Line,
@@ -105,16 +121,24 @@ fn code_2d(
     requires { Coding src.now changes.old line at b2 }
     ensures { Coded src.now changes.old line at b1 b2 rules result changes.new }
 {
-    match mode::read_mode(src, at) {
-        Mode::Bad(e, place) => Step::Stop(answer::number(e), line, place),
-        Mode::Horizontal(next) => horizontal(src, changes, line, at, next, rules),
-        Mode::Pass(next) => {
+    match mode_at::<SWIFT>(src, at) {
+        Err(fault) => Err(Stop {
+            line,
+            place: fault.at,
+            number: answer::number(fault.error),
+        }),
+        Ok((Mode::Horizontal, next)) => horizontal(src, changes, line, at, next, rules),
+        Ok((Mode::Pass, next)) => {
             let pushed = line::push_pixels(changes, line, b2 - line.position, rules.strict);
             after_push(pushed, at, next, false)
         }
-        Mode::Vertical(offset, next) => match offset::moved(b1, offset, line.position) {
-            Move::Over => Step::Stop(answer::OVERFLOW, line, at),
-            Move::By(count) => {
+        Ok((Mode::Vertical(offset), next)) => match offset::moved(b1, offset, line.position) {
+            None => Err(Stop {
+                line,
+                place: at,
+                number: answer::OVERFLOW,
+            }),
+            Some(count) => {
                 if count == 0 {
                     return unmoved(line, at, next, rules.exact);
                 }
@@ -169,7 +193,7 @@ fn line_by_codes(
     let mut seen: usize = 0;
     while line.position != line.width {
         let found = find(reference, changes, base, place, seen, line);
-        match code_2d(
+        (line, at) = code_2d::<false>(
             src,
             &mut changes[base..],
             line,
@@ -177,18 +201,10 @@ fn line_by_codes(
             found.b1,
             found.b2,
             rules,
-        ) {
-            Step::Stop(number, stopped, fault) => {
-                return Step::Stop(number, stopped, fault);
-            }
-            Step::On(next, after) => {
-                line = next;
-                at = after;
-                seen = found.seen;
-            }
-        }
+        )?;
+        seen = found.seen;
     }
-    Step::On(line, at)
+    Ok((line, at))
 }
 
 // A line whose changes go into `changes` from `base` on. By the plain engine (A14) no code is swift; where the reference is lent no table

@@ -13,10 +13,9 @@ ghost use Rattle.one_line.specs.OneCode.{OneCoding, OneCoded, RunEnded};
 use crate::line_2d;
 use codes::mode::Mode;
 use codes::run::RunCode;
-use codes::{mode, plain, run};
+use codes::{Fault, mode, plain, run};
 use context::line::Line;
-use context::offset::Move;
-use context::step::{Rules, Step};
+use context::step::{Rules, Step, Stop};
 use context::{line, offset};
 
 // What a mode code does by itself: horizontal mode has its two runs to come, from a bit on; any other does its work.
@@ -39,16 +38,24 @@ pub fn mode_code(
     requires { OneCoding src.now changes.old line at b2 }
     ensures { OneCoded src.now changes.old line at b1 b2 rules result changes.new }
 {
-    match mode::mode_at(src, at) {
-        Mode::Bad(e, place) => OneCode::Did(Step::Stop(answer::number(e), line, place)),
-        Mode::Horizontal(next) => OneCode::Runs(next),
-        Mode::Pass(next) => {
+    match mode::read_mode::<true>(src, at) {
+        Err(fault) => OneCode::Did(Err(Stop {
+            line,
+            place: fault.at,
+            number: answer::number(fault.error),
+        })),
+        Ok((Mode::Horizontal, next)) => OneCode::Runs(next),
+        Ok((Mode::Pass, next)) => {
             let pushed = line::push_pixels(changes, line, b2 - line.position, rules.strict);
             OneCode::Did(line_2d::after_push(pushed, at, next, false))
         }
-        Mode::Vertical(offset, next) => match offset::moved(b1, offset, line.position) {
-            Move::Over => OneCode::Did(Step::Stop(answer::OVERFLOW, line, at)),
-            Move::By(count) => {
+        Ok((Mode::Vertical(offset), next)) => match offset::moved(b1, offset, line.position) {
+            None => OneCode::Did(Err(Stop {
+                line,
+                place: at,
+                number: answer::OVERFLOW,
+            })),
+            Some(count) => {
                 if count == 0 {
                     return OneCode::Did(line_2d::unmoved(line, at, next, rules.exact));
                 }
@@ -60,7 +67,13 @@ pub fn mode_code(
 }
 
 // One code of a colour's run, with the sum so far, by either engine.
-pub fn run_code(colour: usize, src: &[u8], at: usize, total: u32, plain: bool) -> RunCode
+pub fn run_code(
+    colour: usize,
+    src: &[u8],
+    at: usize,
+    total: u32,
+    plain: bool,
+) -> Result<RunCode, Fault>
     requires { Loading src.now at }
     ensures { code_of result ≡ run_step (colour_of colour) (bits_of src.now) (sum at total) }
 {

@@ -15,7 +15,7 @@ fn answer(step: Step) -> Answer
     ensures { Answers step result }
 {
     match step {
-        Step::On(line, after) => Answer {
+        Ok((line, after)) => Answer {
             number: answer::COMPLETE,
             mark: line.cut,
             rows: 1,
@@ -24,14 +24,14 @@ fn answer(step: Step) -> Answer
             bytes: after as u64,
             place: 0,
         },
-        Step::Stop(number, line, place) => Answer {
-            number: number,
+        Err(stop) => Answer {
+            number: stop.number,
             mark: 0,
             rows: 0,
             entries: 0,
-            loose: line.changes as u64,
+            loose: stop.line.changes as u64,
             bytes: 0,
-            place: place as u64,
+            place: stop.place as u64,
         },
     }
 }
@@ -62,10 +62,7 @@ pub fn read_line(
 ) -> Answer
     ensures { ReadOne src.now at columns strict reference.now changes.old result changes.new }
 {
-    if columns == 0 {
-        return answer::refusal(answer::BAD_WIDTH);
-    }
-    if columns == answer::MOST_PIXELS {
+    if columns == 0 || columns == answer::MOST_PIXELS {
         return answer::refusal(answer::BAD_WIDTH);
     }
     if answer::MOST_BYTES < src.len() {
@@ -90,7 +87,7 @@ pub fn read_line(
         columns,
         at as usize,
         Rules {
-            strict: strict,
+            strict,
             exact: false,
             plain: false,
         },

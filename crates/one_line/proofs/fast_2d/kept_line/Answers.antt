@@ -1,6 +1,7 @@
 -- The invariant is `Standing`, and each way through a turn is a law of it. The measure is what is left of the data.
 use native.Mathlib.Omega.{arith}
 use Rattle.swift_loops.proofs.Swiftly.{kept-long}
+use Rattle.one_line.proofs.LineLoop.{passed-up}
 use Rattle.one_line.proofs.SwiftLine.{standing-new, standing-length, standing-room, standing-back, standing-place}
 use Rattle.one_line.proofs.SwiftLine.{standing-walks, standing-walked, standing-done, standing-codes, standing-stop}
 use Rattle.one_line.proofs.SwiftLine.{standing-less, standing-searches, standing_on}
@@ -63,33 +64,34 @@ pub offset_bounds-changes-base : goal.offset_bounds-changes-base
 offset_bounds-changes-base c =
     omega (arith, c.requires.0.placed)
 
-pub slice_bounds-full_code-count : goal.slice_bounds-full_code-count
-slice_bounds-full_code-count c =
+pub slice_bounds-code_2d-count : goal.slice_bounds-code_2d-count
+slice_bounds-code_2d-count c =
     standing-room _ _ _ _ _ _ _ _ (standing-walked _ _ _ _ _ _ _ _ c.loop-rules.invariant c.swift_codes-t.ensures)
 
-pub slice_bounds-full_code-start : goal.slice_bounds-full_code-start
-slice_bounds-full_code-start c =
+pub slice_bounds-code_2d-start : goal.slice_bounds-code_2d-start
+slice_bounds-code_2d-start c =
     standing-room _ _ _ _ _ _ _ _ (standing-walked _ _ _ _ _ _ _ _ c.loop-rules.invariant c.swift_codes-t.ensures)
 
-pub full_code-requires : goal.full_code-requires
-full_code-requires c =
+pub code_2d-requires : goal.code_2d-requires
+code_2d-requires c =
     let g = standing-walked _ _ _ _ _ _ _ _ c.loop-rules.invariant c.swift_codes-t.ensures in
     rw c.line_at-in-loop-rules.ensures
     (standing-codes _ _ _ _ _ _ _ _ g c.if-t-width.false c.change_or-b1.ensures c.change_or-b2.ensures)
 
-pub shape_of-changes-in-Stop : goal.shape_of-changes-in-Stop
-shape_of-changes-in-Stop c =
+pub shape_of-changes-in_err-next : goal.shape_of-changes-in_err-next
+shape_of-changes-in_err-next c =
     let g = standing-walked _ _ _ _ _ _ _ _ c.loop-rules.invariant c.swift_codes-t.ensures in
-    standing-back _ _ _ _ _ _ _ _ g c.full_code.new.changes c.full_code.auto.changes
+    standing-back _ _ _ _ _ _ _ _ g c.code_2d.new.changes c.code_2d.auto.changes
 
-pub returns-in-Stop : goal.returns-in-Stop
-returns-in-Stop c =
+pub returns-in_err-next : goal.returns-in_err-next
+returns-in_err-next c =
     let g = standing-walked _ _ _ _ _ _ _ _ c.loop-rules.invariant c.swift_codes-t.ensures in
-    standing-stop _ _ _ _ _ _ _ _ g c.if-t-width.false c.change_or-b1.ensures c.change_or-b2.ensures _ _
-    (rw c.line_at-in-loop-rules.ensures at c.full_code.ensures) c.in-Stop.is
+    rw (passed-up _ _ c.from_residual.ensures.1)
+    (standing-stop _ _ _ _ _ _ _ _ g c.if-t-width.false c.change_or-b1.ensures c.change_or-b2.ensures _ _
+    (rw c.line_at-in-loop-rules.ensures at c.code_2d.ensures) c.in_err-next.was)
 
-pub offset_bounds-changes-first-in-On : goal.offset_bounds-changes-first-in-On
-offset_bounds-changes-first-in-On c =
+pub offset_bounds-changes-first-in-loop-rules-2 : goal.offset_bounds-changes-first-in-loop-rules-2
+offset_bounds-changes-first-in-loop-rules-2 c =
     omega (arith, c.requires.0.placed)
 
 pub slice_bounds-stand_at-count : goal.slice_bounds-stand_at-count
@@ -106,14 +108,14 @@ slice_bounds-stand_at-end c =
     omega (
       arith,
       c.requires.0.placed,
-      standing-back _ _ _ _ _ _ _ _ g c.full_code.new.changes c.full_code.auto.changes,
+      standing-back _ _ _ _ _ _ _ _ g c.code_2d.new.changes c.code_2d.auto.changes,
     )
 
 pub stand_at-s-requires : goal.stand_at-s-requires
 stand_at-s-requires c =
     let g = standing-walked _ _ _ _ _ _ _ _ c.loop-rules.invariant c.swift_codes-t.ensures in
     standing-searches _ _ _ _ _ _ _ _ g c.if-t-width.false c.change_or-b1.ensures c.change_or-b2.ensures _ _
-    (rw c.line_at-in-loop-rules.ensures at c.full_code.ensures) c.in-On.is
+    (rw c.line_at-in-loop-rules.ensures at c.code_2d.ensures) c.in_ok-next.was
 
 pub loop-rules-smaller : goal.loop-rules-smaller
 loop-rules-smaller c =
@@ -121,7 +123,7 @@ loop-rules-smaller c =
     omega (
       arith,
       standing-less _ _ _ _ _ _ _ _ g c.if-t-width.false c.change_or-b1.ensures c.change_or-b2.ensures _ _
-          (rw c.line_at-in-loop-rules.ensures at c.full_code.ensures) c.in-On.is,
+          (rw c.line_at-in-loop-rules.ensures at c.code_2d.ensures) c.in_ok-next.was,
       c.swift_codes-t.ensures.forth,
       c.stand_at-s.ensures.at-is,
     )
@@ -130,4 +132,4 @@ pub loop-rules-preserved : goal.loop-rules-preserved
 loop-rules-preserved c =
     let g = standing-walked _ _ _ _ _ _ _ _ c.loop-rules.invariant c.swift_codes-t.ensures in
     standing_on _ _ _ _ _ _ _ _ g c.if-t-width.false c.change_or-b1.ensures c.change_or-b2.ensures _ _
-    (rw c.line_at-in-loop-rules.ensures at c.full_code.ensures) c.in-On.is _ c.stand_at-s.ensures
+    (rw c.line_at-in-loop-rules.ensures at c.code_2d.ensures) c.in_ok-next.was _ c.stand_at-s.ensures

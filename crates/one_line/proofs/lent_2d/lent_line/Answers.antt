@@ -1,5 +1,6 @@
 -- The invariant is `Standing`, as of a line under the row before it. The measure is what is left of the data.
 use native.Mathlib.Omega.{arith}
+use Rattle.one_line.proofs.LineLoop.{passed-up}
 use Rattle.one_line.proofs.SwiftLine.{walks-part, walked-part, standing-new, standing-length, standing-room, standing-back}
 use Rattle.one_line.proofs.SwiftLine.{standing-place, standing-walks, standing-walked, standing-done, standing-codes}
 use Rattle.one_line.proofs.SwiftLine.{standing-stop, standing-less, standing-searches, standing_on}
@@ -42,42 +43,43 @@ pub offset_bounds-changes-base-in-loop-rules : goal.offset_bounds-changes-base-i
 offset_bounds-changes-base-in-loop-rules c =
     omega (arith, c.requires.placed)
 
-pub slice_bounds-full_code-count : goal.slice_bounds-full_code-count
-slice_bounds-full_code-count c =
+pub slice_bounds-code_2d-count : goal.slice_bounds-code_2d-count
+slice_bounds-code_2d-count c =
     let v = walked-part (standing-room _ _ _ _ _ _ _ _ c.loop-rules.invariant) c.swift_codes-t.ensures in
     standing-room _ _ _ _ _ _ _ _ (standing-walked _ _ _ _ _ _ _ _ c.loop-rules.invariant v)
 
-pub slice_bounds-full_code-start : goal.slice_bounds-full_code-start
-slice_bounds-full_code-start c =
+pub slice_bounds-code_2d-start : goal.slice_bounds-code_2d-start
+slice_bounds-code_2d-start c =
     let v = walked-part (standing-room _ _ _ _ _ _ _ _ c.loop-rules.invariant) c.swift_codes-t.ensures in
     standing-room _ _ _ _ _ _ _ _ (standing-walked _ _ _ _ _ _ _ _ c.loop-rules.invariant v)
 
-pub full_code-requires : goal.full_code-requires
-full_code-requires c =
+pub code_2d-requires : goal.code_2d-requires
+code_2d-requires c =
     let v = walked-part (standing-room _ _ _ _ _ _ _ _ c.loop-rules.invariant) c.swift_codes-t.ensures in
     let g = standing-walked _ _ _ _ _ _ _ _ c.loop-rules.invariant v in
     rw c.line_at-in-loop-rules.ensures
     (standing-codes _ _ _ _ _ _ _ _ g c.if-t-width.false c.change_or-b1.ensures c.change_or-b2.ensures)
 
-pub shape_of-changes-in-Stop : goal.shape_of-changes-in-Stop
-shape_of-changes-in-Stop c =
+pub shape_of-changes-in_err-next : goal.shape_of-changes-in_err-next
+shape_of-changes-in_err-next c =
     let v = walked-part (standing-room _ _ _ _ _ _ _ _ c.loop-rules.invariant) c.swift_codes-t.ensures in
     let g = standing-walked _ _ _ _ _ _ _ _ c.loop-rules.invariant v in
-    standing-back _ _ _ _ _ _ _ _ g c.full_code.new.changes c.full_code.auto.changes
+    standing-back _ _ _ _ _ _ _ _ g c.code_2d.new.changes c.code_2d.auto.changes
 
-pub returns-in-Stop : goal.returns-in-Stop
-returns-in-Stop c =
+pub returns-in_err-next : goal.returns-in_err-next
+returns-in_err-next c =
     let v = walked-part (standing-room _ _ _ _ _ _ _ _ c.loop-rules.invariant) c.swift_codes-t.ensures in
     let g = standing-walked _ _ _ _ _ _ _ _ c.loop-rules.invariant v in
-    standing-stop _ _ _ _ _ _ _ _ g c.if-t-width.false c.change_or-b1.ensures c.change_or-b2.ensures _ _
-    (rw c.line_at-in-loop-rules.ensures at c.full_code.ensures) c.in-Stop.is
+    rw (passed-up _ _ c.from_residual.ensures.1)
+    (standing-stop _ _ _ _ _ _ _ _ g c.if-t-width.false c.change_or-b1.ensures c.change_or-b2.ensures _ _
+    (rw c.line_at-in-loop-rules.ensures at c.code_2d.ensures) c.in_err-next.was)
 
 pub stand_at-s-requires : goal.stand_at-s-requires
 stand_at-s-requires c =
     let v = walked-part (standing-room _ _ _ _ _ _ _ _ c.loop-rules.invariant) c.swift_codes-t.ensures in
     let g = standing-walked _ _ _ _ _ _ _ _ c.loop-rules.invariant v in
     standing-searches _ _ _ _ _ _ _ _ g c.if-t-width.false c.change_or-b1.ensures c.change_or-b2.ensures _ _
-    (rw c.line_at-in-loop-rules.ensures at c.full_code.ensures) c.in-On.is
+    (rw c.line_at-in-loop-rules.ensures at c.code_2d.ensures) c.in_ok-next.was
 
 pub loop-rules-smaller : goal.loop-rules-smaller
 loop-rules-smaller c =
@@ -85,7 +87,7 @@ loop-rules-smaller c =
     let g = standing-walked _ _ _ _ _ _ _ _ c.loop-rules.invariant v in
     let less =
     standing-less _ _ _ _ _ _ _ _ g c.if-t-width.false c.change_or-b1.ensures c.change_or-b2.ensures _ _
-    (rw c.line_at-in-loop-rules.ensures at c.full_code.ensures) c.in-On.is in
+    (rw c.line_at-in-loop-rules.ensures at c.code_2d.ensures) c.in_ok-next.was in
     omega (arith, less, c.swift_codes-t.ensures.forth, c.stand_at-s.ensures.at-is)
 
 pub loop-rules-preserved : goal.loop-rules-preserved
@@ -93,4 +95,4 @@ loop-rules-preserved c =
     let v = walked-part (standing-room _ _ _ _ _ _ _ _ c.loop-rules.invariant) c.swift_codes-t.ensures in
     let g = standing-walked _ _ _ _ _ _ _ _ c.loop-rules.invariant v in
     standing_on _ _ _ _ _ _ _ _ g c.if-t-width.false c.change_or-b1.ensures c.change_or-b2.ensures _ _
-    (rw c.line_at-in-loop-rules.ensures at c.full_code.ensures) c.in-On.is _ c.stand_at-s.ensures
+    (rw c.line_at-in-loop-rules.ensures at c.code_2d.ensures) c.in_ok-next.was _ c.stand_at-s.ensures

@@ -2,8 +2,8 @@
 use Rattle.one_line.proofs.OneLine.{answers-on, answers-stop}
 use Rattle.one_line.proofs.read.answer.Goals as goal
 
-pub returns-in-On : goal.returns-in-On
-returns-in-On c = rw c.in-On.is (answers-on _ _)
+pub returns-in-Ok : goal.returns-in-Ok
+returns-in-Ok c = rw c.in-Ok.is (answers-on _ _)
 
-pub returns-in-Stop : goal.returns-in-Stop
-returns-in-Stop c = rw c.in-Stop.is (answers-stop _ _ _)
+pub returns-in-Err : goal.returns-in-Err
+returns-in-Err c = rw c.in-Err.is (answers-stop _)

@@ -2,13 +2,16 @@
 use mathlib.Core.Path.{sym, ◌∙◌}
 use borrow.Author.Tests.{not-true, not-false}
 use Rattle.one_line.proofs.OneLine.{refused_none, refused-wide, refused-long, refused-reference, past_end, Open, line-asked, line_read}
+use Rattle.one_line.proofs.read.read_line.Goals.{then-columns-eq0-via-then-columns-eq0, then-columns-eq0-via-else-columns-eq0+then-columns-eq-MOST_PIXELS}
 use Rattle.one_line.proofs.read.read_line.Goals as goal
 
 pub returns-then-columns-eq0 : goal.returns-then-columns-eq0
-returns-then-columns-eq0 c = rw c.refusal.ensures (refused_none c.if-columns-eq0.true)
-
-pub returns-then-columns-eq-MOST_PIXELS : goal.returns-then-columns-eq-MOST_PIXELS
-returns-then-columns-eq-MOST_PIXELS c = rw c.refusal-then-columns-eq-MOST_PIXELS.ensures (refused-wide c.if-columns-eq0.false c.if-columns-eq-MOST_PIXELS.true)
+returns-then-columns-eq0 c =
+    rw c.refusal.ensures
+    (elim c.then-columns-eq0.branch [
+      | then-columns-eq0-via-then-columns-eq0 w ↦ refused_none w.if-columns-eq0.true
+      | then-columns-eq0-via-else-columns-eq0+then-columns-eq-MOST_PIXELS w ↦ refused-wide w.if-columns-eq0.false w.if-columns-eq-MOST_PIXELS.true
+    ])
 
 pub returns-then-src-gt-MOST_BYTES : goal.returns-then-src-gt-MOST_BYTES
 returns-then-src-gt-MOST_BYTES c = rw c.refusal-then-src-gt-MOST_BYTES.ensures (refused-long c.if-columns-eq0.false c.if-columns-eq-MOST_PIXELS.false c.if-src-gt-MOST_BYTES.true)
