@@ -6,6 +6,7 @@ use Prim.Native.Nat.{ℕ, ◌-◌, ◌≤◌}
 use native.Mathlib.Omega.{arith}
 use lib.Dec.{eqb, leb}
 use lib.ListN.{length, take, drop, length-drop}
+use Rattle.std.specs.Prelude.{Ok, Err}
 use Rattle.rules.specs.Bits.{bits_of}
 use Rattle.rules.specs.Eols as Eol
 use Rattle.rules.specs.Lines.{Went, went, failed, two, read_line}
@@ -21,17 +22,16 @@ use Rattle.bit_reader.specs.Loaded.{Loading}
 use Rattle.codes.specs.declared.eol.Eols.{Eols}
 use Rattle.codes.specs.Eols.{eols_of}
 use Rattle.context.specs.declared.line.Line.{Line}
-use Rattle.context.specs.declared.step.Step.{Step}
+use Rattle.context.specs.declared.step.Stop.{Stop}
 use Rattle.context.specs.State.{changes_of}
+use Rattle.context.specs.Outcome.{Step}
 use Rattle.context.specs.Coding.{Lines, Lined}
 use Rattle.context.proofs.State.{mark-is}
 use Rattle.context.proofs.Carried.{step-on, step-stop}
 use Rattle.settings.specs.declared.DecodeSettings.{DecodeSettings}
 use Rattle.settings.specs.declared.State.{State}
-use Rattle.settings.specs.declared.Row.{Row}
-use Rattle.settings.specs.declared.Row.TheVariants.{Kept, Stop}
 use Rattle.settings.specs.Settings.{settings_of}
-use Rattle.settings.specs.Between.{state_of, row_for, changes_in, RowFrom, RowGives}
+use Rattle.settings.specs.Between.{state_of, Row, kept_row, page_stop, row_for, changes_in, RowFrom, RowGives}
 use Rattle.settings.proofs.Ended.{gives-stop}
 use Rattle.group4.specs.Lined.{LineFrom, row_at}
 
@@ -85,22 +85,22 @@ module _ {bytes lent xs : List ℕ} {settings : DecodeSettings} {st : State} {st
           store = l.store ∙ ap (λ (o : Went). take st.base xs ++ overlaid (changes_of o) (drop st.base xs)) t ∙ ap (λ (c : List ℕ). take st.base xs ++ overlaid c (drop st.base xs)) (sym c);
         })
 
-    pub line-inside : (m : Line) (at : ℕ) → r ≡ Step.On m at → at ≤ most_bits
+    pub line-inside : (m : Line) (at : ℕ) → r ≡ Ok (m, at) → at ≤ most_bits
     line-inside m at a =
         let (t, o, same, there) = step-on settings.columns (lined (length (drop st.base xs))) m at (sym a ∙ l.answer) in
         let f = read_whole (rules_of S (length (drop st.base xs))) h.row.wide (two (state_of lent xs st).reference) bs start t o in
         omega (arith, there, f.inside, length-bits_of bytes, h.loading.size)
 
-    pub row_kept : (m : Line) (at next : ℕ) → r ≡ Step.On m at → next ≡ aligned_if settings.rows_are_byte_aligned at → RowGives st.base xs (row_at settings bytes lent xs st start) (Kept m.changes m.cut next st.eols) ys
+    pub row_kept : (m : Line) (at next : ℕ) → r ≡ Ok (m, at) → next ≡ aligned_if settings.rows_are_byte_aligned at → RowGives st.base xs (row_at settings bytes lent xs st start) (Ok (kept_row m.changes m.cut next st.eols)) ys
     row_kept m at next a n =
         let (t, o, same, there) = step-on settings.columns (lined (length (drop st.base xs))) m at (sym a ∙ l.answer) in
-        gives (went t) o (Kept m.changes m.cut next st.eols)
-        (λ i. Kept (same i).changes (mark-is settings.columns t m same i) ((n ∙ ap (aligned_if settings.rows_are_byte_aligned) there) i) st.eols) refl
+        gives (went t) o (Ok (kept_row m.changes m.cut next st.eols))
+        (λ i. Ok (kept_row (same i).changes (mark-is settings.columns t m same i) ((n ∙ ap (aligned_if settings.rows_are_byte_aligned) there) i) st.eols)) refl
 
-    pub row-stops : (n place : ℕ) (m : Line) → r ≡ Step.Stop n m place → RowGives st.base xs (row_at settings bytes lent xs st start) (Stop n place 0 m.changes) ys
-    row-stops n place m a =
-        let (t, o, same) = step-stop settings.columns (lined (length (drop st.base xs))) n place m (sym a ∙ l.answer) in
-        gives (failed n place t) o (Stop n place 0 m.changes) (λ i. Stop n place 0 (same i).changes) refl
+    pub row-stops : (f : Stop) → r ≡ Err f → RowGives st.base xs (row_at settings bytes lent xs st start) (Err (page_stop f.number f.place 0 f.line.changes)) ys
+    row-stops f a =
+        let (t, o, same) = step-stop settings.columns (lined (length (drop st.base xs))) f (sym a ∙ l.answer) in
+        gives (failed f.number f.place t) o (Err (page_stop f.number f.place 0 f.line.changes)) (λ i. Err (page_stop f.number f.place 0 (same i).changes)) refl
 
 -- ---- A row, behind the EOLs before it
 

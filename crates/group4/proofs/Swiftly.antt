@@ -7,6 +7,7 @@ use native.Mathlib.Omega.{arith}
 use lib.Dec.{eqb, leb}
 use lib.ListN.{length, drop}
 use borrow.Author.Tests.{not-true, eqb-true, eqb-false, lt-leb}
+use Rattle.std.specs.Prelude.{Ok}
 use Rattle.rules.specs.Bits.{bits_of, peek}
 use Rattle.rules.specs.Codes.{black}
 use Rattle.rules.specs.Lines.{line, went, two, read_line}
@@ -22,10 +23,8 @@ use Rattle.one_line.specs.White.{under_white}
 use Rattle.one_line.proofs.WhiteLine.{white-line, under-white}
 use Rattle.settings.specs.declared.DecodeSettings.{DecodeSettings}
 use Rattle.settings.specs.declared.State.{State}
-use Rattle.settings.specs.declared.Row.{Row}
-use Rattle.settings.specs.declared.Row.TheVariants.{Kept}
 use Rattle.settings.specs.Settings.{settings_of}
-use Rattle.settings.specs.Between.{state_of, RowFrom, RowGives}
+use Rattle.settings.specs.Between.{state_of, Row, kept_row, RowFrom, RowGives}
 use Rattle.settings.proofs.Ended.{unchanged}
 use Rattle.group4.specs.Lined.{LineFrom, row_at, full_at, begun, white_at}
 use Rattle.group4.proofs.Outcomes.{over-data, row-lined}
@@ -81,13 +80,13 @@ module _ {bytes lent xs : List ℕ} {settings : DecodeSettings} {st : State} (h 
   row_seen r ys g = row-lined h here no-eols goes_on r ys g
 
   pub row-white : white_at bytes lent st ≡ true → (next : ℕ) → next ≡ aligned_if settings.rows_are_byte_aligned (st.at + 1)
-      → RowGives st.base xs (row4 S bs (length xs - st.base) (state_of lent xs st)) (Kept 0 0 next st.eols) xs
+      → RowGives st.base xs (row4 S bs (length xs - st.base) (state_of lent xs st)) (Ok (kept_row 0 0 next st.eols)) xs
   row-white e next n =
       let (u, v) = both_true (under_white st.reference st.base lent) (eqb (peek 1 (drop st.at bs)) 1) e in
       let one = eqb-true (peek 1 (drop st.at bs)) 1 v in
       let o = white-line (rules_of S (length xs - st.base)) h.wide (omega (arith, h.narrow)) bs st.at one in
       let k : row_at settings bytes lent xs st st.at ≡ after_line4 S bs (state_of lent xs st) (went (line (st.at + 1) settings.columns black [] false)) =
       ap (after_line4 S bs (state_of lent xs st)) (ap (λ (l : List ℕ). read_line (rules_of S (length xs - st.base)) (two l) bs st.at) (under-white st.reference st.base lent xs u) ∙ o) in
-      row_seen (Kept 0 0 next st.eols) xs
-      (subst (λ (u : RowOut). RowGives st.base xs u (Kept 0 0 next st.eols) xs) (sym k)
-      (record { answer = λ i. Kept 0 0 (n i) st.eols; store = unchanged st.base xs }))
+      row_seen (Ok (kept_row 0 0 next st.eols)) xs
+      (subst (λ (u : RowOut). RowGives st.base xs u (Ok (kept_row 0 0 next st.eols)) xs) (sym k)
+      (record { answer = λ i. Ok (kept_row 0 0 (n i) st.eols); store = unchanged st.base xs }))

@@ -13,9 +13,9 @@ ghost use Rattle.group4.specs.Lined.{LineFrom, row_at, full_at, Begun, white_at}
 
 use codes::eol;
 use codes::eol::Eols;
-use context::step::{Rules, Step};
+use context::step::Rules;
 use one_line::line_2d;
-use settings::{DecodeSettings, Row, State};
+use settings::{DecodeSettings, KeptRow, PageStop, Row, State};
 
 // EOLs are no part of Group 4, but PDF wants them accepted. Data behind an EOFB may begin like an EOL, so no more than its two are read.
 fn eols_before(src: &[u8], settings: DecodeSettings, state: State) -> Eols
@@ -32,33 +32,22 @@ fn eols_before(src: &[u8], settings: DecodeSettings, state: State) -> Eols
 fn is_eofb(settings: DecodeSettings, count: usize) -> bool
     ensures { result ≡ settings.end_of_block && leb 2 count }
 {
-    if settings.end_of_block {
-        return 2 <= count;
-    }
-    false
+    settings.end_of_block && 2 <= count
 }
 
 // 0 rows in the settings stand for any number.
 fn is_full(settings: DecodeSettings, rows: usize) -> bool
     ensures { result ≡ full_at settings rows }
 {
-    if settings.rows == 0 {
-        return false;
-    }
-    rows == settings.rows as usize
+    settings.rows != 0 && rows == settings.rows as usize
 }
 
 // Whether the page ends before the next row: by EOFB, by its number of rows, or with the data.
 pub fn is_over(src: &[u8], settings: DecodeSettings, state: State, eols: Eols) -> bool
     ensures { result ≡ over (settings_of settings) (bits_of src.now) (state_of [] [] state) (eols_of eols) }
 {
-    if is_eofb(settings, eols.count) {
-        return true;
-    }
-    if is_full(settings, state.rows) {
-        return true;
-    }
-    bit_reader::at_end(src.len(), eols.at)
+    is_eofb(settings, eols.count)
+        || (is_full(settings, state.rows) || bit_reader::at_end(src.len(), eols.at))
 }
 
 // A row whose line begins at a bit.
@@ -92,11 +81,18 @@ fn row_at<'a>(
             plain: settings.plain,
         },
     ) {
-        Step::On(line, at) => {
-            let next = settings::align_if(settings.rows_are_byte_aligned, at);
-            Row::Kept(line.changes, line.cut, next, state.eols)
-        }
-        Step::Stop(number, line, place) => Row::Stop(number, place, 0, line.changes),
+        Ok((line, at)) => Ok(KeptRow {
+            changes: line.changes,
+            mark: line.cut,
+            at: settings::align_if(settings.rows_are_byte_aligned, at),
+            eols: state.eols,
+        }),
+        Err(stop) => Err(PageStop {
+            number: stop.number,
+            place: stop.place,
+            bytes: 0,
+            loose: stop.line.changes,
+        }),
     }
 }
 
@@ -125,13 +121,8 @@ fn begins(src: &[u8], settings: DecodeSettings, state: State) -> bool
     requires { Loading src.now state.at }
     ensures { Begun settings src.now state result }
 {
-    if is_full(settings, state.rows) {
-        return false;
-    }
-    if 8 * src.len() < state.at + 64 {
-        return false;
-    }
-    bit_reader::ahead(src, state.at) >> 53 != 0
+    !is_full(settings, state.rows)
+        && (state.at + 64 <= 8 * src.len() && bit_reader::ahead(src, state.at) >> 53 != 0)
 }
 
 // A white row under a white one is the one bit of V(0).
@@ -139,11 +130,8 @@ fn is_white(src: &[u8], lent: &[u32], state: State) -> bool
     requires { state.at + 64 ≤ 8 * length src.now }
     ensures { result ≡ white_at src.now lent.now state }
 {
-    let place = state.reference;
-    if line_2d::is_under_white(place, state.base, lent) {
-        return bit_reader::ahead(src, state.at) >> 63 == 1;
-    }
-    false
+    line_2d::is_under_white(state.reference, state.base, lent)
+        && bit_reader::ahead(src, state.at) >> 63 == 1
 }
 
 // A function of its own, so that the state is put into memory only where a row is not swift.
@@ -162,7 +150,8 @@ fn any_row<'a>(
     row(white, black, src, settings, lent, changes, state)
 }
 
-// The same row, with what is usual first. The page loop alone calls it, so that it is compiled in place there.
+// The same row, with what is usual first. The page loop alone calls it, so that it is compiled in place there. `lone_row` is its twin: one
+// function behind both, even with a const parameter, has the state put into memory at each row, by 30 instructions.
 pub fn swift_row<'a>(
     white: &'a [u16],
     black: &'a [u16],
@@ -179,8 +168,12 @@ pub fn swift_row<'a>(
         return any_row(white, black, src, settings, lent, changes, state);
     }
     if is_white(src, lent, state) {
-        let next = settings::align_if(settings.rows_are_byte_aligned, state.at + 1);
-        return Row::Kept(0, 0, next, state.eols);
+        return Ok(KeptRow {
+            changes: 0,
+            mark: 0,
+            at: settings::align_if(settings.rows_are_byte_aligned, state.at + 1),
+            eols: state.eols,
+        });
     }
     row_at(white, black, src, settings, lent, changes, state, state.at)
 }
@@ -202,8 +195,12 @@ pub fn lone_row<'a>(
         return row(white, black, src, settings, lent, changes, state);
     }
     if is_white(src, lent, state) {
-        let next = settings::align_if(settings.rows_are_byte_aligned, state.at + 1);
-        return Row::Kept(0, 0, next, state.eols);
+        return Ok(KeptRow {
+            changes: 0,
+            mark: 0,
+            at: settings::align_if(settings.rows_are_byte_aligned, state.at + 1),
+            eols: state.eols,
+        });
     }
     row_at(white, black, src, settings, lent, changes, state, state.at)
 }

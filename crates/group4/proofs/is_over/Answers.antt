@@ -14,15 +14,15 @@ use Rattle.group4.proofs.is_over.Goals as goal
 pub returns-then-is_eofb : goal.returns-then-is_eofb
 returns-then-is_eofb c =
     let a = c.args in
-    over-eofb (settings_of a.settings) (bits_of a.src.now) (state_of [] [] a.state) (eols_of a.eols) (sym c.is_eofb.ensures ∙ c.if-is_eofb.true)
+    c.if-is_eofb.true ∙ over-eofb (settings_of a.settings) (bits_of a.src.now) (state_of [] [] a.state) (eols_of a.eols) (sym c.is_eofb.ensures ∙ c.if-is_eofb.true)
 
 pub returns-then-is_full : goal.returns-then-is_full
 returns-then-is_full c =
     let a = c.args in
-    over-full (settings_of a.settings) (bits_of a.src.now) (state_of [] [] a.state) (eols_of a.eols) (sym c.is_full.ensures ∙ c.if-is_full.true)
+    c.if-is_full.true ∙ over-full (settings_of a.settings) (bits_of a.src.now) (state_of [] [] a.state) (eols_of a.eols) (sym c.is_full.ensures ∙ c.if-is_full.true)
 
-pub returns : goal.returns
-returns c =
+pub returns-else-is_full : goal.returns-else-is_full
+returns-else-is_full c =
     let a = c.args in
     c.at_end.ensures
     ∙ ap (λ (n : ℕ). leb n a.eols.at) (sym (length-bits_of a.src.now))

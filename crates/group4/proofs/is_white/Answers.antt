@@ -10,6 +10,3 @@ pub returns-then-is_under_white : goal.returns-then-is_under_white
 returns-then-is_under_white c =
     rw (sym c.is_under_white.ensures ∙ c.if-is_under_white.true)
     (ap (λ (n : ℕ). eqb n 1) (ahead-first c.ahead.ensures 1 (omega arith)))
-
-pub returns : goal.returns
-returns c = rw (sym c.is_under_white.ensures ∙ c.if-is_under_white.false)

@@ -8,11 +8,11 @@ use Rattle.group4.proofs.swift_row.Goals as goal
 pub is_white-requires : goal.is_white-requires
 is_white-requires c = (c.begins.ensures (not-false _ c.if-not-begins.false-raw)).1
 
-pub align_if-next-requires : goal.align_if-next-requires
-align_if-next-requires c = omega (arith, bit-inside c.requires.0 (c.begins.ensures (not-false _ c.if-not-begins.false-raw)).0, c.requires.0.loading.size)
+pub align_if-requires : goal.align_if-requires
+align_if-requires c = omega (arith, bit-inside c.requires.0 (c.begins.ensures (not-false _ c.if-not-begins.false-raw)).0, c.requires.0.loading.size)
 
 pub returns-then-is_white : goal.returns-then-is_white
-returns-then-is_white c = row-white c.requires.0 (c.begins.ensures (not-false _ c.if-not-begins.false-raw)).0 (sym c.is_white.ensures ∙ c.if-is_white.true) _ c.align_if-next.ensures
+returns-then-is_white c = row-white c.requires.0 (c.begins.ensures (not-false _ c.if-not-begins.false-raw)).0 (sym c.is_white.ensures ∙ c.if-is_white.true) _ c.align_if.ensures
 
 pub row_at-requires : goal.row_at-requires
 row_at-requires c = (line-seen c.requires.0 (c.begins.ensures (not-false _ c.if-not-begins.false-raw)).0, c.requires.1)
