@@ -7,6 +7,7 @@ use native.Mathlib.Omega.{arith}
 use lib.Dec.{eqb, leb}
 use lib.ListN.{length, take, drop, length-drop}
 use borrow.Rule.Slice.PartMut.{mid_of, put_mid}
+use Rattle.std.specs.Prelude.{Ok, Err}
 use Rattle.rules.specs.Bits.{bits_of}
 use Rattle.rules.specs.Lines as Rule
 use Rattle.rules.specs.Lines.{Rules, Went, went, failed, push}
@@ -14,16 +15,14 @@ use Rattle.rules.specs.Rows.{Settings, RowOut, recovered_mark, rules_of}
 use Rattle.rules.specs.Group3.{kept, whitened, recovered}
 use Rattle.rules.specs.Pages.{overlaid}
 use Rattle.context.specs.declared.line.Line.{Line}
-use Rattle.context.specs.declared.line.Push.{Push}
-use Rattle.context.specs.State.{rules_for, changes_of, Holds, Comes, Pushes}
+use Rattle.context.specs.declared.line.PushFault.{PushFault}
+use Rattle.context.specs.State.{rules_for, changes_of, Holds, Push, Comes, Pushes}
 use Rattle.context.proofs.Carried.{Carries, carries-push, push-place, push-on, push-stop}
 use Rattle.context.proofs.RowPart.{row-lent, row_back, back-front, back-row}
 use Rattle.settings.specs.declared.DecodeSettings.{DecodeSettings}
 use Rattle.settings.specs.declared.State.{State}
-use Rattle.settings.specs.declared.Row.{Row}
-use Rattle.settings.specs.declared.Row.TheVariants.{Kept, Stop}
 use Rattle.settings.specs.Settings.{settings_of, tagging_of}
-use Rattle.settings.specs.Between.{state_of, row_for, changes_in, RowGives}
+use Rattle.settings.specs.Between.{state_of, Row, kept_row, page_stop, row_for, changes_in, RowGives}
 use Rattle.group3.specs.Lined.{lines_by}
 use Rattle.group3.specs.Recovery.{white_for, after_line_in, Damages, Lies, Recovers}
 
@@ -61,8 +60,8 @@ module _ (settings : DecodeSettings) (st : State) (at : ℕ) (expected : Bool) (
     abbrev white : Rule.Line
     white = whitened S (tagging_of settings.encoding) (bits_of bytes) u
 
-    left : ((expected && not settings.strict) && leb number 3) ≡ false → RowGives base xs (after_line_in settings bytes lent xs st at expected (failed number place u)) (Stop number place 0 l.changes) zs
-    left q = subst (λ (b : Bool). RowGives base xs (outcome b) (Stop number place 0 l.changes) zs) (sym q) (record { answer = ap (λ (m : Line). Stop number place 0 m.changes) v.line-is; store = v.store })
+    left : ((expected && not settings.strict) && leb number 3) ≡ false → RowGives base xs (after_line_in settings bytes lent xs st at expected (failed number place u)) (Err (page_stop number place 0 l.changes)) zs
+    left q = subst (λ (b : Bool). RowGives base xs (outcome b) (Err (page_stop number place 0 l.changes)) zs) (sym q) (record { answer = ap (λ (m : Line). Err (page_stop number place 0 m.changes)) v.line-is; store = v.store })
 
     row_is : drop base zs ≡ overlaid u.changes (drop base xs)
     row_is = ap (drop base) v.store ∙ back-row xs base v.inside (overlaid u.changes (drop base xs))
@@ -110,17 +109,17 @@ module _ (settings : DecodeSettings) (st : State) (at : ℕ) (expected : Bool) (
                 ∙ (λ i. front-is i ++ (comes.store ∙ ap (λ (o : Went). overlaid (changes_of o) (drop base xs)) e ∙ ap (λ (x : List ℕ). overlaid x (drop base xs)) (sym c)) i);
           }))
 
-      mended-on : (m : Line) → r ≡ Push.On m → RowGives base xs (after_line_in settings bytes lent xs st at expected (failed number place u)) (Kept m.changes recovered_mark at expected) (put_mid base (length zs - base) zs ys)
+      mended-on : (m : Line) → r ≡ Ok m → RowGives base xs (after_line_in settings bytes lent xs st at expected (failed number place u)) (Ok (kept_row m.changes recovered_mark at expected)) (put_mid base (length zs - base) zs ys)
       mended-on m e =
           let (t, o, same) = push-on settings.columns pushed m (sym e ∙ comes.answer) in
-          ended (went t) o (Kept m.changes recovered_mark at expected) (ap (λ (m : Line). Kept m.changes recovered_mark at expected) same) refl
+          ended (went t) o (Ok (kept_row m.changes recovered_mark at expected)) (ap (λ (m : Line). Ok (kept_row m.changes recovered_mark at expected)) same) refl
 
-      mended-stop : (n : ℕ) (m : Line) → r ≡ Push.Stop n m → RowGives base xs (after_line_in settings bytes lent xs st at expected (failed number place u)) (Stop n 0 0 m.changes) (put_mid base (length zs - base) zs ys)
+      mended-stop : (f : PushFault) → r ≡ Err f → RowGives base xs (after_line_in settings bytes lent xs st at expected (failed number place u)) (Err (page_stop f.number 0 0 f.line.changes)) (put_mid base (length zs - base) zs ys)
       unfolding pushed
-      mended-stop n m e =
-          let (p, t, o, same) = push-stop settings.columns pushed n m (sym e ∙ comes.answer) in
-          let z : p ≡ 0 = push-place R 0 (settings.columns - u.position) white t n p o ∙ nowhere (eqb n 4) in
-          ended (failed n p t) o (Stop n 0 0 m.changes) (λ i. Stop n (sym z i) 0 (same i).changes) refl
+      mended-stop f e =
+          let (p, t, o, same) = push-stop settings.columns pushed f (sym e ∙ comes.answer) in
+          let z : p ≡ 0 = push-place R 0 (settings.columns - u.position) white t f.number p o ∙ nowhere (eqb f.number 4) in
+          ended (failed f.number p t) o (Err (page_stop f.number 0 0 f.line.changes)) (λ i. Err (page_stop f.number (sym z i) 0 (same i).changes)) refl
         where
           nowhere : (b : Bool) → ◌≡◌ {A = ℕ} (cond b 0 0) 0
           nowhere true = refl
@@ -128,13 +127,13 @@ module _ (settings : DecodeSettings) (st : State) (at : ℕ) (expected : Bool) (
 
   -- ---- Each way out
 
-  pub recovers-left : false ≡ ((expected && not settings.strict) && leb number 3) → Recovers settings st at expected number place l zs (Stop number place 0 l.changes) zs
+  pub recovers-left : false ≡ ((expected && not settings.strict) && leb number 3) → Recovers settings st at expected number place l zs (Err (page_stop number place 0 l.changes)) zs
   recovers-left q bytes lent xs u v = left bytes lent xs u v (sym q)
 
   module _ (q : true ≡ ((expected && not settings.strict) && leb number 3)) (r : Push) (ys : List ℕ)
       (p : Pushes (mid_of st.base (length zs - st.base) zs) (white_for l) (l.width - l.position) settings.strict r ys) where
-    pub recovers-on : (m : Line) → r ≡ Push.On m → Recovers settings st at expected number place l zs (Kept m.changes recovered_mark at expected) (put_mid st.base (length zs - st.base) zs ys)
+    pub recovers-on : (m : Line) → r ≡ Ok m → Recovers settings st at expected number place l zs (Ok (kept_row m.changes recovered_mark at expected)) (put_mid st.base (length zs - st.base) zs ys)
     recovers-on m e bytes lent xs u v = mended-on bytes lent xs u v (sym q) r ys p m e
 
-    pub recovers-stop : (n : ℕ) (m : Line) → r ≡ Push.Stop n m → Recovers settings st at expected number place l zs (Stop n 0 0 m.changes) (put_mid st.base (length zs - st.base) zs ys)
-    recovers-stop n m e bytes lent xs u v = mended-stop bytes lent xs u v (sym q) r ys p n m e
+    pub recovers-stop : (f : PushFault) → r ≡ Err f → Recovers settings st at expected number place l zs (Err (page_stop f.number 0 0 f.line.changes)) (put_mid st.base (length zs - st.base) zs ys)
+    recovers-stop f e bytes lent xs u v = mended-stop bytes lent xs u v (sym q) r ys p f e

@@ -7,6 +7,7 @@ use native.Mathlib.Omega.{arith}
 use lib.Dec.{eqb}
 use lib.ListN.{length, take, drop, length-drop, length-append}
 use lib.Seq.{length-take-le}
+use Rattle.std.specs.Prelude.{Ok, Err}
 use Rattle.rules.specs.Bits.{bits_of}
 use Rattle.rules.specs.Lines as Rule
 use Rattle.rules.specs.Lines.{Rules, Went, failed}
@@ -20,18 +21,17 @@ use Rattle.rules.proofs.Budget.{Sets, before-sets}
 use Rattle.rules.proofs.Rows.{line3-damaged}
 use Rattle.bit_reader.specs.Cursor.{most_bits}
 use Rattle.context.specs.declared.line.Line.{Line}
-use Rattle.context.specs.declared.step.Step.{Step}
+use Rattle.context.specs.declared.step.Stop.{Stop}
 use Rattle.context.specs.State.{line_for, changes_of}
 use Rattle.context.specs.Coding.{StepsAt}
 use Rattle.context.proofs.State.{mark-is}
 use Rattle.context.proofs.Carried.{Carries, carries-holds, step-on, step-stop}
 use Rattle.context.proofs.RowPart.{back-row}
+use Rattle.context.specs.Outcome.{Step}
 use Rattle.settings.specs.declared.DecodeSettings.{DecodeSettings}
 use Rattle.settings.specs.declared.State.{State}
-use Rattle.settings.specs.declared.Row.{Row}
-use Rattle.settings.specs.declared.Row.TheVariants.{Kept, Stop}
 use Rattle.settings.specs.Settings.{settings_of, tagging_of}
-use Rattle.settings.specs.Between.{state_of, row_for, RowFrom, RowGives}
+use Rattle.settings.specs.Between.{state_of, Row, kept_row, page_stop, row_for, RowFrom, RowGives}
 use Rattle.settings.proofs.Ended.{gives-stop}
 use Rattle.group3.specs.declared.eob.Before.{Before}
 use Rattle.group3.specs.declared.eob.Before.TheVariants.{Line as LineAt, End, NoEol}
@@ -50,25 +50,25 @@ module _ {bytes lent xs : List ℕ} {settings : DecodeSettings} {st : State} {at
   abbrev outcome : Went → RowOut
   outcome = after_line_in settings bytes lent xs st at expected
 
-  pub line_read : (m : Line) (next : ℕ) → r ≡ Step.On m next → RowGives base xs (outcome (line_in settings bytes lent xs st at)) (Kept m.changes m.cut next expected) zs
+  pub line_read : (m : Line) (next : ℕ) → r ≡ Ok (m, next) → RowGives base xs (outcome (line_in settings bytes lent xs st at)) (Ok (kept_row m.changes m.cut next expected)) zs
   line_read m next e =
       let (t, o, same, there) = step-on settings.columns (line_in settings bytes lent xs st at) m next (sym e ∙ s.answer) in
-      subst (λ (w : Went). RowGives base xs (outcome w) (Kept m.changes m.cut next expected) zs) (sym o)
+      subst (λ (w : Went). RowGives base xs (outcome w) (Ok (kept_row m.changes m.cut next expected)) zs) (sym o)
       (record {
-        answer = λ i. Kept (same i).changes (mark-is settings.columns t m same i) (there i) expected;
+        answer = λ i. Ok (kept_row (same i).changes (mark-is settings.columns t m same i) (there i) expected);
         store = s.store ∙ ap (λ (w : Went). take base xs ++ overlaid (changes_of w) (drop base xs)) o;
       })
 
-  module _ (n place : ℕ) (m : Line) (e : r ≡ Step.Stop n m place) where
+  module _ (f : Stop) (e : r ≡ Err f) where
     abbrev R : Rules
     R = rules_of (settings_of settings) (length xs - base)
 
     -- the line of the rules that failed, and where it lies
-    lies : (u : Rule.Line) → line_in settings bytes lent xs st at ≡ failed n place u → m ≡ line_for settings.columns u → Lies base settings.columns xs u m zs × Damages base zs m
+    lies : (u : Rule.Line) → line_in settings bytes lent xs st at ≡ failed f.number f.place u → f.line ≡ line_for settings.columns u → Lies base settings.columns xs u f.line zs × Damages base zs f.line
     lies u o same =
-        let d = line3-damaged (settings_of settings) (tagging_of settings.encoding) (bits_of bytes) R h.row.wide (state_of lent xs st).reference at (omega (arith, h.loading.inside, length-bits_of bytes)) n place u o in
+        let d = line3-damaged (settings_of settings) (tagging_of settings.encoding) (bits_of bytes) R h.row.wide (state_of lent xs st).reference at (omega (arith, h.loading.inside, length-bits_of bytes)) f.number f.place u o in
         let q : zs ≡ take base xs ++ overlaid u.changes (drop base xs) = s.store ∙ ap (λ (w : Went). take base xs ++ overlaid (changes_of w) (drop base xs)) o in
-        let k : Carries settings.columns (drop base xs) u m (drop base zs) = record {
+        let k : Carries settings.columns (drop base xs) u f.line (drop base zs) = record {
           line-is = same;
           store = ap (drop base) q ∙ back-row xs base h.row.held (overlaid u.changes (drop base xs));
           fits = d.line.fits;
@@ -79,13 +79,13 @@ module _ {bytes lent xs : List ℕ} {settings : DecodeSettings} {st : State} {at
           record { inside = omega (arith, ap length q, length-append (take base xs) (overlaid u.changes (drop base xs)), length-take-le base xs h.row.held); holds = carries-holds k },
         )
 
-    pub line-damages : Damages base zs m
-    line-damages = let (t, o, same) = step-stop settings.columns (line_in settings bytes lent xs st at) n place m (sym e ∙ s.answer) in (lies t o same).1
+    pub line-damages : Damages base zs f.line
+    line-damages = let (t, o, same) = step-stop settings.columns (line_in settings bytes lent xs st at) f (sym e ∙ s.answer) in (lies t o same).1
 
-    pub line-recovers : (a : Row) (ys : List ℕ) → Recovers settings st at expected n place m zs a ys → RowGives base xs (outcome (line_in settings bytes lent xs st at)) a ys
-    line-recovers a ys f =
-        let (t, o, same) = step-stop settings.columns (line_in settings bytes lent xs st at) n place m (sym e ∙ s.answer) in
-        subst (λ (w : Went). RowGives base xs (outcome w) a ys) (sym o) (f bytes lent xs t (lies t o same).0)
+    pub line-recovers : (a : Row) (ys : List ℕ) → Recovers settings st at expected f.number f.place f.line zs a ys → RowGives base xs (outcome (line_in settings bytes lent xs st at)) a ys
+    line-recovers a ys v =
+        let (t, o, same) = step-stop settings.columns (line_in settings bytes lent xs st at) f (sym e ∙ s.answer) in
+        subst (λ (w : Went). RowGives base xs (outcome w) a ys) (sym o) (v bytes lent xs t (lies t o same).0)
 
 -- ---- A row, by what comes before it
 
@@ -140,8 +140,8 @@ module _ {bytes lent xs : List ℕ} {settings : DecodeSettings} {st : State} (h 
     pub row_ends : a ≡ End at → (r : Row) → r ≡ row_for (finished at) → RowGives st.base xs (row3 S t bs room (state_of lent xs st)) r xs
     row_ends e r p = gives (End at) e r xs (gives-stop st.base xs 0 0 _ r p)
 
-    pub row-lacks : a ≡ NoEol at → RowGives st.base xs (row3 S t bs room (state_of lent xs st)) (Stop 1 at 0 0) xs
-    row-lacks e = gives (NoEol at) e (Stop 1 at 0 0) xs (gives-stop st.base xs 1 at 0 (Stop 1 at 0 0) refl)
+    pub row-lacks : a ≡ NoEol at → RowGives st.base xs (row3 S t bs room (state_of lent xs st)) (Err (page_stop 1 at 0 0)) xs
+    row-lacks e = gives (NoEol at) e (Err (page_stop 1 at 0 0)) xs (gives-stop st.base xs 1 at 0 (Err (page_stop 1 at 0 0)) refl)
 
     module _ (expected : Bool) (e : a ≡ LineAt at expected) where
       pub row_line : LineFrom bytes lent xs settings st at

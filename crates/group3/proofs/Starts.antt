@@ -9,17 +9,16 @@ use lib.Dec.{leb, ltb}
 use lib.ListN.{length, take, drop, length-drop}
 use borrow.Author.Tests.{lt-ltb, le-ltb, leb-true, leb-false}
 use borrow.Rule.Slice.PartMut.{mid_of, put_mid}
+use Rattle.std.specs.Prelude.{Err}
 use Rattle.rules.specs.Bits.{bits_of, front_bit}
 use Rattle.rules.specs.Lines.{Rules, Went, one, two, read_line}
 use Rattle.rules.specs.Rows.{Settings, rules_of}
 use Rattle.rules.specs.Group3.{Tagging, untagged, tagged, tagged_line, line_of_tag, line3}
 use Rattle.rules.proofs.Bits.{length-bits_of}
 use Rattle.bit_reader.specs.Loaded.{Loading}
-use Rattle.context.specs.declared.step.Step.{Step}
-use Rattle.context.specs.declared.step.Step.TheVariants.{Stop}
 use Rattle.context.specs.State.{new_for, rules_for}
 use Rattle.context.specs.Outcome as Line
-use Rattle.context.specs.Outcome.{Steps}
+use Rattle.context.specs.Outcome.{Step, stop_at, Steps}
 use Rattle.context.specs.declared.reference.Reference.{Reference}
 use Rattle.context.specs.declared.reference.Reference.TheVariants.{Lent, Kept}
 use Rattle.context.specs.Coding.{Lines, is_kept, TabledFor, PairedFor, StepsAt, Lined}
@@ -99,10 +98,10 @@ module _ {bytes lent xs : List ℕ} {settings : DecodeSettings} {st : State} {at
   starts : (start : ℕ) → Loading bytes start → Line.Starts bytes settings.columns start
   starts start l = record { loading = l; narrow = h.row.narrow }
 
-  pub line-missing : k ≡ NoTag → StepsAt base settings.columns xs (line_in settings bytes lent xs st at) (Stop 2 (new_for settings.columns) (8 * length bytes)) xs
+  pub line-missing : k ≡ NoTag → StepsAt base settings.columns xs (line_in settings bytes lent xs st at) (Err (stop_at 2 (new_for settings.columns) (8 * length bytes))) xs
   line-missing e =
       gives _ xs
-      (rw e (record { answer = ap (λ (n : ℕ). Stop 2 (new_for settings.columns) n) (sym (length-bits_of bytes)); store = unchanged base xs }))
+      (rw e (record { answer = ap (λ (n : ℕ). Err (stop_at 2 (new_for settings.columns) n)) (sym (length-bits_of bytes)); store = unchanged base xs }))
 
   module _ (start : ℕ) where
     pub one-starts : k ≡ One start → Line.Starts bytes settings.columns start

@@ -9,6 +9,7 @@ use lib.ListN.{length, take, drop, length-drop, take-append-drop}
 use lib.Seq.{drop-drop}
 use borrow.Rule.Slice.PartMut.{mid_of, put_mid}
 use borrow.Author.Tests.{not-true, ne_eqb, eqb-true, eqb-false, lt-leb}
+use Rattle.std.specs.Prelude.{Option, Some, None, Ok}
 use Rattle.rules.specs.Bits.{bits_of, front_bit, peek}
 use Rattle.rules.specs.Eols.{eols_to, all_eols}
 use Rattle.rules.specs.Codes.{black}
@@ -25,9 +26,8 @@ use Rattle.codes.specs.Eols.{eols_of}
 use Rattle.codes.proofs.Eols.{Closed, closing, plain-eol, none_yet, eol, without_eol}
 use Rattle.settings.specs.declared.DecodeSettings.{DecodeSettings}
 use Rattle.settings.specs.declared.State.{State}
-use Rattle.settings.specs.declared.Row.{Row}
 use Rattle.settings.specs.Settings.{settings_of, tagging_of}
-use Rattle.settings.specs.Between.{state_of, RowFrom, RowGives}
+use Rattle.settings.specs.Between.{state_of, Row, kept_row, RowFrom, RowGives}
 use Rattle.settings.proofs.Ended.{unchanged}
 use Rattle.one_line.specs.White.{under_white}
 use Rattle.one_line.proofs.WhiteLine.{white-line, under-white}
@@ -36,11 +36,8 @@ use Rattle.group3.specs.Tags.{is_tagged}
 use Rattle.group3.specs.Ahead.{single_at, usual, before_of, before_in}
 use Rattle.context.proofs.RowPart.{row-lent, row_back}
 use Rattle.swift_loops.specs.declared.fast_1d.BeforePair.{BeforePair}
-use Rattle.swift_loops.specs.declared.fast_1d.AfterPair.{AfterPair}
-use Rattle.swift_loops.specs.declared.fast_1d.AfterPair.TheVariants.{On, Other}
 use Rattle.swift_loops.specs.Pairs.{halt_line, pace_of, Filled}
 use Rattle.swift_loops.proofs.Running.{ran-done}
-use Rattle.settings.specs.declared.Row.TheVariants.{Kept}
 use Rattle.group3.specs.declared.line.LineKind.TheVariants.{One}
 use Rattle.group3.specs.Lined.{lines_by, LineFrom, line_in, WhiteAt, white_2d}
 use Rattle.group3.specs.Recovery.{after_line_in}
@@ -127,9 +124,9 @@ module _ {bytes : List ℕ} {at : ℕ} (h : Loading bytes at) (single : single_a
 -- ---- A white line
 
 pub white-seen : (bytes : List ℕ) (settings : DecodeSettings) (room at : ℕ) → is_tagged (tagging_of settings.encoding) ≡ false
-    → (r : AfterPair) → Filled bytes room settings.columns at r → WhiteAt bytes settings room at r
-white-seen bytes settings room at q (On v) f = (q, f)
-white-seen bytes settings room at q Other f = tt
+    → (r : Option BeforePair) → Filled bytes room settings.columns at r → WhiteAt bytes settings room at r
+white-seen bytes settings room at q (Some v) f = (q, f)
+white-seen bytes settings room at q None f = tt
 
 -- ---- A white 2D line
 
@@ -190,8 +187,8 @@ module _ {bytes lent xs : List ℕ} {settings : DecodeSettings} {st : State} (h 
   row_seen r ys g = row_gives h (Line (st.at + 12) st.eols) before-is (st.at + 12) st.eols refl r ys g
 
   -- a white line, which its first run fills; the store stays
-  pub row-white : (v : BeforePair) → is_tagged t ≡ false → Filled bytes (length xs - st.base) settings.columns (st.at + 12) (On v)
-      → RowGives st.base xs (row3 S t (bits_of bytes) (length xs - st.base) (state_of lent xs st)) (Kept v.count 0 v.at st.eols) xs
+  pub row-white : (v : BeforePair) → is_tagged t ≡ false → Filled bytes (length xs - st.base) settings.columns (st.at + 12) (Some v)
+      → RowGives st.base xs (row3 S t (bits_of bytes) (length xs - st.base) (state_of lent xs st)) (Ok (kept_row v.count 0 v.at st.eols)) xs
   row-white v q f =
       let part = mid_of st.base (length xs - st.base) xs in
       let long : length part ≡ length xs - st.base = ap length (row-lent xs st.base) ∙ length-drop st.base xs in
@@ -201,12 +198,12 @@ module _ {bytes lent xs : List ℕ} {settings : DecodeSettings} {st : State} (h 
       let back : put_mid st.base (length xs - st.base) xs part ≡ xs =
       row_back xs st.base h.held part ∙ ap (λ (l : List ℕ). take st.base xs ++ l) (row-lent xs st.base) ∙ take-append-drop st.base xs in
       let lined = line-one line-seen (One (st.at + 12)) kind (st.at + 12) refl _ part step in
-      row_seen _ xs (subst (λ (ys : List ℕ). RowGives st.base xs (after_line_in settings bytes lent xs st (st.at + 12) st.eols (line_in settings bytes lent xs st (st.at + 12))) (Kept v.count 0 v.at st.eols) ys) back
+      row_seen _ xs (subst (λ (ys : List ℕ). RowGives st.base xs (after_line_in settings bytes lent xs st (st.at + 12) st.eols (line_in settings bytes lent xs st (st.at + 12))) (Ok (kept_row v.count 0 v.at st.eols)) ys) back
       (line_read line-seen st.eols _ _ lined (halt_line settings.columns (pace_of v)) v.at refl))
 
   -- a white 2D line under a white row; the store stays
   pub row-white-2d : white_2d settings bytes lent st (st.at + 12) ≡ true
-      → RowGives st.base xs (row3 S t (bits_of bytes) (length xs - st.base) (state_of lent xs st)) (Kept 0 0 (st.at + 12 + 2) st.eols) xs
+      → RowGives st.base xs (row3 S t (bits_of bytes) (length xs - st.base) (state_of lent xs st)) (Ok (kept_row 0 0 (st.at + 12 + 2) st.eols)) xs
   row-white-2d e =
       let at = st.at + 12 in
       let R = rules_of S (length xs - st.base) in
@@ -221,6 +218,6 @@ module _ {bytes lent xs : List ℕ} {settings : DecodeSettings} {st : State} (h 
       ∙ ap (λ (l : List ℕ). read_line R (two l) (bits_of bytes) (at + 1)) (under-white st.reference st.base lent xs u)
       ∙ o in
       let n : at + 2 ≡ at + 1 + 1 = omega arith in
-      row_seen (Kept 0 0 (at + 2) st.eols) xs
-      (subst (λ (w : Went). RowGives st.base xs (after_line_in settings bytes lent xs st at st.eols w) (Kept 0 0 (at + 2) st.eols) xs) (sym k)
-      (record { answer = λ i. Kept 0 0 (n i) st.eols; store = unchanged st.base xs }))
+      row_seen (Ok (kept_row 0 0 (at + 2) st.eols)) xs
+      (subst (λ (w : Went). RowGives st.base xs (after_line_in settings bytes lent xs st at st.eols w) (Ok (kept_row 0 0 (at + 2) st.eols)) xs) (sym k)
+      (record { answer = λ i. Ok (kept_row 0 0 (n i) st.eols); store = unchanged st.base xs }))

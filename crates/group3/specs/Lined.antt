@@ -1,13 +1,12 @@
 -- The line of a row: where it begins, and what reading it asks and gives.
-use Rattle.std.specs.Prelude.{◌≡◌, Bool, false, ◌&&◌, List, ℕ, ◌-◌, eqb, length, drop}
+use Rattle.std.specs.Prelude.{◌≡◌, Bool, false, ◌&&◌, List, ℕ, ◌-◌, eqb, length, drop, Option, Some, None}
 use Rattle.rules.specs.Bits.{bits_of, peek}
 use Rattle.rules.specs.Lines.{Rules, new_line, Went, failed, one, two, read_line}
 use Rattle.rules.specs.Rows.{Settings, rules_of}
 use Rattle.rules.specs.Group3.{Tagging, line3}
 use Rattle.bit_reader.specs.Loaded.{Loading}
 use Rattle.context.specs.declared.step.Rules as Line
-use Rattle.swift_loops.specs.declared.fast_1d.AfterPair.{AfterPair}
-use Rattle.swift_loops.specs.declared.fast_1d.AfterPair.TheVariants.{On, Other}
+use Rattle.swift_loops.specs.declared.fast_1d.BeforePair.{BeforePair}
 use Rattle.swift_loops.specs.Pairs.{Filled}
 use Rattle.one_line.specs.White.{under_white}
 use Rattle.settings.specs.declared.DecodeSettings.{DecodeSettings}
@@ -49,9 +48,9 @@ line_in s bytes lent xs st at =
     line3 (settings_of s) (tagging_of s.encoding) (bits_of bytes) (rules_of (settings_of s) (length xs - st.base)) (state_of lent xs st).reference at (tagging_of s.encoding)
 
 -- a line without a tag bit that its first run fills, so that its row is white
-abbrev pub WhiteAt : List ℕ → DecodeSettings → ℕ → ℕ → AfterPair → Type 0
-WhiteAt bytes s room at (On t) = (is_tagged (tagging_of s.encoding) ≡ false) × Filled bytes room s.columns at (On t)
-WhiteAt bytes s room at Other = Unit {0}
+abbrev pub WhiteAt : List ℕ → DecodeSettings → ℕ → ℕ → Option BeforePair → Type 0
+WhiteAt bytes s room at (Some t) = (is_tagged (tagging_of s.encoding) ≡ false) × Filled bytes room s.columns at (Some t)
+WhiteAt bytes s room at None = Unit {0}
 
 -- a 2D line under a white row, whose tag bit a one follows: the code V(0), so that its row is white
 abbrev pub white_2d : DecodeSettings → List ℕ → List ℕ → State → ℕ → Bool

@@ -9,7 +9,7 @@ ghost use Rattle.group3.specs.Ahead.{aligned_from, NoEolAt, Lacks, Usual, before
 
 use crate::eols;
 use codes::eol;
-use codes::eol::{Eols, Skip};
+use codes::eol::Eols;
 use settings::{DecodeSettings, State};
 
 // A line at a bit, with EOLs expected or not; the page's end, at a bit; or an EOL that is missing, at a bit.
@@ -35,10 +35,7 @@ fn align(settings: DecodeSettings, state: State) -> usize
 fn is_rtc(settings: DecodeSettings, count: usize) -> bool
     ensures { result ≡ settings.end_of_block && leb 6 count }
 {
-    if settings.end_of_block {
-        return 6 <= count;
-    }
-    false
+    settings.end_of_block && 6 <= count
 }
 
 fn judge(
@@ -65,12 +62,12 @@ fn judge(
 
 // The next EOL from a bit at which none begins. Where eleven zeros stand there all the same, no one is left to close them, and they
 // need not be counted once more.
-fn next_eol(src: &[u8], at: usize) -> Skip
+fn next_eol(src: &[u8], at: usize) -> Option<usize>
     requires { NoEolAt src.now at }
     ensures { skip_of result ≡ skip_to_eol (bits_of src.now) at }
 {
     if bit_reader::peek(src, at) >> 21 == 0 {
-        return Skip::Nowhere;
+        return None;
     }
     eol::skip_to_eol(src, at)
 }
@@ -84,11 +81,11 @@ fn skip_rest(src: &[u8], settings: DecodeSettings, at: usize) -> Before
         return Before::NoEol(at);
     }
     match next_eol(src, at) {
-        Skip::To(next) => {
+        Some(next) => {
             let eols = eols::read_eols(src, settings, next);
             judge(src, settings, false, true, eols)
         }
-        Skip::Nowhere => judge(src, settings, false, false, Eols { count: 0, at }),
+        None => judge(src, settings, false, false, Eols { count: 0, at }),
     }
 }
 

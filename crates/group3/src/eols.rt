@@ -15,12 +15,7 @@ use settings::{DecodeSettings, EncodingMode};
 pub(crate) fn is_tagged(settings: DecodeSettings) -> bool
     ensures { result ≡ is_tagged (tagging_of settings.encoding) }
 {
-    let encoding = settings.encoding;
-    match encoding {
-        EncodingMode::Group3_2D => true,
-        EncodingMode::Group3_1D => false,
-        EncodingMode::Group4 => false,
-    }
+    settings.encoding == EncodingMode::Group3_2D
 }
 
 // Whether the next bit is a one; past the data there is none.

@@ -22,10 +22,9 @@ ghost use Rattle.group3.specs.Recovery.{after_line_in};
 use crate::eob::Before;
 use context::reference;
 use context::reference::Reference;
-use context::step::Step;
 use one_line::line_2d;
-use settings::{DecodeSettings, Row, State};
-use swift_loops::fast_1d::AfterPair;
+use settings::{DecodeSettings, KeptRow, PageStop, Row, State};
+use swift_loops::fast_1d::BeforePair;
 use swift_loops::{fast_1d, unlent_1d};
 
 // A row whose line begins at a bit.
@@ -45,9 +44,23 @@ fn row_at<'a>(
     ensures { RowGives state.base changes.old (after_line_in settings src.now lent.now changes.old state at expected (line_in settings src.now lent.now changes.old state at)) result changes.new }
 {
     match line::decode(white, black, both, src, settings, lent, changes, state, at) {
-        Step::On(line, next) => Row::Kept(line.changes, line.cut, next, expected),
-        Step::Stop(number, line, place) => {
-            recover::recover(changes, settings, state, at, expected, number, place, line)
+        Ok((line, next)) => Ok(KeptRow {
+            changes: line.changes,
+            mark: line.cut,
+            at: next,
+            eols: expected,
+        }),
+        Err(stop) => {
+            recover::recover(
+                changes,
+                settings,
+                state,
+                at,
+                expected,
+                stop.number,
+                stop.place,
+                stop.line,
+            )
         }
     }
 }
@@ -68,7 +81,12 @@ pub fn row<'a>(
 {
     match eob::between(src, settings, state) {
         Before::End(at) => settings::end_at(at),
-        Before::NoEol(at) => Row::Stop(answer::INVALID_CODE, at, 0, 0),
+        Before::NoEol(at) => Err(PageStop {
+            number: answer::INVALID_CODE,
+            place: at,
+            bytes: 0,
+            loose: 0,
+        }),
         Before::Line(at, expected) => {
             row_at(
                 white, black, both, src, settings, lent, changes, state, at, expected,
@@ -77,7 +95,7 @@ pub fn row<'a>(
     }
 }
 
-// A function of its own, so that the state is put into memory only where a row is not swift.
+// A function of its own, so that the state is put into memory only where a row is not swift (group4: `any_row`).
 fn any_row<'a>(
     white: &'a [u16],
     black: &'a [u16],
@@ -144,12 +162,12 @@ fn white_line(
     state: State,
     at: usize,
     room: usize,
-) -> AfterPair
+) -> Option<BeforePair>
     requires { Loading src.now at × (is_kept state.reference ≡ true → white.now ≡ lookup_table Colour.white) }
     ensures { WhiteAt src.now settings room at result }
 {
     if !follows_white(settings, state) {
-        return AfterPair::Other;
+        return None;
     }
     let place = state.reference;
     fast_1d::whole_run(
@@ -197,12 +215,22 @@ pub fn swift_row<'a>(
     }
     let start = state.at + 12;
     if is_white_2d(src, settings, lent, state) {
-        return Row::Kept(0, 0, start + 2, state.eols);
+        return Ok(KeptRow {
+            changes: 0,
+            mark: 0,
+            at: start + 2,
+            eols: state.eols,
+        });
     }
     let room = changes.len() - state.base;
     match white_line(white, src, settings, state, start, room) {
-        AfterPair::On(line) => Row::Kept(line.count, 0, line.at, state.eols),
-        AfterPair::Other => { line_row(white, black, both, src, settings, lent, changes, state) }
+        Some(line) => Ok(KeptRow {
+            changes: line.count,
+            mark: 0,
+            at: line.at,
+            eols: state.eols,
+        }),
+        None => { line_row(white, black, both, src, settings, lent, changes, state) }
     }
 }
 
@@ -214,16 +242,16 @@ fn lone_white(
     lent: &[u32],
     at: usize,
     room: usize,
-) -> AfterPair
+) -> Option<BeforePair>
     requires { Loading src.now at }
     ensures { WhiteAt src.now settings room at result }
 {
     let tagged = eols::is_tagged(settings);
     if tagged {
-        return AfterPair::Other;
+        return None;
     }
     if lent.len() != 0 {
-        return AfterPair::Other;
+        return None;
     }
     let width = settings.columns;
     unlent_1d::whole_run(white, src, width, at, room, settings.plain)
@@ -248,12 +276,22 @@ pub fn lone_row<'a>(
     }
     let start = state.at + 12;
     if is_white_2d(src, settings, lent, state) {
-        return Row::Kept(0, 0, start + 2, state.eols);
+        return Ok(KeptRow {
+            changes: 0,
+            mark: 0,
+            at: start + 2,
+            eols: state.eols,
+        });
     }
     let room = changes.len() - state.base;
     match lone_white(white, src, settings, lent, start, room) {
-        AfterPair::On(line) => Row::Kept(line.count, 0, line.at, state.eols),
-        AfterPair::Other => {
+        Some(line) => Ok(KeptRow {
+            changes: line.count,
+            mark: 0,
+            at: line.at,
+            eols: state.eols,
+        }),
+        None => {
             row_at(
                 white, black, both, src, settings, lent, changes, state, start, state.eols,
             )

@@ -6,7 +6,7 @@ ghost use Rattle.settings.specs.Settings.{tagging_of};
 ghost use Rattle.group3.specs.Lined.{KindAt, LineFrom, line_in};
 
 use crate::eols;
-use context::step::{Rules, Step};
+use context::step::{Rules, Step, Stop};
 use context::{line, reference};
 use one_line::{line_1d, line_2d};
 use settings::{DecodeSettings, State};
@@ -58,8 +58,11 @@ pub(crate) fn decode<'a>(
     };
     match kind_at(src, settings, at) {
         LineKind::NoTag => {
-            let end = 8 * src.len();
-            Step::Stop(answer::UNEXPECTED_EOF, line::new_line(columns), end)
+            Err(Stop {
+                line: line::new_line(columns),
+                place: 8 * src.len(),
+                number: answer::UNEXPECTED_EOF,
+            })
         }
         LineKind::One(start) => {
             let place = state.reference;

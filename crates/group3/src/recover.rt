@@ -3,32 +3,20 @@ ghost use Rattle.std.specs.Prelude.{◌≡◌, not, ◌&&◌, leb};
 ghost use Rattle.group3.specs.Recovery.{white_for, Damages, Recovers};
 
 use context::line;
-use context::line::{Line, Push};
-use settings::{DecodeSettings, Row, State};
+use context::line::Line;
+use settings::{DecodeSettings, KeptRow, PageStop, Row, State};
 
 // Only a code's errors, 1 to 3, are recovered from: no room for a change is none of them.
 fn is_kept(number: u32, expected: bool, strict: bool) -> bool
     ensures { result ≡ (expected && not strict) && leb number 3 }
 {
-    if !expected {
-        return false;
-    }
-    if strict {
-        return false;
-    }
-    number <= 3
+    expected && !strict && number <= 3
 }
 
 fn whitened(line: Line) -> Line
     ensures { result ≡ white_for line }
 {
-    Line {
-        width: line.width,
-        position: line.position,
-        changes: line.changes,
-        colour: 0,
-        cut: line.cut,
-    }
+    Line { colour: 0, ..line }
 }
 
 // The reader returns to the line's start. No line holds an EOL, so the next one from there on is the one that ends this line.
@@ -46,13 +34,28 @@ pub(crate) fn recover(
     ensures { Recovers settings state at expected number place line changes.old result changes.new }
 {
     if !is_kept(number, expected, settings.strict) {
-        return Row::Stop(number, place, 0, line.changes);
+        return Err(PageStop {
+            number,
+            place,
+            bytes: 0,
+            loose: line.changes,
+        });
     }
     let base = state.base;
     let left = line.width - line.position;
     match line::push_pixels(&mut changes[base..], whitened(line), left, settings.strict) {
         // 2, whatever was cut in it before: recovered wins over cut.
-        Push::On(kept) => Row::Kept(kept.changes, 2, at, expected),
-        Push::Stop(fault, stopped) => Row::Stop(fault, 0, 0, stopped.changes),
+        Ok(kept) => Ok(KeptRow {
+            changes: kept.changes,
+            mark: 2,
+            at,
+            eols: expected,
+        }),
+        Err(fault) => Err(PageStop {
+            number: fault.number,
+            place: 0,
+            bytes: 0,
+            loose: fault.line.changes,
+        }),
     }
 }

@@ -4,12 +4,12 @@ use Rattle.group3.proofs.row_at.Goals as goal
 
 pub recover-requires : goal.recover-requires
 recover-requires c =
-    line-damages c.requires.0 c.args.expected _ _ c.decode.ensures _ _ _ c.in-Stop.is
+    line-damages c.requires.0 c.args.expected _ _ c.decode.ensures _ c.in-Err.is
 
-pub returns-in-On : goal.returns-in-On
-returns-in-On c =
-    line_read c.requires.0 c.args.expected _ _ c.decode.ensures _ _ c.in-On.is
+pub returns-in-Ok : goal.returns-in-Ok
+returns-in-Ok c =
+    line_read c.requires.0 c.args.expected _ _ c.decode.ensures _ _ c.in-Ok.is
 
-pub returns-in-Stop : goal.returns-in-Stop
-returns-in-Stop c =
-    line-recovers c.requires.0 c.args.expected _ _ c.decode.ensures _ _ _ c.in-Stop.is _ _ c.recover.ensures
+pub returns-in-Err : goal.returns-in-Err
+returns-in-Err c =
+    line-recovers c.requires.0 c.args.expected _ _ c.decode.ensures _ c.in-Err.is _ _ c.recover.ensures

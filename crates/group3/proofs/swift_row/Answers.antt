@@ -3,7 +3,8 @@ use mathlib.Core.Path.{refl, sym, ◌∙◌, subst}
 use Prim.Native.Nat.{◌+◌, ◌-◌}
 use lib.ListN.{length}
 use borrow.Author.Tests.{not-false}
-use Rattle.swift_loops.specs.declared.fast_1d.AfterPair.{AfterPair}
+use Rattle.std.specs.Prelude.{Option}
+use Rattle.swift_loops.specs.declared.fast_1d.BeforePair.{BeforePair}
 use Rattle.group3.specs.Lined.{WhiteAt}
 use Rattle.group3.proofs.Starts.{tabled-1d}
 use Rattle.group3.proofs.Swiftly.{line-seen, row_seen, row-white, row-white-2d}
@@ -27,13 +28,13 @@ line_row-requires c =
     let pre = c.requires in
     (line-seen pre.0 (c.is_usual.ensures (not-false _ c.if-not-is_usual.false-raw)).0, pre.1)
 
-pub returns-in-On : goal.returns-in-On
-returns-in-On c =
+pub returns-in-Some : goal.returns-in-Some
+returns-in-Some c =
     let a = c.args in
     let room = length a.changes.now - a.state.base in
-    let white = subst (λ (r : AfterPair). WhiteAt a.src.now a.settings room (a.state.at + 12) r) c.in-On.is c.white_line.ensures in
-    row-white c.requires.0 (c.is_usual.ensures (not-false _ c.if-not-is_usual.false-raw)).0 c.in-On.line white.0 white.1
+    let white = subst (λ (r : Option BeforePair). WhiteAt a.src.now a.settings room (a.state.at + 12) r) c.in-Some.is c.white_line.ensures in
+    row-white c.requires.0 (c.is_usual.ensures (not-false _ c.if-not-is_usual.false-raw)).0 c.in-Some.line white.0 white.1
 
-pub returns-in-Other : goal.returns-in-Other
-returns-in-Other c =
+pub returns-in-None : goal.returns-in-None
+returns-in-None c =
     row_seen c.requires.0 (c.is_usual.ensures (not-false _ c.if-not-is_usual.false-raw)).0 _ _ c.line_row.ensures

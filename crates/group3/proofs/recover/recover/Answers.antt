@@ -12,12 +12,12 @@ returns-then-not-is_kept c = let a = c.args in recovers-left a.settings a.state 
 pub push_pixels-requires : goal.push_pixels-requires
 push_pixels-requires c = rw c.whitened.ensures (white-holds c.requires)
 
-pub returns-in-On : goal.returns-in-On
-returns-in-On c =
+pub returns-in-Ok : goal.returns-in-Ok
+returns-in-Ok c =
     let a = c.args in
-    recovers-on a.settings a.state a.at a.expected a.number a.place c.requires ((let h-is-kept : let a = c.args in true ≡ ((a.expected && not a.settings.strict) && leb a.number 3) = sym (not-false _ c.if-not-is_kept.false-raw) ∙ c.is_kept.ensures in h-is-kept)) _ _ (rw c.whitened.ensures at c.push_pixels.ensures) _ c.in-On.is
+    recovers-on a.settings a.state a.at a.expected a.number a.place c.requires ((let h-is-kept : let a = c.args in true ≡ ((a.expected && not a.settings.strict) && leb a.number 3) = sym (not-false _ c.if-not-is_kept.false-raw) ∙ c.is_kept.ensures in h-is-kept)) _ _ (rw c.whitened.ensures at c.push_pixels.ensures) _ c.in-Ok.is
 
-pub returns-in-Stop : goal.returns-in-Stop
-returns-in-Stop c =
+pub returns-in-Err : goal.returns-in-Err
+returns-in-Err c =
     let a = c.args in
-    recovers-stop a.settings a.state a.at a.expected a.number a.place c.requires ((let h-is-kept : let a = c.args in true ≡ ((a.expected && not a.settings.strict) && leb a.number 3) = sym (not-false _ c.if-not-is_kept.false-raw) ∙ c.is_kept.ensures in h-is-kept)) _ _ (rw c.whitened.ensures at c.push_pixels.ensures) _ _ c.in-Stop.is
+    recovers-stop a.settings a.state a.at a.expected a.number a.place c.requires ((let h-is-kept : let a = c.args in true ≡ ((a.expected && not a.settings.strict) && leb a.number 3) = sym (not-false _ c.if-not-is_kept.false-raw) ∙ c.is_kept.ensures in h-is-kept)) _ _ (rw c.whitened.ensures at c.push_pixels.ensures) _ c.in-Err.is
