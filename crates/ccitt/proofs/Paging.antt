@@ -9,6 +9,7 @@ use lib.Dec.{eqb}
 use lib.ListN.{length, take, drop, set, length-append, length-set}
 use lib.Seq.{take_at, drop_at}
 use borrow.Author.Tests.{eq-eqb, ne_eqb, lt-ltb, le-ltb}
+use Rattle.std.specs.Prelude.{Ok, Err}
 use Rattle.rules.specs.Machine.{Out, more, done, ends}
 use Rattle.rules.specs.Bits.{bits_of}
 use Rattle.rules.specs.Rows as Rule
@@ -33,10 +34,9 @@ use Rattle.answer.specs.Answer.{answer_of}
 use Rattle.answer.specs.declared.Answer.{Answer}
 use Rattle.settings.specs.declared.DecodeSettings.{DecodeSettings}
 use Rattle.settings.specs.declared.State.{State}
-use Rattle.settings.specs.declared.Row.{Row}
-use Rattle.settings.specs.declared.Row.TheVariants.{Kept, Stop}
 use Rattle.settings.specs.Settings.{settings_of, strict_for}
-use Rattle.settings.specs.Between.{state_of, row_for, changes_in, RowFrom, Rowed}
+use Rattle.settings.proofs.Ended.{kept-parts, stop-parts}
+use Rattle.settings.specs.Between.{Row, kept_row, page_stop, state_of, row_for, changes_in, RowFrom, Rowed}
 use Rattle.ccitt.specs.declared.Watched.{Watched}
 use Rattle.ccitt.specs.Decode.{counted, behind_row, Behind, PageFrom, Gives, Sees, told_of, short_for, refused_with, Watches}
 
@@ -47,18 +47,11 @@ record StopOf (n p b m : ℕ) (w : RowOut) : Type 0 where
   is : w ≡ stop n p b loose
   size : length loose ≡ m
 
-stop-of : {n p b m : ℕ} (w : RowOut) → Stop n p b m ≡ row_for w → StopOf n p b m w
+stop-of : {n p b m : ℕ} (w : RowOut) → Err (page_stop n p b m) ≡ row_for w → StopOf n p b m w
 stop-of (row r mark next) e = absurd (let z : ◌≡◌ {A = ℕ} 0 1 = cc in omega arith)
-stop-of {n} {p} {b} {m} (stop n' p' b' l) e = record { loose = l; is = λ i. stop (number i) (place i) (bytes i) l; size = sym (let q : m ≡ length l = cc in q) }
-  where
-    number : n' ≡ n
-    number = sym (let q : n ≡ n' = cc in q)
-
-    place : p' ≡ p
-    place = sym (let q : p ≡ p' = cc in q)
-
-    bytes : b' ≡ b
-    bytes = sym (let q : b ≡ b' = cc in q)
+stop-of {n} {p} {b} {m} (stop n' p' b' l) e =
+    let (number, place, bytes, size) = stop-parts e in
+    record { loose = l; is = λ i. stop (sym number i) (sym place i) (sym bytes i) l; size = sym size }
 
 record RowIs (count mark at : ℕ) (eols : Bool) (w : RowOut) : Type 0 where
   changes : List ℕ
@@ -68,8 +61,10 @@ record RowIs (count mark at : ℕ) (eols : Bool) (w : RowOut) : Type 0 where
   at-is : next.at ≡ at
   eols-is : next.eols ≡ eols
 
-row-of : {count mark at : ℕ} {eols : Bool} (w : RowOut) → Kept count mark at eols ≡ row_for w → RowIs count mark at eols w
-row-of {mark = mark} (row r m next) e = record { changes = r; next = next; is = ap (λ (n : ℕ). row r n next) (let q : m ≡ mark = cc in q); size = cc; at-is = cc; eols-is = cc }
+row-of : {count mark at : ℕ} {eols : Bool} (w : RowOut) → Ok (kept_row count mark at eols) ≡ row_for w → RowIs count mark at eols w
+row-of (row r m next) e =
+    let (count, mark, at, eols) = kept-parts e in
+    record { changes = r; next = next; is = ap (λ (n : ℕ). row r n next) (sym mark); size = sym count; at-is = sym at; eols-is = sym eols }
 row-of (stop n p b l) e = absurd (let z : ◌≡◌ {A = ℕ} 0 1 = cc in omega arith)
 
 -- ---- Between rows
@@ -192,7 +187,7 @@ module _ (bytes : List ℕ) (settings : DecodeSettings) (size : length bytes ≤
 
     module _ (r : Row) (zs : List ℕ) (o : Rowed bytes [] ys settings st r zs) where
       -- the page has ended
-      module _ (n p b m : ℕ) (e : r ≡ Stop n p b m) where
+      module _ (n p b m : ℕ) (e : r ≡ Err (page_stop n p b m)) where
         s : StopOf n p b m (row_of enc S bs (length ys - st.base) (state_of [] ys st))
         s = stop-of (row_of enc S bs (length ys - st.base) (state_of [] ys st)) (sym e ∙ o.answer)
 
@@ -206,7 +201,7 @@ module _ (bytes : List ℕ) (settings : DecodeSettings) (size : length bytes ≤
             (page-stopped enc S wide bs data-bytes (length xs) (places_in es ms) g.kept n p b s.loose stops)
 
       -- a row
-      module _ (count mark at : ℕ) (eols : Bool) (e : r ≡ Kept count mark at eols) where
+      module _ (count mark at : ℕ) (eols : Bool) (e : r ≡ Ok (kept_row count mark at eols)) where
         t : RowIs count mark at eols (row_of enc S bs (length ys - st.base) (state_of [] ys st))
         t = row-of (row_of enc S bs (length ys - st.base) (state_of [] ys st)) (sym e ∙ o.answer)
 
@@ -341,11 +336,11 @@ module _ {bytes : List ℕ} {settings : DecodeSettings} {xs es ms ys fs ns : Lis
   turn-asked = row-asked bytes settings t.size t.wide t.narrow xs es ms ys fs ns st t.going
 
   module _ {r : Row} {zs : List ℕ} (o : Rowed bytes [] ys settings st r zs) where
-    pub turn_stopped : {n p b m : ℕ} → r ≡ Stop n p b m → Sees bytes settings xs es ms (told_of (counted n p st.rows st.base m b) ever st.eols) zs fs ns
+    pub turn_stopped : {n p b m : ℕ} → r ≡ Err (page_stop n p b m) → Sees bytes settings xs es ms (told_of (counted n p st.rows st.base m b) ever st.eols) zs fs ns
     turn_stopped {n} {p} {b} {m} e =
         stopped-gives bytes settings t.size t.wide t.narrow xs es ms ys fs ns st t.going r zs o n p b m e ever t.had
 
-    module _ {count mark at : ℕ} {eols : Bool} (e : r ≡ Kept count mark at eols) where
+    module _ {count mark at : ℕ} {eols : Bool} (e : r ≡ Ok (kept_row count mark at eols)) where
       pub turn-marked : mark ≤ 2
       turn-marked = marked bytes settings t.size t.wide t.narrow xs es ms ys fs ns st t.going r zs o count mark at eols e
 

@@ -1,7 +1,7 @@
 // The page form (`decode` of lib.rs): all three encodings, one loop, rows kept in lent arrays.
 #![tactic(auto)]
 
-ghost use Rattle.std.specs.Prelude.{◌≡◌, ◌||◌, [], min};
+ghost use Rattle.std.specs.Prelude.{◌≡◌, ◌||◌, []};
 ghost use Rattle.tables.specs.Pairs.{pair_table};
 ghost use Rattle.tables.specs.Tables.{Lookups};
 ghost use Rattle.context.specs.Coding.{PairedFor};
@@ -10,7 +10,7 @@ ghost use Rattle.ccitt.specs.Decode.{counted, behind_row, Behind, PageFrom, Sees
 
 use answer::Answer;
 use context::reference::Reference;
-use settings::{DecodeSettings, Row, State};
+use settings::{DecodeSettings, KeptRow, PageStop, Row, State};
 
 // A page's answer, and whether EOLs were given up in one of the rows that it keeps. From there on its rows hang on all of the data.
 #[repr(C)]
@@ -53,7 +53,7 @@ fn counts(
     ensures { result ≡ counted number place rows entries loose bytes }
 {
     Answer {
-        number: number,
+        number,
         mark: 0,
         rows: rows as u64,
         entries: entries as u64,
@@ -69,19 +69,12 @@ fn behind(state: State, count: usize, at: usize, eols: bool) -> State
     ensures { result ≡ behind_row state count at eols }
 {
     State {
-        at: at,
+        at,
         rows: state.rows + 1,
         reference: Reference::Kept(state.base),
         base: state.base + count,
-        eols: eols,
+        eols,
     }
-}
-
-// A row's end and its mark lie at one place, so the shorter array says how many there are.
-fn places(ends: usize, marks: usize) -> usize
-    ensures { result ≡ min ends marks }
-{
-    if ends < marks { ends } else { marks }
 }
 
 // Whether EOLs were expected behind a row so far.
@@ -96,7 +89,7 @@ fn told(answer: Answer, ever: bool, eols: bool) -> Watched
     ensures { result ≡ told_of answer ever eols }
 {
     Watched {
-        answer: answer,
+        answer,
         gave_up: ever & !eols,
     }
 }
@@ -114,7 +107,8 @@ fn page<'a>(
     requires { PageFrom src.now settings × Lookups white.now black.now × (both.now ≡ pair_table) }
     ensures { Sees src.now settings changes.old ends.old marks.old result changes.new ends.new marks.new }
 {
-    let places = places(ends.len(), marks.len());
+    // A row's end and its mark lie at one place, so the shorter array says how many there are.
+    let places = ends.len().min(marks.len());
     let mut state = State {
         at: 0,
         rows: 0,
@@ -125,11 +119,25 @@ fn page<'a>(
     let mut expected = false;
     loop {
         match row(white, black, both, src, settings, changes, state) {
-            Row::Stop(number, place, bytes, loose) => {
+            Err(
+                PageStop {
+                    number,
+                    place,
+                    bytes,
+                    loose,
+                },
+            ) => {
                 let answer = counts(number, place, state.rows, state.base, loose, bytes);
                 return told(answer, expected, state.eols);
             }
-            Row::Kept(count, mark, at, eols) => {
+            Ok(
+                KeptRow {
+                    changes: count,
+                    mark,
+                    at,
+                    eols,
+                },
+            ) => {
                 let rows = state.rows;
                 if places <= rows {
                     let full = counts(answer::NO_ROW_END, 0, rows, state.base, count, 0);
@@ -153,12 +161,9 @@ fn unless_short(settings: DecodeSettings, answer: Answer) -> Answer
     }
     Answer {
         number: answer::TOO_FEW_ROWS,
-        mark: answer.mark,
-        rows: answer.rows,
-        entries: answer.entries,
-        loose: answer.loose,
         bytes: 0,
         place: 0,
+        ..answer
     }
 }
 
