@@ -10,6 +10,7 @@ use lib.Dec.{leb}
 use lib.ListN.{length, take}
 use lib.Seq.{length-take-le}
 use borrow.Author.Tests.{leb-true, le-leb, lt-leb, eq-eqb, ne_eqb, lt-ltb, le-ltb}
+use Rattle.std.specs.Prelude.{Ok, Err}
 use Rattle.rules.specs.Bits.{bits_of}
 use Rattle.rules.specs.Rows.{RowOut, row, stop}
 use Rattle.rules.specs.Pages.{most_bytes, ascends, row_of, strict_if_exact, too_few, overlaid}
@@ -25,10 +26,9 @@ use Rattle.context.specs.declared.reference.Reference.TheVariants.{Lent}
 use Rattle.context.specs.Coding.{TabledFor, PairedFor}
 use Rattle.settings.specs.declared.DecodeSettings.{DecodeSettings}
 use Rattle.settings.specs.declared.State.{State}
-use Rattle.settings.specs.declared.Row.{Row}
-use Rattle.settings.specs.declared.Row.TheVariants.{Kept, Stop}
 use Rattle.settings.specs.Settings.{settings_of, strict_for}
-use Rattle.settings.specs.Between.{state_of, row_for, changes_in, RowFrom, Rowed}
+use Rattle.settings.proofs.Ended.{kept-parts, stop-parts}
+use Rattle.settings.specs.Between.{Row, kept_row, page_stop, state_of, row_for, changes_in, RowFrom, Rowed}
 use Rattle.settings.specs.Ends.{Allowed}
 use Rattle.settings.proofs.Ends.{short-allowed}
 use Rattle.by_row.specs.declared.Side.{Side}
@@ -239,25 +239,22 @@ module _ (bytes : List ℕ) (settings : DecodeSettings) (st : RowState) (referen
             cases Rule.first q = ap (λ (l : List ℕ). record { first = reference; second = l }) q
             cases Rule.second q = ap (λ (l : List ℕ). record { first = l; second = reference }) q
 
-        module _ (count mark at : ℕ) (eols : Bool) (e : r ≡ Kept count mark at eols) where
+        module _ (count mark at : ℕ) (eols : Bool) (e : r ≡ Ok (kept_row count mark at eols)) where
           pub grows : Grows st count
           grows = cases outcome bounded (sym e ∙ g.answer)
             where
-              cases : (o : RowOut) → Bounded (bits_of bytes) o → Kept count mark at eols ≡ row_for o → Grows st count
+              cases : (o : RowOut) → Bounded (bits_of bytes) o → Ok (kept_row count mark at eols) ≡ row_for o → Grows st count
               cases (row c m next) h q =
-                  let z : count ≡ length c = cc in
+                  let (z, marks, ats, eolss) = kept-parts q in
                   record { few_rows = omega (arith, facts.rows, from.size); few_entries = omega (arith, facts.entries, from.size); few_changes = omega (arith, h, length-bits_of bytes, from.size) }
               cases (stop n p b l) h q = absurd (let z : ◌≡◌ {A = ℕ} 0 1 = cc in omega arith)
 
           pub next-given : Next bytes settings st reference xs (given_for st count mark at eols) ys
           next-given = cases outcome refl (sym e ∙ g.answer)
             where
-              cases : (o : RowOut) → outcome ≡ o → Kept count mark at eols ≡ row_for o → Next bytes settings st reference xs (given_for st count mark at eols) ys
+              cases : (o : RowOut) → outcome ≡ o → Ok (kept_row count mark at eols) ≡ row_for o → Next bytes settings st reference xs (given_for st count mark at eols) ys
               cases (row c m next) o q =
-                  let n : count ≡ length c = cc in
-                  let k : mark ≡ m = cc in
-                  let a : at ≡ next.at = cc in
-                  let l : eols ≡ next.eols = cc in
+                  let (n, k, a, l) = kept-parts q in
                   subst (λ (d : Rule.RowStep). Comes (side_of st.side) reference d (given_for st count mark at eols) ys) (sym (comes-to (row c m next) o))
                   (record {
                     answer = λ i. answer_of (gives (k i) (add-one st.rows i) (st.entries + n i));
@@ -268,26 +265,23 @@ module _ (bytes : List ℕ) (settings : DecodeSettings) (st : RowState) (referen
                   })
               cases (stop n p b l) o q = absurd (let z : ◌≡◌ {A = ℕ} 0 1 = cc in omega arith)
 
-        module _ (n place b loose : ℕ) (e : r ≡ Stop n place b loose) where
+        module _ (n place b loose : ℕ) (e : r ≡ Err (page_stop n place b loose)) where
           few : n ≤ 4
           few = cases outcome bounded (sym e ∙ g.answer)
             where
-              cases : (o : RowOut) → Bounded (bits_of bytes) o → Stop n place b loose ≡ row_for o → n ≤ 4
+              cases : (o : RowOut) → Bounded (bits_of bytes) o → Err (page_stop n place b loose) ≡ row_for o → n ≤ 4
               cases (row c m next) h q = absurd (let z : ◌≡◌ {A = ℕ} 0 1 = cc in omega arith)
-              cases (stop m p d l) h q = let z : n ≡ m = cc in omega arith
+              cases (stop m p d l) h q = let (z, places, bytess, looses) = stop-parts q in omega arith
 
           -- it has what 01 allows
           allowed : Allowed n place b loose
           allowed = cases outcome (row-allowed (strict_if_exact (settings_of settings)) wide (bits_of bytes) (whole-bytes bytes) (length xs - 0) (state_of lent_row xs between) standing (settings_of settings).encoding) (sym e ∙ g.answer)
             where
-              cases : (o : RowOut) → RowAllowed o → Stop n place b loose ≡ row_for o → Allowed n place b loose
+              cases : (o : RowOut) → RowAllowed o → Err (page_stop n place b loose) ≡ row_for o → Allowed n place b loose
               cases (row c m next) h q = absurd (let z : ◌≡◌ {A = ℕ} 0 1 = cc in omega arith)
               cases (stop m p d l) h q =
-                  let n1 : m ≡ n = cc in
-                  let p1 : p ≡ place = cc in
-                  let b1 : d ≡ b = cc in
-                  let l1 : length l ≡ loose = cc in
-                  subst (λ (x : ℕ). Allowed x place b loose) n1 (subst (λ (x : ℕ). Allowed m x b loose) p1 (subst (λ (x : ℕ). Allowed m p x loose) b1 (subst (Allowed m p d) l1 h)))
+                  let (n1, p1, b1, l1) = stop-parts q in
+                  subst (λ (x : ℕ). Allowed x place b loose) (sym n1) (subst (λ (x : ℕ). Allowed m x b loose) (sym p1) (subst (λ (x : ℕ). Allowed m p x loose) (sym b1) (subst (Allowed m p d) (sym l1) h)))
 
           pub next-ends : Ending n × Allowed n place b loose
           next-ends = (inl few, allowed)
@@ -300,13 +294,10 @@ module _ (bytes : List ℕ) (settings : DecodeSettings) (st : RowState) (referen
           ended_so : (m p d : ℕ) → Ending m → ((k : List ℕ) → unless_few_here (stop n place b k) ≡ stop m p d k) → (s : RowStep) → Ends st m p d loose s → Next bytes settings st reference xs s ys
           ended_so m p d h t s f = cases outcome refl (sym e ∙ g.answer)
             where
-              cases : (o : RowOut) → outcome ≡ o → Stop n place b loose ≡ row_for o → Next bytes settings st reference xs s ys
+              cases : (o : RowOut) → outcome ≡ o → Err (page_stop n place b loose) ≡ row_for o → Next bytes settings st reference xs s ys
               cases (row c k next) o q = absurd (let z : ◌≡◌ {A = ℕ} 0 1 = cc in omega arith)
               cases (stop n' p' b' l) o q =
-                  let n1 : n ≡ n' = cc in
-                  let p1 : place ≡ p' = cc in
-                  let b1 : b ≡ b' = cc in
-                  let l1 : loose ≡ length l = cc in
+                  let (n1, p1, b1, l1) = stop-parts q in
                   let to : outcome ≡ stop n place b l = o ∙ sym (λ i. stop (n1 i) (p1 i) (b1 i) l) in
                   subst (λ (d : Rule.RowStep). Comes (side_of st.side) reference d s ys) (sym (comes-to (stop n place b l) to ∙ ap (Rule.after_row (row_state_of st) lent) (t l)))
                   (record {

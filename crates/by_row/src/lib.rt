@@ -14,7 +14,7 @@ ghost use Rattle.by_row.specs.ByRow.{sound_for, Grows, given_for, Ends, NextFrom
 use answer::Answer;
 use context::reference;
 use context::reference::Reference;
-use settings::{DecodeSettings, Row, State};
+use settings::{DecodeSettings, KeptRow, PageStop, Row, State};
 
 // One of the two line arrays.
 #[derive(Clone, Copy)]
@@ -123,15 +123,11 @@ fn refused(number: u32, state: RowState) -> RowStep
 fn no_columns(state: RowState) -> RowStep
     ensures { result ≡ none_for state }
 {
-    let side = state.side;
     let ended = RowState {
-        at: state.at,
         rows: 0,
         entries: 0,
-        eols: state.eols,
-        side,
-        held: state.held,
         end: End::Done(0),
+        ..state
     };
     said(answer::COMPLETE, 0, 0, 0, ended)
 }
@@ -199,11 +195,11 @@ fn end_of(number: u32, place: usize, bytes: usize, loose: usize) -> End
     ensures { end_of result ≡ ended number place bytes loose }
 {
     match number {
-        0 => End::Done(bytes),
-        1 => End::InvalidCode(place, loose),
-        2 => End::UnexpectedEof(place, loose),
-        3 => End::Overflow(place, loose),
-        4 => End::NoRoom(loose),
+        answer::COMPLETE => End::Done(bytes),
+        answer::INVALID_CODE => End::InvalidCode(place, loose),
+        answer::UNEXPECTED_EOF => End::UnexpectedEof(place, loose),
+        answer::OVERFLOW => End::Overflow(place, loose),
+        answer::NO_ENTRY => End::NoRoom(loose),
         _ => End::Short,
     }
 }
@@ -212,15 +208,9 @@ fn ends(state: RowState, number: u32, place: usize, bytes: usize, loose: usize) 
     requires { Ending number × Allowed number place bytes loose }
     ensures { Ends state number place bytes loose result }
 {
-    let side = state.side;
     let ended = RowState {
-        at: state.at,
-        rows: state.rows,
-        entries: state.entries,
-        eols: state.eols,
-        side,
-        held: state.held,
         end: end_of(number, place, bytes, loose),
+        ..state
     };
     said(number, place, bytes, loose, ended)
 }
@@ -275,10 +265,24 @@ fn next_row(
         changes,
         between,
     ) {
-        Row::Kept(count, mark, at, eols) => given(state, count, mark, at, eols),
-        Row::Stop(number, place, bytes, loose) => {
+        Ok(
+            KeptRow {
+                changes: count,
+                mark,
+                at,
+                eols,
+            },
+        ) => given(state, count, mark, at, eols),
+        Err(
+            PageStop {
+                number,
+                place,
+                bytes,
+                loose,
+            },
+        ) => {
             if settings::is_short(settings, number, state.rows as u64) {
-                return ends(state, 14, 0, 0, loose);
+                return ends(state, answer::TOO_FEW_ROWS, 0, 0, loose);
             }
             ends(state, number, place, bytes, loose)
         }

@@ -23,28 +23,28 @@ row_under-requires c =
 
 pub given-requires : goal.given-requires
 given-requires c =
-    grows c.args.src.now c.args.settings c.args.state c.args.reference.now c.args.changes.now c.requires (sym (not-false _ c.if-not-is_sound.false-raw) ∙ c.is_sound.ensures) c.if-settings-eq0.false _ _ (rw c.strict_if_exact.ensures at c.row_under.ensures) _ _ _ _ c.in-Kept.is
+    grows c.args.src.now c.args.settings c.args.state c.args.reference.now c.args.changes.now c.requires (sym (not-false _ c.if-not-is_sound.false-raw) ∙ c.is_sound.ensures) c.if-settings-eq0.false _ _ (rw c.strict_if_exact.ensures at c.row_under.ensures) _ _ _ _ c.in-Ok.is
 
 pub ends-requires : goal.ends-requires
 ends-requires c =
-    short-ends c.args.src.now c.args.settings c.args.state c.args.reference.now c.args.changes.now c.requires (sym (not-false _ c.if-not-is_sound.false-raw) ∙ c.is_sound.ensures) c.if-settings-eq0.false _ _ (rw c.strict_if_exact.ensures at c.row_under.ensures) _ _ _ _ c.in-Stop.is
+    short-ends c.args.src.now c.args.settings c.args.state c.args.reference.now c.args.changes.now c.requires (sym (not-false _ c.if-not-is_sound.false-raw) ∙ c.is_sound.ensures) c.if-settings-eq0.false _ _ (rw c.strict_if_exact.ensures at c.row_under.ensures) _ _ _ _ c.in-Err.is
     (sym c.if-is_short.true ∙ c.is_short.ensures)
 
 pub returns-then-is_short : goal.returns-then-is_short
 returns-then-is_short c =
-    next-short c.args.src.now c.args.settings c.args.state c.args.reference.now c.args.changes.now c.requires (sym (not-false _ c.if-not-is_sound.false-raw) ∙ c.is_sound.ensures) c.if-settings-eq0.false _ _ (rw c.strict_if_exact.ensures at c.row_under.ensures) _ _ _ _ c.in-Stop.is
+    next-short c.args.src.now c.args.settings c.args.state c.args.reference.now c.args.changes.now c.requires (sym (not-false _ c.if-not-is_sound.false-raw) ∙ c.is_sound.ensures) c.if-settings-eq0.false _ _ (rw c.strict_if_exact.ensures at c.row_under.ensures) _ _ _ _ c.in-Err.is
     (sym c.if-is_short.true ∙ c.is_short.ensures) _ c.ends.ensures
 
-pub ends-requires-in-Stop : goal.ends-requires-in-Stop
-ends-requires-in-Stop c =
-    next-ends c.args.src.now c.args.settings c.args.state c.args.reference.now c.args.changes.now c.requires (sym (not-false _ c.if-not-is_sound.false-raw) ∙ c.is_sound.ensures) c.if-settings-eq0.false _ _ (rw c.strict_if_exact.ensures at c.row_under.ensures) _ _ _ _ c.in-Stop.is
+pub ends-requires-in-Err : goal.ends-requires-in-Err
+ends-requires-in-Err c =
+    next-ends c.args.src.now c.args.settings c.args.state c.args.reference.now c.args.changes.now c.requires (sym (not-false _ c.if-not-is_sound.false-raw) ∙ c.is_sound.ensures) c.if-settings-eq0.false _ _ (rw c.strict_if_exact.ensures at c.row_under.ensures) _ _ _ _ c.in-Err.is
 
-pub returns-in-Kept : goal.returns-in-Kept
-returns-in-Kept c =
+pub returns-in-Ok : goal.returns-in-Ok
+returns-in-Ok c =
     rw c.given.ensures
-    (next-given c.args.src.now c.args.settings c.args.state c.args.reference.now c.args.changes.now c.requires (sym (not-false _ c.if-not-is_sound.false-raw) ∙ c.is_sound.ensures) c.if-settings-eq0.false _ _ (rw c.strict_if_exact.ensures at c.row_under.ensures) _ _ _ _ c.in-Kept.is)
+    (next-given c.args.src.now c.args.settings c.args.state c.args.reference.now c.args.changes.now c.requires (sym (not-false _ c.if-not-is_sound.false-raw) ∙ c.is_sound.ensures) c.if-settings-eq0.false _ _ (rw c.strict_if_exact.ensures at c.row_under.ensures) _ _ _ _ c.in-Ok.is)
 
 pub returns-else-is_short : goal.returns-else-is_short
 returns-else-is_short c =
-    next-ended c.args.src.now c.args.settings c.args.state c.args.reference.now c.args.changes.now c.requires (sym (not-false _ c.if-not-is_sound.false-raw) ∙ c.is_sound.ensures) c.if-settings-eq0.false _ _ (rw c.strict_if_exact.ensures at c.row_under.ensures) _ _ _ _ c.in-Stop.is
-    (sym c.if-is_short.false ∙ c.is_short.ensures) _ c.ends-in-Stop.ensures
+    next-ended c.args.src.now c.args.settings c.args.state c.args.reference.now c.args.changes.now c.requires (sym (not-false _ c.if-not-is_sound.false-raw) ∙ c.is_sound.ensures) c.if-settings-eq0.false _ _ (rw c.strict_if_exact.ensures at c.row_under.ensures) _ _ _ _ c.in-Err.is
+    (sym c.if-is_short.false ∙ c.is_short.ensures) _ c.ends-in-Err.ensures
