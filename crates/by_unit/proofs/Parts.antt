@@ -29,8 +29,7 @@ use Rattle.by_unit.specs.declared.stand.Stand.TheVariants.{Between, InLine, InRu
 use Rattle.by_unit.specs.declared.stand.Kept.{Kept}
 use Rattle.by_unit.specs.declared.stand.Out.{Out}
 use Rattle.by_unit.specs.declared.stand.Out.TheVariants.{More}
-use Rattle.by_unit.specs.declared.stand.NextEol.{NextEol}
-use Rattle.by_unit.specs.declared.stand.NextEol.TheVariants.{After, Nothing}
+use Rattle.std.specs.Prelude as Code
 use Rattle.by_unit.specs.Standing.{most_eols, eol_of, next_of, over_for, done_for, line_or_over_for, eol_or_line_for, between_for, kept_for, eols_at, close_for, put_if, Closes, SettlesLine, Settles}
 use Rattle.by_unit.specs.OneUnit.{eol_unit_for}
 
@@ -95,10 +94,10 @@ module _ (bytes : List ℕ) (settings : DecodeSettings) (e : Eols) where
   -- ---- Between rows
 
   module _ (k : Kept) where
-    pub between-after : (a : ℕ) (r : NextEol) → r ≡ After a → eol_of r ≡ next_of bytes settings e → More k (Between e) 0 ≡ between_for bytes settings k e
+    pub between-after : (a : ℕ) (r : Code.Option ℕ) → r ≡ Code.Some a → eol_of r ≡ next_of bytes settings e → More k (Between e) 0 ≡ between_for bytes settings k e
     between-after a r p q = ap (eol_or_line_for bytes settings k e) (sym (ap eol_of p) ∙ q)
 
-    module _ (r : NextEol) (p : r ≡ Nothing) (q : eol_of r ≡ next_of bytes settings e) where
+    module _ (r : Code.Option ℕ) (p : r ≡ Code.None) (q : eol_of r ≡ next_of bytes settings e) where
       without_eol : between_for bytes settings k e ≡ line_or_over_for settings k e (over_for bytes settings k e)
       without_eol = ap (eol_or_line_for bytes settings k e) (sym (sym (ap eol_of p) ∙ q))
 
@@ -112,10 +111,10 @@ module _ (bytes : List ℕ) (settings : DecodeSettings) (e : Eols) where
 
     -- ---- An EOL is a unit
 
-    pub eol-after : (a : ℕ) (r : NextEol) → r ≡ After a → eol_of r ≡ next_of bytes settings e → between_for bytes settings k (eols_at (e.count + 1) a) ≡ eol_unit_for bytes settings k e (next_of bytes settings e)
+    pub eol-after : (a : ℕ) (r : Code.Option ℕ) → r ≡ Code.Some a → eol_of r ≡ next_of bytes settings e → between_for bytes settings k (eols_at (e.count + 1) a) ≡ eol_unit_for bytes settings k e (next_of bytes settings e)
     eol-after a r p q = ap (eol_unit_for bytes settings k e) (sym (ap eol_of p) ∙ q)
 
-    pub eol-none : (r : NextEol) → r ≡ Nothing → eol_of r ≡ next_of bytes settings e → between_for bytes settings k e ≡ eol_unit_for bytes settings k e (next_of bytes settings e)
+    pub eol-none : (r : Code.Option ℕ) → r ≡ Code.None → eol_of r ≡ next_of bytes settings e → between_for bytes settings k e ≡ eol_unit_for bytes settings k e (next_of bytes settings e)
     eol-none r p q = ap (eol_unit_for bytes settings k e) (sym (ap eol_of p) ∙ q)
 
 -- ---- Closing a row

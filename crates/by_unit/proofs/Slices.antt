@@ -7,6 +7,7 @@ use native.Mathlib.Omega.{arith}
 use lib.Dec.{eqb}
 use lib.ListN.{length, take, drop, take-append-drop}
 use borrow.Rule.Slice.PartMut.{mid_of, put_mid}
+use Rattle.std.specs.Prelude.{Result, Ok, Err}
 use Rattle.rules.specs.Machine.{done}
 use Rattle.rules.specs.Bits.{bits_of}
 use Rattle.rules.specs.Runs.{ok, sum, run_step}
@@ -20,17 +21,17 @@ use Rattle.rules.proofs.Grows.{Grows, GrowsTo, code_2d-grows, after_run-grows}
 use Rattle.rules.proofs.Lines.{moves}
 use Rattle.tables.specs.Tables.{colour_of}
 use Rattle.answer.specs.Answer.{number_of}
-use Rattle.answer.specs.declared.DecodeError.{DecodeError}
+use Rattle.codes.specs.declared.fault.Fault.{Fault}
 use Rattle.codes.specs.declared.eol.Eols.{Eols}
 use Rattle.codes.specs.declared.run.RunCode.{RunCode}
 use Rattle.codes.specs.Runs.{code_of}
 use Rattle.context.specs.declared.line.Line.{Line}
 use Rattle.context.specs.declared.reference.FoundChanges.{FoundChanges}
-use Rattle.context.specs.declared.step.Step.{Step}
+use Rattle.context.specs.declared.step.Stop.{Stop}
 use Rattle.one_line.specs.declared.one_code.OneCode.{OneCode}
 use Rattle.one_line.specs.declared.one_code.OneCode.TheVariants.{Runs, Did}
 use Rattle.context.specs.State.{line_at, rules_for, flag_number, Holds}
-use Rattle.context.specs.Outcome.{step_for, Steps}
+use Rattle.context.specs.Outcome.{stop_at, Step, step_for, Steps}
 use Rattle.context.specs.Reference.{Searches, Finds}
 use Rattle.context.specs.Coding.{unless_idle_for}
 use Rattle.one_line.specs.OneCode.{OneCoding, OneCoded, RunEnded}
@@ -54,10 +55,10 @@ use Rattle.by_unit.proofs.Units.{Fair, R, rules-same, roomy, eol-comes, mode-com
 
 module _ (bytes : List ℕ) (settings : DecodeSettings) (es ms : List ℕ) (k : Kept) (seen : ℕ) where
   -- a code that failed, and one that did not
-  pub code-stopped : (step : Step) (n : ℕ) (l : Line) (place : ℕ) → step ≡ Step.Stop n l place → (r : Out) → r ≡ done_for n place 0 k l.changes → AfterCodes bytes settings es ms k step seen r es ms
-  code-stopped step n l place q r a = subst (λ (t : Step). AfterCodes bytes settings es ms k t seen r es ms) (sym q) (record { answer = a; ends = refl; marks = refl })
+  pub code-stopped : (step : Step) (f : Stop) → step ≡ Err f → (r : Out) → r ≡ done_for f.number f.place 0 k f.line.changes → AfterCodes bytes settings es ms k step seen r es ms
+  code-stopped step f q r a = subst (λ (t : Step). AfterCodes bytes settings es ms k t seen r es ms) (sym q) (record { answer = a; ends = refl; marks = refl })
 
-  pub code-on : (step : Step) (l : Line) (at : ℕ) → step ≡ Step.On l at → (r : Out) (fs ns : List ℕ) → Settles bytes settings es ms k (InLine l at) seen r fs ns → AfterCodes bytes settings es ms k step seen r fs ns
+  pub code-on : (step : Step) (l : Line) (at : ℕ) → step ≡ Ok (l, at) → (r : Out) (fs ns : List ℕ) → Settles bytes settings es ms k (InLine l at) seen r fs ns → AfterCodes bytes settings es ms k step seen r fs ns
   code-on step l at q r fs ns a = subst (λ (t : Step). AfterCodes bytes settings es ms k t seen r fs ns) (sym q) a
 
   -- the same of a run, by its half
@@ -66,10 +67,10 @@ module _ (bytes : List ℕ) (settings : DecodeSettings) (es ms : List ℕ) (k : 
       by_first : (r : Out) → r ≡ first_for k mode l step seen → AfterRuns bytes settings es ms k h l step seen r es ms
       by_first r a = subst (λ (x : Half). AfterRuns bytes settings es ms k x l step seen r es ms) (sym q) (record { answer = a; ends = refl; marks = refl })
 
-      pub first-stopped : (n : ℕ) (m : Line) (place : ℕ) → step ≡ Step.Stop n m place → (r : Out) → r ≡ done_for n place 0 k m.changes → AfterRuns bytes settings es ms k h l step seen r es ms
-      first-stopped n m place e r a = by_first r (a ∙ ap (λ (t : Step). first_for k mode l t seen) (sym e))
+      pub first-stopped : (f : Stop) → step ≡ Err f → (r : Out) → r ≡ done_for f.number f.place 0 k f.line.changes → AfterRuns bytes settings es ms k h l step seen r es ms
+      first-stopped f e r a = by_first r (a ∙ ap (λ (t : Step). first_for k mode l t seen) (sym e))
 
-      pub first_on : (m : Line) (at : ℕ) → step ≡ Step.On m at
+      pub first_on : (m : Line) (at : ℕ) → step ≡ Ok (m, at)
           → AfterRuns bytes settings es ms k h l step seen (More k (InRun (Second mode (eqb m.position l.position)) m at 0 at) seen) es ms
       first_on m at e = by_first _ (ap (λ (t : Step). first_for k mode l t seen) (sym e))
 
@@ -98,10 +99,10 @@ module _ (bytes : List ℕ) (settings : DecodeSettings) (xs es ms : List ℕ) (k
 
 -- a code that may be idle asks no more
 pub idle-ends : (bytes : List ℕ) (k : Kept) (step : Step) (l : Line) (at : ℕ) (b : Bool) → CodeEnds bytes k step → CodeEnds bytes k (unless_idle_for step l at b)
-idle-ends bytes k (Step.Stop n m p) l at b h = tt
-idle-ends bytes k (Step.On m a) l at b h = cases (b && eqb m.position l.position)
+idle-ends bytes k (Err f) l at b h = tt
+idle-ends bytes k (Ok (m, a)) l at b h = cases (b && eqb m.position l.position)
   where
-    cases : (c : Bool) → CodeEnds bytes k (cond c (Step.Stop 1 l at) (Step.On m a))
+    cases : (c : Bool) → CodeEnds bytes k (cond c (Err (stop_at 1 l at)) (Ok (m, a)))
     cases true = tt
     cases false = h
 
@@ -137,8 +138,8 @@ module _ (bytes : List ℕ) (settings : DecodeSettings) (xs es ms : List ℕ) (k
 
   -- a line that a code leaves may be closed
   ends_so : length xs < 18446744073709551616 → (a : ℕ) (w : Went) → GrowsTo rules_here (line_at a row l) w → ((t : Lines.Line) → w ≡ went t → t.at ≤ length (bits_of bytes)) → (step : Step) → step ≡ step_for width w → CodeEnds bytes k step
-  ends_so long a w g inside (Step.Stop n m p) e = tt
-  ends_so long a w g inside (Step.On m b) e =
+  ends_so long a w g inside (Err f) e = tt
+  ends_so long a w g inside (Ok (m, b)) e =
       let (t, o, same, there) = step-on width w m b e in
       let grows : Grows rules_here (line_at a row l) t = subst (GrowsTo rules_here (line_at a row l)) o g in
       record {
@@ -203,14 +204,14 @@ module _ (bytes : List ℕ) (settings : DecodeSettings) (xs es ms : List ℕ) (k
 
   -- ---- A code of a run
 
-  module _ (h : Half) (from total : ℕ) (code : RunCode) (q : code_of code ≡ run_step (colour_of l.colour) (bits_of bytes) (sum at total)) where
-    pub run-bad : (e : DecodeError) (place : ℕ) → code ≡ RunCode.Bad e place → UnitGives bytes settings xs es ms k (InRun h l from total at) (done_for (number_of e) place 0 k l.changes) xs es ms
-    run-bad e place c = run-fails bytes settings asked xs es ms k kept l at seen line h from total (number_of e) place (sym (ap code_of c) ∙ q)
+  module _ (h : Half) (from total : ℕ) (code : Result RunCode Fault) (q : code_of code ≡ run_step (colour_of l.colour) (bits_of bytes) (sum at total)) where
+    pub run-bad : (f : Fault) → code ≡ Err f → UnitGives bytes settings xs es ms k (InRun h l from total at) (done_for (number_of f.error) f.at 0 k l.changes) xs es ms
+    run-bad f c = run-fails bytes settings asked xs es ms k kept l at seen line h from total (number_of f.error) f.at (sym (ap code_of c) ∙ q)
 
-    pub run_more : (total' next : ℕ) → code ≡ RunCode.More total' next → UnitGives bytes settings xs es ms k (InRun h l from total at) (More k (InRun h l from total' next) seen) xs es ms
+    pub run_more : (total' next : ℕ) → code ≡ Ok (RunCode.More total' next) → UnitGives bytes settings xs es ms k (InRun h l from total at) (More k (InRun h l from total' next) seen) xs es ms
     run_more total' next c = run-goes bytes settings asked xs es ms k kept l at seen line h from total total' next (sym (ap code_of c) ∙ q)
 
-    module _ (total' next : ℕ) (c : code ≡ RunCode.Last total' next) (step : Step) (zs : List ℕ) (e : RunEnded lent l total' from next (rules_in settings) step zs) where
+    module _ (total' next : ℕ) (c : code ≡ Ok (RunCode.Last total' next)) (step : Step) (zs : List ℕ) (e : RunEnded lent l total' from next (rules_in settings) step zs) where
       ended : RunEnded row l total' from next (rules_in settings) step zs
       ended = subst (λ (r : List ℕ). RunEnded r l total' from next (rules_in settings) step zs) lent_is e
 

@@ -7,6 +7,7 @@ use native.Mathlib.Omega.{arith}
 use lib.ListN.{length, get_or, take, drop, length-drop, take-append-drop}
 use lib.Seq.{length-take-le}
 use borrow.Author.Tests.{ne_eqb}
+use Rattle.std.specs.Prelude.{Ok}
 use Rattle.rules.specs.Machine as Rule
 use Rattle.rules.specs.Machine.{more}
 use Rattle.rules.specs.Bits.{bits_of}
@@ -24,7 +25,6 @@ use Rattle.rules.proofs.Paced.{here, there, steps-run}
 use Rattle.tables.specs.Tables.{colour_of}
 use Rattle.context.specs.declared.line.Line.{Line}
 use Rattle.context.specs.declared.reference.Reference.TheVariants.{Kept}
-use Rattle.context.specs.declared.step.Step.TheVariants as Step
 use Rattle.context.specs.State.{line_at, line_for, flag_of, Holds}
 use Rattle.context.specs.Coding.{reference_in}
 use Rattle.context.specs.Places.{B1At}
@@ -179,7 +179,7 @@ module _ (bytes : List ℕ) (settings : DecodeSettings) (xs es ms : List ℕ) (k
     swift-comes : (r : Out) (fs ns : List ℕ) → Settles bytes settings es ms k (InLine next v.stand.at) seen r fs ns
         → Comes bytes settings.columns k.rows k.base xs es ms (settle S bs (length xs) places (going K (in_line T))) r ys fs ns
     swift-comes r fs ns d =
-        code-comes bytes settings u.asked xs es ms k u.kept l at seen line at (went T) grows counted.walked.inside (Step.On (line_for settings.columns T) T.at) refl ys written seen line.passed r fs ns
+        code-comes bytes settings u.asked xs es ms k u.kept l at seen line at (went T) grows counted.walked.inside (Ok (line_for settings.columns T, T.at)) refl ys written seen line.passed r fs ns
         (subst (λ (m : Line). Settles bytes settings es ms k (InLine m v.stand.at) seen r fs ns)
         (sym (ap (λ (n : ℕ). line_for n T) (sym line.width_is) ∙ line-for (drop k.base ys) next swift-holds v.stand.at)) d)
 

@@ -11,6 +11,7 @@ use lib.Dec.{eqb, leb}
 use lib.ListN.{length, take, drop, length-drop}
 use lib.Seq.{length-take-le}
 use borrow.Author.Tests.{eqb-true}
+use Rattle.std.specs.Prelude.{Ok, Err}
 use Rattle.rules.specs.Machine as Rule
 use Rattle.rules.specs.Machine.{more, done}
 use Rattle.rules.specs.Bits.{bits_of}
@@ -37,9 +38,8 @@ use Rattle.tables.specs.Tables.{colour_of}
 use Rattle.codes.specs.declared.eol.Eols.{Eols}
 use Rattle.codes.specs.Eols.{eols_of}
 use Rattle.context.specs.declared.line.Line.{Line}
-use Rattle.context.specs.declared.step.Step.{Step}
 use Rattle.context.specs.State.{line_at, line_for, rules_for, changes_of}
-use Rattle.context.specs.Outcome.{step_for, Steps}
+use Rattle.context.specs.Outcome.{stop_at, Step, step_for, Steps}
 use Rattle.context.specs.Reference.{Passed}
 use Rattle.context.specs.Coding.{unless_idle_for}
 use Rattle.one_line.specs.OneCode.{RunsAt, RunEnded}
@@ -422,22 +422,22 @@ module _ (bytes : List ℕ) (settings : DecodeSettings) (asked : Asked bytes set
                   → AfterCodes bytes settings es ms k (unless_idle_for step l mode (blank && settings.exact)) seen r fs ns
                   → ComesTo (after_code S bs (length xs) places K (unless_unmoved S bs (length xs) places mode blank (L from) w)) r ys fs ns
               after-second mode blank (failed n p t) g a q u d =
-                  code-comes from (failed n p t) g a (Step.Stop n (line_for width t) p) refl ys u seen line.passed r fs ns
+                  code-comes from (failed n p t) g a (Err (stop_at n (line_for width t) p)) refl ys u seen line.passed r fs ns
                   (subst (λ (s : Step). AfterCodes bytes settings es ms k (unless_idle_for s l mode (blank && settings.exact)) seen r fs ns) q d)
               after-second mode blank (went t) g a q u d =
                   tests settings.exact blank (eqb t.position l.position) refl
                   (subst (λ (s : Step). AfterCodes bytes settings es ms k (unless_idle_for s l mode (blank && settings.exact)) seen r fs ns) q d)
                 where
-                  goes : AfterCodes bytes settings es ms k (Step.On (line_for width t) t.at) seen r fs ns → ComesTo (after_code S bs (length xs) places K (went t)) r ys fs ns
-                  goes d = code-comes from (went t) g a (Step.On (line_for width t) t.at) refl ys u seen line.passed r fs ns d
+                  goes : AfterCodes bytes settings es ms k (Ok (line_for width t, t.at)) seen r fs ns → ComesTo (after_code S bs (length xs) places K (went t)) r ys fs ns
+                  goes d = code-comes from (went t) g a (Ok (line_for width t, t.at)) refl ys u seen line.passed r fs ns d
 
-                  idle : eqb t.position l.position ≡ true → AfterCodes bytes settings es ms k (Step.Stop 1 l mode) seen r fs ns → ComesTo (after_code S bs (length xs) places K (failed 1 mode (L from))) r ys fs ns
+                  idle : eqb t.position l.position ≡ true → AfterCodes bytes settings es ms k (Err (stop_at 1 l mode)) seen r fs ns → ComesTo (after_code S bs (length xs) places K (failed 1 mode (L from))) r ys fs ns
                   idle b d =
-                      code-comes from (failed 1 mode (L from)) (grows-here R (L from) from) (omega arith, omega arith, λ h. absurd (omega arith)) (Step.Stop 1 l mode)
-                      (λ i. Step.Stop 1 (sym (ap (λ (n : ℕ). line_for n (L from)) (sym line.width_is) ∙ line-for row l line.holds from) i) mode)
+                      code-comes from (failed 1 mode (L from)) (grows-here R (L from) from) (omega arith, omega arith, λ h. absurd (omega arith)) (Err (stop_at 1 l mode))
+                      (λ i. Err (stop_at 1 (sym (ap (λ (n : ℕ). line_for n (L from)) (sym line.width_is) ∙ line-for row l line.holds from) i) mode))
                       ys (u ∙ ap (λ (l : List ℕ). overlaid_from k.base l xs) (g.still (eqb-true _ _ b))) seen line.passed r fs ns d
 
-                  tests : (x y z : Bool) → eqb t.position l.position ≡ z → AfterCodes bytes settings es ms k (cond ((y && x) && z) (Step.Stop 1 l mode) (Step.On (line_for width t) t.at)) seen r fs ns
+                  tests : (x y z : Bool) → eqb t.position l.position ≡ z → AfterCodes bytes settings es ms k (cond ((y && x) && z) (Err (stop_at 1 l mode)) (Ok (line_for width t, t.at))) seen r fs ns
                       → ComesTo (after_code S bs (length xs) places K (cond (x && (y && z)) (failed 1 mode (L from)) (went t))) r ys fs ns
                   tests true true true b d = idle b d
                   tests true true false b d = goes d

@@ -1,5 +1,5 @@
 -- One unit and what closes behind it: what the code asks, and that it comes to what the rules' `unit` does.
-use Rattle.std.specs.Prelude.{◌&&◌, List, ℕ, ◌+◌, ◌≤◌, ◌<◌, eqb, length}
+use Rattle.std.specs.Prelude.{◌&&◌, List, ℕ, ◌+◌, ◌≤◌, ◌<◌, eqb, length, Ok, Err}
 use Rattle.std.proofs.Math.Option.{Option, none, some}
 use Rattle.rules.specs.Machine as Rule
 use Rattle.rules.specs.Machine.{more}
@@ -11,7 +11,7 @@ use Rattle.rules.specs.Units.{Going}
 use Rattle.codes.specs.declared.eol.Eols.{Eols}
 use Rattle.context.specs.declared.line.Line.{Line}
 use Rattle.context.specs.declared.step.Rules.{Rules}
-use Rattle.context.specs.declared.step.Step.{Step}
+use Rattle.context.specs.Outcome.{Step}
 use Rattle.context.specs.Coding.{unless_idle_for}
 use Rattle.swift_units.specs.Counted.{Leads}
 use Rattle.settings.specs.declared.DecodeSettings.{DecodeSettings}
@@ -39,17 +39,17 @@ eol_unit_for bytes settings k e none = between_for bytes settings k e
 
 -- a line that goes on may be closed
 abbrev pub CodeEnds : List ℕ → Kept → Step → Type 0
-CodeEnds bytes k (Step.On l at) = Closing bytes k l at
-CodeEnds bytes k (Step.Stop n l place) = Unit {0}
+CodeEnds bytes k (Ok (l, at)) = Closing bytes k l at
+CodeEnds bytes k (Err stop) = Unit {0}
 
 abbrev pub AfterCodes : List ℕ → DecodeSettings → List ℕ → List ℕ → Kept → Step → ℕ → Out → List ℕ → List ℕ → Type 0
-AfterCodes bytes settings es ms k (Step.On l at) seen r fs ns = Settles bytes settings es ms k (InLine l at) seen r fs ns
-AfterCodes bytes settings es ms k (Step.Stop n l place) seen r fs ns = Stays (done_for n place 0 k l.changes) es ms r fs ns
+AfterCodes bytes settings es ms k (Ok (l, at)) seen r fs ns = Settles bytes settings es ms k (InLine l at) seen r fs ns
+AfterCodes bytes settings es ms k (Err stop) seen r fs ns = Stays (done_for stop.number stop.place 0 k stop.line.changes) es ms r fs ns
 
 -- the same of a run, on the line before it: the second run comes behind the first, which may have moved nothing
 abbrev pub first_for : Kept → ℕ → Line → Step → ℕ → Out
-first_for k mode l (Step.On m at) seen = More k (InRun (Second mode (eqb m.position l.position)) m at 0 at) seen
-first_for k mode l (Step.Stop n m place) seen = done_for n place 0 k m.changes
+first_for k mode l (Ok (m, at)) seen = More k (InRun (Second mode (eqb m.position l.position)) m at 0 at) seen
+first_for k mode l (Err stop) seen = done_for stop.number stop.place 0 k stop.line.changes
 
 abbrev pub AfterRuns : List ℕ → DecodeSettings → List ℕ → List ℕ → Kept → Half → Line → Step → ℕ → Out → List ℕ → List ℕ → Type 0
 AfterRuns bytes settings es ms k (First mode) l step seen r fs ns = Stays (first_for k mode l step seen) es ms r fs ns

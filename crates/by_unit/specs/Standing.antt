@@ -1,5 +1,6 @@
 -- Where a reading stands inside a call, the reading of the rules that it stands for in the lent arrays, and what closing a row or the page makes of it.
 use Rattle.std.specs.Prelude.{◌≡◌, Bool, true, false, cond, List, [], ◌++◌, ℕ, ◌+◌, ◌*◌, ◌≤◌, ◌<◌, eqb, ltb, length, take, drop, set}
+use Rattle.std.specs.Prelude as Code
 use Rattle.std.proofs.Math.Option.{Option, none, some}
 use Rattle.rules.specs.Machine as Rule
 use Rattle.rules.specs.Machine.{more, done}
@@ -31,8 +32,6 @@ use Rattle.by_unit.specs.declared.stand.Stand.TheVariants.{Between, InLine, InRu
 use Rattle.by_unit.specs.declared.stand.Kept.{Kept}
 use Rattle.by_unit.specs.declared.stand.Out.{Out}
 use Rattle.by_unit.specs.declared.stand.Out.TheVariants.{More, Done}
-use Rattle.by_unit.specs.declared.stand.NextEol.{NextEol}
-use Rattle.by_unit.specs.declared.stand.NextEol.TheVariants.{After, Nothing}
 
 -- ---- The reading that code and arrays stand for
 
@@ -130,9 +129,9 @@ pub record Comes (bytes : List ℕ) (width rows base : ℕ) (xs es ms : List ℕ
 abbrev pub most_eols : ℕ → DecodeSettings → ℕ
 most_eols size settings = cond settings.end_of_block 2 (8 * size)
 
-abbrev pub eol_of : NextEol → Option ℕ
-eol_of (After at) = some at
-eol_of Nothing = none
+abbrev pub eol_of : Code.Option ℕ → Option ℕ
+eol_of (Code.Some at) = some at
+eol_of Code.None = none
 
 abbrev pub next_of : List ℕ → DecodeSettings → Eols → Option ℕ
 next_of bytes settings e = next_eol (settings_of settings) (bits_of bytes) 0 0 (eols_of e)

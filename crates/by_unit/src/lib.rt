@@ -110,15 +110,8 @@ fn as_read(settings: DecodeSettings) -> DecodeSettings
 {
     let strict = settings::strict_if_exact(settings);
     DecodeSettings {
-        columns: strict.columns,
-        rows: strict.rows,
-        end_of_block: strict.end_of_block,
-        end_of_line: strict.end_of_line,
-        rows_are_byte_aligned: strict.rows_are_byte_aligned,
         encoding: EncodingMode::Group4,
-        strict: strict.strict,
-        exact: strict.exact,
-        plain: strict.plain,
+        ..strict
     }
 }
 
@@ -126,12 +119,12 @@ fn end_of(number: u32, place: u64, bytes: u64, loose: u64) -> PageEnd
     ensures { result ≡ end_from number place bytes loose }
 {
     match number {
-        0 => PageEnd::Done(bytes),
-        1 => PageEnd::InvalidCode(place, loose),
-        2 => PageEnd::UnexpectedEof(place, loose),
-        3 => PageEnd::Overflow(place, loose),
-        4 => PageEnd::NoEntry(loose),
-        5 => PageEnd::NoRowEnd(loose),
+        answer::COMPLETE => PageEnd::Done(bytes),
+        answer::INVALID_CODE => PageEnd::InvalidCode(place, loose),
+        answer::UNEXPECTED_EOF => PageEnd::UnexpectedEof(place, loose),
+        answer::OVERFLOW => PageEnd::Overflow(place, loose),
+        answer::NO_ENTRY => PageEnd::NoEntry(loose),
+        answer::NO_ROW_END => PageEnd::NoRowEnd(loose),
         _ => PageEnd::Short,
     }
 }
@@ -155,13 +148,25 @@ fn answer_of(end: PageEnd, counts: EndCounts) -> Answer
     ensures { result ≡ answer_for end counts }
 {
     match end {
-        PageEnd::Done(bytes) => counted(0, 0, bytes, 0, counts),
-        PageEnd::InvalidCode(place, loose) => counted(1, place, 0, loose, counts),
-        PageEnd::UnexpectedEof(place, loose) => counted(2, place, 0, loose, counts),
-        PageEnd::Overflow(place, loose) => counted(3, place, 0, loose, counts),
-        PageEnd::NoEntry(loose) => counted(4, 0, 0, loose, counts),
-        PageEnd::NoRowEnd(loose) => counted(5, 0, 0, loose, counts),
-        PageEnd::Short => counted(14, 0, 0, 0, counts),
+        PageEnd::Done(bytes) => counted(answer::COMPLETE, 0, bytes, 0, counts),
+        PageEnd::InvalidCode(place, loose) => counted(
+            answer::INVALID_CODE,
+            place,
+            0,
+            loose,
+            counts,
+        ),
+        PageEnd::UnexpectedEof(place, loose) => counted(
+            answer::UNEXPECTED_EOF,
+            place,
+            0,
+            loose,
+            counts,
+        ),
+        PageEnd::Overflow(place, loose) => counted(answer::OVERFLOW, place, 0, loose, counts),
+        PageEnd::NoEntry(loose) => counted(answer::NO_ENTRY, 0, 0, loose, counts),
+        PageEnd::NoRowEnd(loose) => counted(answer::NO_ROW_END, 0, 0, loose, counts),
+        PageEnd::Short => counted(answer::TOO_FEW_ROWS, 0, 0, 0, counts),
     }
 }
 

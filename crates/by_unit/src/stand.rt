@@ -58,13 +58,6 @@ pub(crate) fn said(number: u32, place: usize, bytes: usize, kept: Kept, loose: u
     }
 }
 
-// The bit after the next EOL, where one is still to be read before the line.
-#[derive(Clone, Copy)]
-pub(crate) enum NextEol {
-    After(usize),
-    Nothing,
-}
-
 fn most_eols(size: usize, settings: DecodeSettings) -> usize
     requires { size ≤ most_bytes }
     ensures { result ≡ most_eols size settings }
@@ -75,18 +68,19 @@ fn most_eols(size: usize, settings: DecodeSettings) -> usize
     8 * size
 }
 
-pub(crate) fn next_eol(src: &[u8], settings: DecodeSettings, eols: Eols) -> NextEol
+// The bit after the next EOL, where one is still to be read before the line.
+pub(crate) fn next_eol(src: &[u8], settings: DecodeSettings, eols: Eols) -> Option<usize>
     requires { Loading src.now eols.at }
     ensures { eol_of result ≡ next_of src.now settings eols }
 {
     if most_eols(src.len(), settings) <= eols.count {
-        return NextEol::Nothing;
+        return None;
     }
     let read = eol::read_eols(src, eols.at, 1);
     if read.count == 0 {
-        return NextEol::Nothing;
+        return None;
     }
-    NextEol::After(read.at)
+    Some(read.at)
 }
 
 fn is_over(src: &[u8], settings: DecodeSettings, kept: Kept, eols: Eols) -> bool
@@ -109,8 +103,8 @@ pub(crate) fn between(src: &[u8], settings: DecodeSettings, kept: Kept, eols: Eo
 {
     let at = eols.at;
     match next_eol(src, settings, eols) {
-        NextEol::After(_) => Out::More(kept, Stand::Between(eols), 0),
-        NextEol::Nothing => {
+        Some(_) => Out::More(kept, Stand::Between(eols), 0),
+        None => {
             if is_over(src, settings, kept, eols) {
                 let bytes = bit_reader::byte_pos(bit_reader::align(at));
                 return Out::Done(said(answer::COMPLETE, 0, bytes, kept, 0));

@@ -1,5 +1,5 @@
 // The state that a caller holds: the tests of 8, where a reading with it stands, and back.
-ghost use Rattle.std.specs.Prelude.{◌≡◌, ◌-◌, ◌≤◌, min, length};
+ghost use Rattle.std.specs.Prelude.{◌≡◌, ◌-◌, ◌≤◌, length};
 ghost use Rattle.rules.specs.Pages.{most_bytes};
 ghost use Rattle.rules.specs.ByUnit.{end_of};
 ghost use Rattle.context.specs.State.{flag_of, flag_number};
@@ -40,12 +40,6 @@ fn are_counts(most: usize, places: usize, saved: Saved) -> bool
         return false;
     }
     saved.rows <= places
-}
-
-fn places(ends: usize, marks: usize) -> usize
-    ensures { result ≡ min ends marks }
-{
-    if ends < marks { ends } else { marks }
 }
 
 // Where so many rows end.
@@ -114,7 +108,7 @@ pub(crate) fn is_sound(
     if columns < saved.position {
         return false;
     }
-    if !are_counts(most, places(ends.len(), marks.len()), saved) {
+    if !are_counts(most, ends.len().min(marks.len()), saved) {
         return false;
     }
     let rows = saved.rows;

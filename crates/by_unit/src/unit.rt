@@ -4,7 +4,7 @@ ghost use Rattle.bit_reader.specs.Loaded.{Loading};
 ghost use Rattle.by_unit.specs.Standing.{next_of};
 ghost use Rattle.by_unit.specs.OneUnit.{rules_in, eol_unit_for, CodeEnds, AfterCodes, AfterRuns, UnitFrom, UnitGives, SomeGive};
 
-use crate::stand::{Half, Kept, NextEol, Out, Stand};
+use crate::stand::{Half, Kept, Out, Stand};
 use crate::take::TakenUnits;
 use crate::{stand, swift};
 use codes::eol::Eols;
@@ -32,8 +32,8 @@ fn eol_unit(src: &[u8], settings: DecodeSettings, kept: Kept, eols: Eols) -> Out
     ensures { result ≡ eol_unit_for src.now settings kept eols (next_of src.now settings eols) }
 {
     match stand::next_eol(src, settings, eols) {
-        NextEol::Nothing => stand::between(src, settings, kept, eols),
-        NextEol::After(at) => {
+        None => stand::between(src, settings, kept, eols),
+        Some(at) => {
             let count = eols.count + 1;
             stand::between(src, settings, kept, Eols { count, at })
         }
@@ -54,10 +54,8 @@ fn after_code(
     ensures { AfterCodes src.now settings ends.old marks.old kept step seen result ends.new marks.new }
 {
     match step {
-        Step::Stop(number, line, place) => {
-            Out::Done(stand::said(number, place, 0, kept, line.changes))
-        }
-        Step::On(line, at) => {
+        Err(stop) => Out::Done(stand::said(stop.number, stop.place, 0, kept, stop.line.changes)),
+        Ok((line, at)) => {
             stand::settle(
                 src,
                 settings,
@@ -132,10 +130,14 @@ fn after_run(
 {
     match half {
         Half::First(mode) => match step {
-            Step::Stop(number, stopped, place) => {
-                Out::Done(stand::said(number, place, 0, kept, stopped.changes))
-            }
-            Step::On(pushed, next) => {
+            Err(stop) => Out::Done(stand::said(
+                stop.number,
+                stop.place,
+                0,
+                kept,
+                stop.line.changes,
+            )),
+            Ok((pushed, next)) => {
                 let blank = pushed.position == line.position;
                 Out::More(
                     kept,
@@ -170,13 +172,17 @@ fn run_unit(
 {
     let colour = line.colour as usize;
     match one_code::run_code(colour, src, at, total, settings.plain) {
-        RunCode::Bad(e, place) => {
-            Out::Done(stand::said(answer::number(e), place, 0, kept, line.changes))
-        }
-        RunCode::More(sum, next) => {
+        Err(fault) => Out::Done(stand::said(
+            answer::number(fault.error),
+            fault.at,
+            0,
+            kept,
+            line.changes,
+        )),
+        Ok(RunCode::More(sum, next)) => {
             Out::More(kept, Stand::InRun(half, line, from, sum, next), seen)
         }
-        RunCode::Last(sum, next) => {
+        Ok(RunCode::Last(sum, next)) => {
             let base = kept.base;
             let rules = rules_of(settings);
             let step = one_code::end_run(&mut changes[base..], line, sum, from, next, rules);
@@ -220,11 +226,10 @@ fn line_units(
     }
     let s = u.stand;
     let next = Line {
-        width: line.width,
         position: s.position,
         changes: s.count,
         colour: (s.place % 2) as u32,
-        cut: line.cut,
+        ..line
     };
     let out = stand::settle(
         src,

@@ -17,17 +17,17 @@ returns-then-columns-saved c = over c.args.saved.position c.args.columns _ c.if-
 pub returns-then-not-are_counts : goal.returns-then-not-are_counts
 returns-then-not-are_counts c =
     let a = c.args in
-    no _ _ (sym (c.are_counts.ensures ∙ ap (λ (n : ℕ). counts_for (8 * a.size + 1) n a.saved) c.places.ensures) ∙ not-true _ c.if-not-are_counts.true-raw) ∙ within a.saved.position a.columns _ c.if-columns-saved.false ∙ yes _ _ (sym c.are_bits.ensures ∙ not-false _ c.if-not-are_bits.false-raw)
+    no _ _ (sym (c.are_counts.ensures ∙ ap (λ (n : ℕ). counts_for (8 * a.size + 1) n a.saved) c.min.ensures) ∙ not-true _ c.if-not-are_counts.true-raw) ∙ within a.saved.position a.columns _ c.if-columns-saved.false ∙ yes _ _ (sym c.are_bits.ensures ∙ not-false _ c.if-not-are_bits.false-raw)
 
 pub end_of-start-requires : goal.end_of-start-requires
 end_of-start-requires c =
     let a = c.args in
-    omega (arith, c.one_less.ensures, (counted (8 * a.size + 1) (length a.ends.now) (length a.marks.now) a.saved (sym (c.are_counts.ensures ∙ ap (λ (n : ℕ). counts_for (8 * a.size + 1) n a.saved) c.places.ensures) ∙ not-false _ c.if-not-are_counts.false-raw)).0)
+    omega (arith, c.one_less.ensures, (counted (8 * a.size + 1) (length a.ends.now) (length a.marks.now) a.saved (sym (c.are_counts.ensures ∙ ap (λ (n : ℕ). counts_for (8 * a.size + 1) n a.saved) c.min.ensures) ∙ not-false _ c.if-not-are_counts.false-raw)).0)
 
 pub end_of-base-requires : goal.end_of-base-requires
 end_of-base-requires c =
     let a = c.args in
-    (counted (8 * a.size + 1) (length a.ends.now) (length a.marks.now) a.saved (sym (c.are_counts.ensures ∙ ap (λ (n : ℕ). counts_for (8 * a.size + 1) n a.saved) c.places.ensures) ∙ not-false _ c.if-not-are_counts.false-raw)).0
+    (counted (8 * a.size + 1) (length a.ends.now) (length a.marks.now) a.saved (sym (c.are_counts.ensures ∙ ap (λ (n : ℕ). counts_for (8 * a.size + 1) n a.saved) c.min.ensures) ∙ not-false _ c.if-not-are_counts.false-raw)).0
 
 pub are_rows-requires : goal.are_rows-requires
 are_rows-requires c =
@@ -35,7 +35,7 @@ are_rows-requires c =
     let p = c.requires in
     record {
       few = omega (arith, p);
-      loose = (counted (8 * a.size + 1) (length a.ends.now) (length a.marks.now) a.saved (sym (c.are_counts.ensures ∙ ap (λ (n : ℕ). counts_for (8 * a.size + 1) n a.saved) c.places.ensures) ∙ not-false _ c.if-not-are_counts.false-raw)).1;
+      loose = (counted (8 * a.size + 1) (length a.ends.now) (length a.marks.now) a.saved (sym (c.are_counts.ensures ∙ ap (λ (n : ℕ). counts_for (8 * a.size + 1) n a.saved) c.min.ensures) ∙ not-false _ c.if-not-are_counts.false-raw)).1;
     }
 
 pub returns : goal.returns
@@ -43,6 +43,6 @@ returns c =
     let a = c.args in
     c.are_rows.ensures
     ∙ ap₂ (λ (m n : ℕ). rows_for (8 * a.size + 1) a.columns a.changes.now m n a.saved) (c.end_of-start.ensures ∙ ap (end_of a.ends.now) c.one_less.ensures) c.end_of-base.ensures
-    ∙ yes _ _ (sym (c.are_counts.ensures ∙ ap (λ (n : ℕ). counts_for (8 * a.size + 1) n a.saved) c.places.ensures) ∙ not-false _ c.if-not-are_counts.false-raw)
+    ∙ yes _ _ (sym (c.are_counts.ensures ∙ ap (λ (n : ℕ). counts_for (8 * a.size + 1) n a.saved) c.min.ensures) ∙ not-false _ c.if-not-are_counts.false-raw)
     ∙ within a.saved.position a.columns _ c.if-columns-saved.false
     ∙ yes _ _ (sym c.are_bits.ensures ∙ not-false _ c.if-not-are_bits.false-raw)

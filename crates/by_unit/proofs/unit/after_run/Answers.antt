@@ -8,15 +8,15 @@ after_code-requires c =
     let a = c.args in
     rw c.unless_unmoved-tested.ensures (idle-ends a.src.now a.kept a.step a.line _ _ c.requires)
 
-pub returns-in-Stop : goal.returns-in-Stop
-returns-in-Stop c =
+pub returns-in-Err : goal.returns-in-Err
+returns-in-Err c =
     let a = c.args in
-    first-stopped a.src.now a.settings a.ends.now a.marks.now a.kept a.seen a.half a.line a.step _ c.in-First.is _ _ _ c.in-Stop.is _ (ap Done c.said.ensures)
+    first-stopped a.src.now a.settings a.ends.now a.marks.now a.kept a.seen a.half a.line a.step _ c.in-First.is _ c.in-Err.is _ (ap Done c.said.ensures)
 
-pub returns-in-On : goal.returns-in-On
-returns-in-On c =
+pub returns-in-Ok : goal.returns-in-Ok
+returns-in-Ok c =
     let a = c.args in
-    first_on a.src.now a.settings a.ends.now a.marks.now a.kept a.seen a.half a.line a.step _ c.in-First.is _ _ c.in-On.is
+    first_on a.src.now a.settings a.ends.now a.marks.now a.kept a.seen a.half a.line a.step _ c.in-First.is _ _ c.in-Ok.is
 
 pub returns-in-Second : goal.returns-in-Second
 returns-in-Second c =
