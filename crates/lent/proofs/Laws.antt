@@ -9,9 +9,8 @@ use lib.ListN.{length}
 use borrow.Author.Tests.{leb-true, leb-false, eqb-false}
 use Rattle.rules.specs.Lines.{Went, went, failed, push, line_in}
 use Rattle.context.specs.declared.line.Line.{Line}
-use Rattle.context.specs.declared.line.Push.{Push}
-use Rattle.context.specs.declared.line.Push.TheVariants.{On, Stop}
-use Rattle.context.specs.State.{line_at, line_for, push_rules, Holds, push_for, Pushes}
+use Rattle.std.specs.Prelude.{Ok, Err}
+use Rattle.context.specs.State.{line_at, line_for, push_rules, Holds, Push, push_for, Pushes}
 use Rattle.lent.specs.Lent.{tested, number_of, LendsAt, Lends}
 
 -- no number but 0 says that both tests were passed
@@ -57,12 +56,12 @@ module _ (xs : List ℕ) (l : Line) (count : ℕ) (strict : Bool) where
 
   -- the number and the line of the core's answer
   abbrev number_in : Push → ℕ
-  number_in (On m) = 0
-  number_in (Stop n m) = n
+  number_in (Ok m) = 0
+  number_in (Err f) = f.number
 
   abbrev line_of : Push → Line
-  line_of (On m) = m
-  line_of (Stop n m) = m
+  line_of (Ok m) = m
+  line_of (Err f) = f.line
 
   number-of : (w : Went) → number_in (push_for l.width w) ≡ number_of w
   number-of (went s) = refl

@@ -5,7 +5,7 @@
 ghost use Rattle.lent.specs.Lent.{Tested, Lends, start_in};
 
 use context::line;
-use context::line::{Line, Push};
+use context::line::Line;
 
 // What a push answers: 0, or the number of the fault or refusal; and the line after it.
 #[derive(Clone, Copy)]
@@ -41,19 +41,16 @@ pub fn push_line(line: Line, changes: &mut [u32], count: u32, strict: bool) -> P
 {
     let number = refusal(changes.len(), line);
     if number != answer::COMPLETE {
-        return Pushed {
-            number: number,
-            line: line,
-        };
+        return Pushed { number, line };
     }
     match line::push_pixels(changes, line, count, strict) {
-        Push::On(next) => Pushed {
+        Ok(next) => Pushed {
             number: answer::COMPLETE,
             line: next,
         },
-        Push::Stop(fault, so_far) => Pushed {
-            number: fault,
-            line: so_far,
+        Err(fault) => Pushed {
+            number: fault.number,
+            line: fault.line,
         },
     }
 }
@@ -72,15 +69,12 @@ pub fn first_run(width: u32, colour: u32, changes: &mut [u32], count: u32, stric
     ensures { Lends changes.old (start_in width colour) count strict result.number result.line changes.new }
 {
     let mut line = Line {
-        width: width,
+        width,
         position: 0,
         changes: 0,
-        colour: colour,
+        colour,
         cut: 0,
     };
     let number = push_pixels(&mut line, changes, count, strict);
-    Pushed {
-        number: number,
-        line: line,
-    }
+    Pushed { number, line }
 }

@@ -18,16 +18,16 @@ push_pixels-requires c =
     let e : tested (length a.changes.now) a.line ≡ 0 = omega arith in
     tested-holds a.changes.now a.line t.small e
 
-pub returns-in-On : goal.returns-in-On
-returns-in-On c =
+pub returns-in-Ok : goal.returns-in-Ok
+returns-in-Ok c =
     let a = c.args in
     let t = c.refusal-number.ensures in
     let e : tested (length a.changes.now) a.line ≡ 0 = omega arith in
-    lends-pushed a.changes.now a.line a.count a.strict e _ _ c.push_pixels.ensures c.in-On.is
+    lends-pushed a.changes.now a.line a.count a.strict e _ _ c.push_pixels.ensures c.in-Ok.is
 
-pub returns-in-Stop : goal.returns-in-Stop
-returns-in-Stop c =
+pub returns-in-Err : goal.returns-in-Err
+returns-in-Err c =
     let a = c.args in
     let t = c.refusal-number.ensures in
     let e : tested (length a.changes.now) a.line ≡ 0 = omega arith in
-    lends-pushed a.changes.now a.line a.count a.strict e _ _ c.push_pixels.ensures c.in-Stop.is
+    lends-pushed a.changes.now a.line a.count a.strict e _ _ c.push_pixels.ensures c.in-Err.is
