@@ -11,7 +11,7 @@ use Rattle.rules.specs.Bits.{bits_of, peek}
 use Rattle.rules.specs.Pages.{most_bytes}
 use Rattle.rules.proofs.Bits.{peek-nil, length-bits_of}
 use Rattle.bit_reader.specs.Cursor.{moved_by}
-use Rattle.bit_reader.specs.declared.Moved.{Moved}
+use Rattle.std.specs.Prelude.{Option}
 use Rattle.reader.specs.Read.{went_to, went_by}
 use Rattle.reader.specs.declared.cursor.TakenBits.TheVariants.{End, TooLong}
 use Rattle.reader.specs.declared.cursor.Went.{Went}
@@ -41,5 +41,5 @@ module _ (len at n : ℕ) where
       let e : at + (n - n % 32) + n % 32 ≡ at + n = omega arith in
       rw e
 
-  pub went_on : len ≤ most_bytes → (m : Moved) → m ≡ moved_by len (at + (n - n % 32)) (n % 32) → went_to len m ≡ went_by len at n
+  pub went_on : len ≤ most_bytes → (m : Option ℕ) → m ≡ moved_by len (at + (n - n % 32)) (n % 32) → went_to len m ≡ went_by len at n
   went_on h m e = ap (went_to len) (e ∙ moved-steps) ∙ rw (le-ltb most_bytes len h)

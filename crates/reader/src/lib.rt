@@ -72,6 +72,6 @@ pub fn word_after(src: &[u8], n: usize) -> Word
     reader.align();
     Word {
         bits: reader.peek_u32(),
-        answer: answer,
+        answer,
     }
 }

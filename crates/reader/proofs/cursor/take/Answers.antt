@@ -20,12 +20,12 @@ returns-then-end-at-2 c =
     let a = c.args in
     went-to-end (length a.src.now) a.at a.n (omega arith) (omega arith)
 
-pub returns-in-To : goal.returns-in-To
-returns-in-To c =
+pub returns-in-Some : goal.returns-in-Some
+returns-in-Some c =
     let a = c.args in
-    went_on (length a.src.now) a.at a.n (omega arith) _ (sym c.in-To.is ∙ c.consume.ensures)
+    went_on (length a.src.now) a.at a.n (omega arith) _ (sym c.in-Some.is ∙ c.consume.ensures)
 
-pub returns-in-End : goal.returns-in-End
-returns-in-End c =
+pub returns-in-None : goal.returns-in-None
+returns-in-None c =
     let a = c.args in
-    went_on (length a.src.now) a.at a.n (omega arith) _ (sym c.in-End.is ∙ c.consume.ensures)
+    went_on (length a.src.now) a.at a.n (omega arith) _ (sym c.in-None.is ∙ c.consume.ensures)
