@@ -11,20 +11,12 @@ pub fn ascend(width: u32, changes: &[u32], ends: &[u64]) -> bool
     ensures { result ≡ good_rows width changes.now 0 ends.now }
 {
     let mut base: usize = 0;
-    let mut k: usize = 0;
-    while k < ends.len() {
-        let end = ends[k] as usize;
-        if end < base {
-            return false;
-        }
-        if changes.len() < end {
-            return false;
-        }
-        if !reference::ascends(&changes[base..end], width) {
+    for row_end in ends {
+        let end = *row_end as usize;
+        if end < base || changes.len() < end || !reference::ascends(&changes[base..end], width) {
             return false;
         }
         base = end;
-        k += 1;
     }
     true
 }
