@@ -11,9 +11,8 @@ use Rattle.rules.specs.Bits.{bit, bits_for, bits_of, peek}
 use Rattle.rules.specs.Lookup.{begins, shared}
 use Rattle.rules.proofs.Bits.{length-bits_for, length-bits_of, peek-high, bits-peek, window-take}
 use Rattle.tables.specs.declared.Code.{Code}
-use Rattle.writer.specs.declared.met.Met.{Met}
 use Rattle.writer.specs.Putting.{Sound}
-use Rattle.writer.specs.Meeting.{Meets}
+use Rattle.writer.specs.Meeting.{Met, Meets}
 use Rattle.writer.proofs.Leaving.{Left, left-none, left-parts, left-on, shared-all}
 
 -- ---- One bit

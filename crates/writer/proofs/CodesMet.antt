@@ -15,11 +15,10 @@ use Rattle.tables.specs.declared.Code.{Code}
 use Rattle.context.specs.Reference.{Passed}
 use Rattle.bit_reader.specs.Loaded.{Loading}
 use Rattle.row_store.proofs.GoodRows.{row_to}
-use Rattle.writer.specs.declared.met.Met.{Met}
 use Rattle.writer.specs.Putting.{Spells}
 use Rattle.writer.specs.Coding.{largest, across, line_of}
 use Rattle.writer.specs.Paging.{page_of}
-use Rattle.writer.specs.Meeting.{Meets, Facing, Facings}
+use Rattle.writer.specs.Meeting.{Met, Meets, Facing, Facings}
 use Rattle.writer.proofs.RunCodes.{run-last, makeup-spells, makeup-first, terminating-spells}
 use Rattle.writer.proofs.Turns.{Turn}
 use Rattle.writer.proofs.AlongLine as Line

@@ -11,11 +11,10 @@ use Rattle.rules.specs.Rising.{none}
 use Rattle.tables.specs.Tables.{colour_of}
 use Rattle.tables.specs.declared.Code.{Code}
 use Rattle.bit_reader.specs.Loaded.{Loading}
-use Rattle.writer.specs.declared.met.Met.{Met}
 use Rattle.writer.specs.Putting.{Spells}
 use Rattle.writer.specs.Coding.{line1_of}
 use Rattle.writer.specs.Paging3.{kind_from, line_from, row3_of}
-use Rattle.writer.specs.Meeting.{Meets, Facing}
+use Rattle.writer.specs.Meeting.{Met, Meets, Facing}
 use Rattle.writer.proofs.EolCodes.{zeros-spell, zeros-first, zeros-last, times-first, times-last}
 use Rattle.writer.proofs.AlongLine1.{Along1, runs_to_come, start1, start1-all, run-first, onward1, run-last}
 use Rattle.writer.proofs.Row3Laws.{ahead-first, end-filled}

@@ -3,6 +3,10 @@
 use mathlib.Core.Path.{◌≡◌, refl, sym, ap, ◌∙◌, subst}
 use mathlib.Core.Bool.{Bool, true, false, true≢false}
 use mathlib.Core.List.{List, [], ◌∷◌, ◌++◌}
+use Rattle.std.specs.Prelude.{Result, Err}
+use Rattle.std.specs.Result.{IsErrAnd}
+use Rattle.std.proofs.lemmas.Result.{err_from_is_err_and}
+use Rattle.writer.specs.declared.met.Unmet.{Unmet}
 use Prim.Native.Nat.{ℕ, suc, ◌+◌, ◌≤◌, ◌<◌}
 use native.Mathlib.Omega.{arith}
 use lib.Dec.{eqb}
@@ -14,9 +18,8 @@ use Rattle.rules.specs.Lookup.{begins, shared}
 use Rattle.rules.proofs.Bits.{length-bits_of}
 use Rattle.tables.specs.declared.Code.{Code}
 use Rattle.bit_reader.specs.Loaded.{Loading}
-use Rattle.writer.specs.declared.met.Met.{Met}
 use Rattle.writer.specs.Putting.{Spells}
-use Rattle.writer.specs.Meeting.{Meets}
+use Rattle.writer.specs.Meeting.{Met, met_of, Meets}
 
 -- ---- What bits share
 
@@ -113,6 +116,10 @@ left_as {bytes} {next} {from = from} {all} e = subst (λ (l : List Bool). Left b
 
 pub meets-as : {bytes : List ℕ} {at : ℕ} {xs ys : List Bool} {r : Met} → xs ≡ ys → Meets bytes at xs r → Meets bytes at ys r
 meets-as {bytes} {at} {r = r} e = subst (λ (l : List Bool). Meets bytes at l r) e
+
+-- a refusal that `?` passes on is the one that came
+pub passed_on : {bytes : List ℕ} {at : ℕ} {xs : List Bool} (r : Result ℕ Unmet) {u : Unmet} → IsErrAnd r (λ v. v ≡ u) → Meets bytes at xs (met_of (Err u)) → Meets bytes at xs (met_of r)
+passed_on r q m = let p = err_from_is_err_and r q in rw (p.1, p.2) m
 
 -- what was met ends in the data
 pub met-inside : {bytes : List ℕ} {at : ℕ} {xs : List Bool} {r : Met} → Loading bytes at → Meets bytes at xs r → Loading bytes r.at

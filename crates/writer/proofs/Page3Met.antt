@@ -14,10 +14,9 @@ use Rattle.rules.specs.Write.{line_bits, eol_bits, rows_in}
 use Rattle.rules.specs.WriteGroup3.{Layout, bare, filled, mixed, k_of, left_next, ending, page3_bits}
 use Rattle.rules.specs.Proper.{kind_by, tags_along, k_by}
 use Rattle.row_store.proofs.GoodRows.{row_to}
-use Rattle.writer.specs.declared.met.Met.{Met}
 use Rattle.writer.specs.declared.kinds.Turned.{Turned}
 use Rattle.writer.specs.Paging3.{kind_from, line_from, row3_of}
-use Rattle.writer.specs.Meeting.{Meets, Facing, Facings}
+use Rattle.writer.specs.Meeting.{Met, Meets, Facing, Facings}
 use Rattle.writer.specs.Meeting3.{found_in, found_page, every_of, turn_of}
 use Rattle.writer.proofs.AtRows.{AtRow, first-row, tested, next_row}
 use Rattle.writer.proofs.Row3Laws.{ahead-mixed}

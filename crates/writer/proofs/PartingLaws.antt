@@ -18,12 +18,11 @@ use Rattle.rules.specs.Proper.{most_fill, writes_rows, writer_bits, padded, layo
 use Rattle.rules.proofs.Bits.{both_true, length-bits_of}
 use Rattle.bit_reader.specs.Loaded.{Loading}
 use Rattle.row_store.specs.Store.{good_rows}
-use Rattle.writer.specs.declared.met.Met.{Met}
 use Rattle.writer.specs.declared.Parting.{Parting}
 use Rattle.writer.specs.Putting.{Sound}
 use Rattle.writer.specs.Paging.{page_of}
 use Rattle.writer.specs.Outcome.{first_tests, parting_of}
-use Rattle.writer.specs.Meeting.{Meets, Facings, parting_from}
+use Rattle.writer.specs.Meeting.{Met, Meets, Facings, parting_from}
 use Rattle.writer.specs.Paging3.{page3_of}
 use Rattle.writer.specs.Meeting3.{all_tests, found_in, found_page}
 use Rattle.writer.proofs.Answering.{First, first-passed}
@@ -73,23 +72,22 @@ module _ {bytes : List ℕ} {met : Met} (l : Loading bytes met.at) (xs : List Bo
   begin = record { size = l.size; inside = omega arith }
 
   -- the page itself is not met,
-  pub page-parts : met.same ≡ false → ◌≡◌ {A = Parting} (record { number = 0; same = false; place = met.at }) (parting_from xs bytes)
+  pub page-parts : met.same ≡ false → Meets bytes 0 (padded xs) met
   unfolding padded
-  page-parts d = said whole (left-parts (left-all whole begin) xs (to_byte (length xs)) refl m d) (ap (λ (b : Bool). b && eqb met.at (8 * length bytes)) (sym d))
+  page-parts d = left-parts (left-all whole begin) xs (to_byte (length xs)) refl m d
 
   -- or it is, and its zeros tell
-  pub page-ends : met.same ≡ true → {r : Met} → Meets bytes met.at (to_byte met.at) r → {s : Bool} → s ≡ (r.same && eqb r.at (8 * length bytes))
-      → ◌≡◌ {A = Parting} (record { number = 0; same = s; place = r.at }) (parting_from xs bytes)
+  pub page-ends : met.same ≡ true → {r : Met} → Meets bytes met.at (to_byte met.at) r → Meets bytes 0 (padded xs) r
   unfolding padded
-  page-ends d z =
-      said whole (left-last (left-on (left-all whole begin) xs (to_byte (length xs)) refl m d) (to_byte met.at) (ap to_byte there) z)
+  page-ends d z = left-last (left-on (left-all whole begin) xs (to_byte (length xs)) refl m d) (to_byte met.at) (ap to_byte there) z
     where
       there : length xs ≡ met.at
       there = sym (m.place ∙ ap (λ (n : ℕ). 0 + n) (shared-all xs (drop 0 (bits_of bytes)) (sym m.whole ∙ d)) ∙ (let q : 0 + length xs ≡ length xs = omega arith in q))
 
--- what is not met is not the page
-pub unmet : {b : Bool} (d : Bool) → b ≡ false → b ≡ (b && d)
-unmet {b} d e = e ∙ ap (λ (a : Bool). a && d) (sym e)
+-- what is answered of them
+pub page-told : {bytes : List ℕ} (xs : List Bool) {r : Met} → Meets bytes 0 (padded xs) r → {s : Bool} → s ≡ (r.same && eqb r.at (8 * length bytes))
+    → ◌≡◌ {A = Parting} (record { number = 0; same = s; place = r.at }) (parting_from xs bytes)
+page-told xs = said (padded xs)
 
 -- ---- The tests that come first
 

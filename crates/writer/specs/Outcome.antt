@@ -1,5 +1,5 @@
 -- What a writer answers and leaves (01 "The row store and what the desk says").
-use Rattle.std.specs.Prelude.{◌≡◌, cond, List, [], ℕ, ltb, length}
+use Rattle.std.specs.Prelude.{◌≡◌, Option, None, Some, cond, List, [], ℕ, ltb, length}
 use Rattle.rules.specs.Bits.{bits_of}
 use Rattle.rules.specs.Pages.{most_bytes, no_line}
 use Rattle.rules.specs.Write.{Written}
@@ -11,6 +11,11 @@ use Rattle.writer.specs.declared.Parting.{Parting}
 -- 6 and 7 in this order; 0 where both are passed
 abbrev pub first_tests : ℕ → ℕ → ℕ
 first_tests columns bytes = cond (no_line columns) 6 (cond (ltb most_bytes bytes) 7 0)
+
+-- the number of a refusal, or nothing where the tests give 0
+abbrev pub Refuses : ℕ → Option ℕ → Type 0
+Refuses n None = n ≡ 0
+Refuses n (Some k) = (k ≡ n) × (k ≡ 0 → ⊥)
 
 -- "A writer's 0 gives the bit after the line, or the page's bytes; its other counts are 0."
 abbrev pub answer_for : ℕ → ℕ → Answer

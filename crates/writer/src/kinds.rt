@@ -12,7 +12,7 @@ const MOST_K: u32 = 65535;
 const EOL_BITS: usize = 12;
 
 // Whether a line is 1D, and what holds behind it: K, or 0 while it is not known; and how many 2D lines may come before the next 1D line,
-// or how many lines came while K is not known.
+// or how many lines came while K is not known. Both numbers hold for lines of either kind, so the kind stands beside them.
 #[derive(Clone, Copy)]
 pub(crate) struct Turned {
     pub(crate) single: bool,

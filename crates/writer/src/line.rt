@@ -54,8 +54,7 @@ fn alike(reference: &[u32], above: usize, row: &[u32], place: usize) -> usize
     requires { (above < 9223372036854775808) × (place < 9223372036854775808) }
     ensures { Alike reference.now above row.now place result }
 {
-    let mut k: usize = 0;
-    while k < MOST_ALIKE {
+    for k in 0..MOST_ALIKE {
         if row.len() <= place + k {
             return k;
         }
@@ -65,9 +64,8 @@ fn alike(reference: &[u32], above: usize, row: &[u32], place: usize) -> usize
         if row[place + k] != reference[above + k] {
             return k;
         }
-        k += 1;
     }
-    k
+    MOST_ALIKE
 }
 
 // As many V0 codes as one code of ones, or nothing.

@@ -3,9 +3,9 @@ ghost use Rattle.std.specs.Prelude.{◌≤◌};
 ghost use Rattle.tables.specs.Tables.{colour_of};
 ghost use Rattle.bit_reader.specs.Loaded.{Loading};
 ghost use Rattle.writer.specs.Coding.{Lent, across, line_of};
-ghost use Rattle.writer.specs.Meeting.{Meets, Facing};
+ghost use Rattle.writer.specs.Meeting.{Meets, met_of, Facing};
 
-use crate::met::Met;
+use crate::met::Unmet;
 use crate::{met, mode, same_run};
 use context::reference;
 
@@ -21,19 +21,13 @@ fn same_horizontal<'a>(
     second: u32,
     src: &[u8],
     at: usize,
-) -> Met
+) -> Result<usize, Unmet>
     requires { Lent wt.now bt.now wm.now bm.now common.now × (colour ≤ 1) × Loading src.now at }
-    ensures { Meets src.now at (across (colour_of colour) first second) result }
+    ensures { Meets src.now at (across (colour_of colour) first second) (met_of result) }
 {
-    let met = met::meet(src, at, mode::horizontal());
-    if !met.same {
-        return met;
-    }
-    let middle = same_run::same_run(wt, bt, wm, bm, common, colour, first, src, met.at);
-    if !middle.same {
-        return middle;
-    }
-    same_run::same_run(wt, bt, wm, bm, common, 1 - colour, second, src, middle.at)
+    let met = met::meet(src, at, mode::horizontal())?;
+    let middle = same_run::same_run(wt, bt, wm, bm, common, colour, first, src, met)?;
+    same_run::same_run(wt, bt, wm, bm, common, 1 - colour, second, src, middle)
 }
 
 // A row's codes at bit `at` of the data, to the first that is not met: `line::put_line` with the data in the place of the output.
@@ -48,9 +42,9 @@ pub(crate) fn same_line<'a>(
     row: &[u32],
     src: &[u8],
     at: usize,
-) -> Met
+) -> Result<usize, Unmet>
     requires { Lent wt.now bt.now wm.now bm.now common.now × Facing width reference.now row.now × Loading src.now at }
-    ensures { Meets src.now at (line_of width reference.now row.now) result }
+    ensures { Meets src.now at (line_of width reference.now row.now) (met_of result) }
 {
     let mut next = at;
     let mut position: u32 = 0;
@@ -62,20 +56,12 @@ pub(crate) fn same_line<'a>(
         let a1 = reference::change_or(row, place, width);
         seen = found.seen;
         if found.b2 < a1 {
-            let met = met::meet(src, next, mode::pass());
-            if !met.same {
-                return met;
-            }
-            next = met.at;
+            next = met::meet(src, next, mode::pass())?;
             position = found.b2;
             continue;
         }
         if mode::distance(found.b1, a1) <= 3 {
-            let met = met::meet(src, next, mode::vertical(found.b1, a1));
-            if !met.same {
-                return met;
-            }
-            next = met.at;
+            next = met::meet(src, next, mode::vertical(found.b1, a1))?;
             position = a1;
             colour = 1 - colour;
             place += 1;
@@ -84,16 +70,9 @@ pub(crate) fn same_line<'a>(
         let a2 = reference::change_or(row, place + 1, width);
         let first = a1 - position;
         let second = a2 - a1;
-        let met = same_horizontal(wt, bt, wm, bm, common, colour, first, second, src, next);
-        if !met.same {
-            return met;
-        }
-        next = met.at;
+        next = same_horizontal(wt, bt, wm, bm, common, colour, first, second, src, next)?;
         position = a2;
         place += 2;
     }
-    Met {
-        at: next,
-        same: true,
-    }
+    Ok(next)
 }

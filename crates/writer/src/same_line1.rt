@@ -2,9 +2,9 @@
 ghost use Rattle.std.specs.Prelude.{[]};
 ghost use Rattle.bit_reader.specs.Loaded.{Loading};
 ghost use Rattle.writer.specs.Coding.{Lent, line1_of};
-ghost use Rattle.writer.specs.Meeting.{Meets, Facing};
+ghost use Rattle.writer.specs.Meeting.{Meets, met_of, Facing};
 
-use crate::met::Met;
+use crate::met::Unmet;
 use crate::same_run;
 
 // A row's runs at bit `at` of the data, to the first that is not met.
@@ -18,25 +18,18 @@ pub(crate) fn same_line1<'a>(
     row: &[u32],
     src: &[u8],
     at: usize,
-) -> Met
+) -> Result<usize, Unmet>
     requires { Lent wt.now bt.now wm.now bm.now common.now × Facing width [] row.now × Loading src.now at }
-    ensures { Meets src.now at (line1_of width row.now) result }
+    ensures { Meets src.now at (line1_of width row.now) (met_of result) }
 {
     let mut next = at;
     let mut position: u32 = 0;
     let mut colour: u32 = 0;
-    let mut place: usize = 0;
-    while place < row.len() {
-        let change = row[place];
-        let run = change - position;
-        let met = same_run::same_run(wt, bt, wm, bm, common, colour, run, src, next);
-        if !met.same {
-            return met;
-        }
-        next = met.at;
-        position = change;
+    for change in row {
+        let run = *change - position;
+        next = same_run::same_run(wt, bt, wm, bm, common, colour, run, src, next)?;
+        position = *change;
         colour = 1 - colour;
-        place += 1;
     }
     let left = width - position;
     same_run::same_run(wt, bt, wm, bm, common, colour, left, src, next)

@@ -2,28 +2,28 @@
 ghost use Rattle.std.specs.Prelude.{◌≡◌};
 ghost use Rattle.writer.specs.Coding.{Lent};
 ghost use Rattle.writer.specs.Paging3.{layout_of};
-ghost use Rattle.writer.specs.Meeting.{Meets, Facings, parting_from};
+ghost use Rattle.writer.specs.Meeting.{Meets, met_of, Facings, parting_from};
+ghost use Rattle.writer.specs.Outcome.{Refuses};
 ghost use Rattle.writer.specs.Meeting3.{all_tests, found_page};
 
 use crate::layout::Layout;
-use crate::met::Met;
+use crate::met::Unmet;
 use crate::{Parting, kinds, layout, outcome, same_page, same_row3};
 
-// 6, 7 and 8, also for no rows; 0 where all are passed.
-pub(crate) fn refused(columns: u32, changes: &[u32], ends: &[u64], bytes: usize) -> u32
-    ensures { result ≡ all_tests columns changes.now ends.now bytes }
+// 6, 7 and 8, also for no rows; nothing where all are passed.
+pub(crate) fn refused(columns: u32, changes: &[u32], ends: &[u64], bytes: usize) -> Option<u32>
+    ensures { Refuses (all_tests columns changes.now ends.now bytes) result }
 {
-    let number = outcome::refused(columns, bytes);
-    if number != answer::COMPLETE {
-        return number;
+    if let Some(number) = outcome::refused(columns, bytes) {
+        return Some(number);
     }
     if ends.len() == 0 {
-        return answer::BAD_ROWS;
+        return Some(answer::BAD_ROWS);
     }
     if !row_store::ascend(columns, changes, ends) {
-        return answer::BAD_ROWS;
+        return Some(answer::BAD_ROWS);
     }
-    0
+    None
 }
 
 // The page's bits from bit 0 on, to the first code that is not met. K is found on the way: what is met before that has the same bits
@@ -39,22 +39,21 @@ fn same_page3<'a>(
     changes: &[u32],
     ends: &[u64],
     src: &[u8],
-) -> Met
+) -> Result<usize, Unmet>
     requires { Lent wt.now bt.now wm.now bm.now common.now × Facings width changes.now ends.now src.now }
-    ensures { Meets src.now 0 (found_page (layout_of layout) width changes.now ends.now src.now) result }
+    ensures { Meets src.now 0 (found_page (layout_of layout) width changes.now ends.now src.now) (met_of result) }
 {
     let mut next: usize = 0;
     let mut from: usize = 0;
     let mut base: usize = 0;
-    let mut k: usize = 0;
     let mut every = layout::every(layout);
     let mut left: u32 = 0;
-    while k < ends.len() {
-        let end = ends[k] as usize;
+    for row_end in ends {
+        let end = *row_end as usize;
         let above = &changes[from..base];
         let row = &changes[base..end];
         let turned = kinds::turn(src, next, every, left);
-        let met = same_row3::same_row(
+        next = same_row3::same_row(
             wt,
             bt,
             wm,
@@ -67,14 +66,9 @@ fn same_page3<'a>(
             row,
             src,
             next,
-        );
-        if !met.same {
-            return met;
-        }
-        next = met.at;
+        )?;
         from = base;
         base = end;
-        k += 1;
         every = turned.every;
         left = turned.left;
     }

@@ -5,19 +5,19 @@ ghost use Rattle.rules.specs.WriteGroup3.{ahead, ending};
 ghost use Rattle.bit_reader.specs.Loaded.{Loading};
 ghost use Rattle.writer.specs.Coding.{Lent};
 ghost use Rattle.writer.specs.Paging3.{layout_of, kind_from, line_from, row3_of};
-ghost use Rattle.writer.specs.Meeting.{Meets, Facing};
+ghost use Rattle.writer.specs.Meeting.{Meets, met_of, Facing};
 
 use crate::layout::Layout;
-use crate::met::Met;
+use crate::met::Unmet;
 use crate::{eols, met, same_eols, same_line, same_line1};
 
 // What stands before a line, at bit `at` of the data; without EOLs that is nothing.
-fn same_ahead(src: &[u8], at: usize, layout: Layout, single: bool) -> Met
+fn same_ahead(src: &[u8], at: usize, layout: Layout, single: bool) -> Result<usize, Unmet>
     requires { Loading src.now at }
-    ensures { Meets src.now at (ahead (layout_of layout) (kind_from single [])) result }
+    ensures { Meets src.now at (ahead (layout_of layout) (kind_from single [])) (met_of result) }
 {
     match layout {
-        Layout::Bare => Met { at, same: true },
+        Layout::Bare => Ok(at),
         Layout::Filled(fill) => same_eols::same_filled(src, at, fill),
         Layout::Mixed(_) => met::meet(src, at, eols::tagged(single)),
     }
@@ -36,9 +36,9 @@ fn same_kind<'a>(
     row: &[u32],
     src: &[u8],
     at: usize,
-) -> Met
+) -> Result<usize, Unmet>
     requires { Lent wt.now bt.now wm.now bm.now common.now × Facing width above.now row.now × Loading src.now at }
-    ensures { Meets src.now at (line_from width single above.now row.now) result }
+    ensures { Meets src.now at (line_from width single above.now row.now) (met_of result) }
 {
     if single {
         return same_line1::same_line1(wt, bt, wm, bm, common, width, row, src, at);
@@ -60,32 +60,24 @@ pub(crate) fn same_row<'a>(
     row: &[u32],
     src: &[u8],
     at: usize,
-) -> Met
+) -> Result<usize, Unmet>
     requires { Lent wt.now bt.now wm.now bm.now common.now × Facing width above.now row.now × Loading src.now at }
-    ensures { Meets src.now at (row3_of (layout_of layout) width single above.now row.now) result }
+    ensures { Meets src.now at (row3_of (layout_of layout) width single above.now row.now) (met_of result) }
 {
-    let met = same_ahead(src, at, layout, single);
-    if !met.same {
-        return met;
-    }
-    same_kind(
-        wt, bt, wm, bm, common, width, single, above, row, src, met.at,
-    )
+    let met = same_ahead(src, at, layout, single)?;
+    same_kind(wt, bt, wm, bm, common, width, single, above, row, src, met)
 }
 
 // What stands behind the last line: six EOLs, with fill before the first alone, or with tag bits of 1; without EOLs nothing.
-pub(crate) fn same_end(src: &[u8], at: usize, layout: Layout) -> Met
+pub(crate) fn same_end(src: &[u8], at: usize, layout: Layout) -> Result<usize, Unmet>
     requires { Loading src.now at }
-    ensures { Meets src.now at (ending (layout_of layout)) result }
+    ensures { Meets src.now at (ending (layout_of layout)) (met_of result) }
 {
     match layout {
-        Layout::Bare => Met { at, same: true },
+        Layout::Bare => Ok(at),
         Layout::Filled(fill) => {
-            let met = same_eols::same_filled(src, at, fill);
-            if !met.same {
-                return met;
-            }
-            same_eols::same_times(src, met.at, eols::eol(), 5)
+            let met = same_eols::same_filled(src, at, fill)?;
+            same_eols::same_times(src, met, eols::eol(), 5)
         }
         Layout::Mixed(_) => same_eols::same_times(src, at, eols::tagged(true), 6),
     }

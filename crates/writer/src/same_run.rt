@@ -3,9 +3,9 @@ ghost use Rattle.rules.specs.Write.{run_bits};
 ghost use Rattle.tables.specs.Tables.{colour_of};
 ghost use Rattle.bit_reader.specs.Loaded.{Loading};
 ghost use Rattle.writer.specs.Coding.{Lent};
-ghost use Rattle.writer.specs.Meeting.{Meets};
+ghost use Rattle.writer.specs.Meeting.{Meets, met_of};
 
-use crate::met::Met;
+use crate::met::Unmet;
 use crate::{met, run};
 
 // A run's codes at bit `at` of the data, to the first that is not met.
@@ -19,20 +19,16 @@ pub(crate) fn same_run<'a>(
     run: u32,
     src: &[u8],
     at: usize,
-) -> Met
+) -> Result<usize, Unmet>
     requires { Lent wt.now bt.now wm.now bm.now common.now × Loading src.now at }
-    ensures { Meets src.now at (run_bits (colour_of colour) run) result }
+    ensures { Meets src.now at (run_bits (colour_of colour) run) (met_of result) }
 {
     let mut left = run;
     let mut next = at;
     while 64 <= left {
         let m = run::largest(left);
         let code = tables::makeup(wm, bm, common, colour as usize, m as usize);
-        let met = met::meet(src, next, code);
-        if !met.same {
-            return met;
-        }
-        next = met.at;
+        next = met::meet(src, next, code)?;
         left -= 64 * m;
     }
     let code = tables::terminating(wt, bt, colour as usize, left as usize);

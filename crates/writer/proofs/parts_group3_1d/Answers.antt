@@ -1,18 +1,18 @@
 -- `writer::parts_group3_1d` meets its contract. The layout that is found in the data is the definition's. Assumes nothing.
-use mathlib.Core.Path.{sym, ◌∙◌}
+use mathlib.Core.Path.{◌∙◌}
 use native.Mathlib.Omega.{arith}
 use lib.ListN.{length}
 use Rattle.writer.proofs.PartingLaws.{passed3, refused-1d, faced3, said-1d}
 use Rattle.writer.proofs.parts_group3_1d.Goals as goal
 
-pub returns-then-number-ne-COMPLETE : goal.returns-then-number-ne-COMPLETE
-returns-then-number-ne-COMPLETE c = c.not_asked.ensures ∙ refused-1d c.args.columns c.args.changes.now c.args.ends.now c.args.src.now _ c.refused-number.ensures c.if-number-ne-COMPLETE.true
+pub returns-in-Some : goal.returns-in-Some
+returns-in-Some c = c.not_asked.ensures ∙ refused-1d c.args.columns c.args.changes.now c.args.ends.now c.args.src.now _ c.in-Some.ensures.0 c.in-Some.ensures.1
 
 pub of_data-requires : goal.of_data-requires
-of_data-requires c = record { size = (passed3 c.args.columns c.args.changes.now c.args.ends.now (length c.args.src.now) (sym c.refused-number.ensures ∙ c.if-number-ne-COMPLETE.false)).first.small; inside = omega arith }
+of_data-requires c = record { size = (passed3 c.args.columns c.args.changes.now c.args.ends.now (length c.args.src.now) c.in_default.ensures).first.small; inside = omega arith }
 
 pub parts-requires : goal.parts-requires
-parts-requires c = faced3 c.args.columns c.args.changes.now c.args.ends.now c.args.src.now (passed3 c.args.columns c.args.changes.now c.args.ends.now (length c.args.src.now) (sym c.refused-number.ensures ∙ c.if-number-ne-COMPLETE.false)) (omega (arith, c.ranges.columns))
+parts-requires c = faced3 c.args.columns c.args.changes.now c.args.ends.now c.args.src.now (passed3 c.args.columns c.args.changes.now c.args.ends.now (length c.args.src.now) c.in_default.ensures) (omega (arith, c.ranges.columns))
 
 pub returns : goal.returns
-returns c = c.parts.ensures ∙ said-1d c.args.columns c.args.changes.now c.args.ends.now c.args.src.now (passed3 c.args.columns c.args.changes.now c.args.ends.now (length c.args.src.now) (sym c.refused-number.ensures ∙ c.if-number-ne-COMPLETE.false)) _ c.of_data.ensures
+returns c = c.parts.ensures ∙ said-1d c.args.columns c.args.changes.now c.args.ends.now c.args.src.now (passed3 c.args.columns c.args.changes.now c.args.ends.now (length c.args.src.now) c.in_default.ensures) _ c.of_data.ensures

@@ -7,19 +7,19 @@ use Rattle.writer.proofs.Answering.{first-passed}
 use Rattle.writer.proofs.PartingLaws.{first_said, rows-said-4, page-said-4, faced}
 use Rattle.writer.proofs.parts_page.Goals as goal
 
-pub returns-then-number-ne-COMPLETE : goal.returns-then-number-ne-COMPLETE
-returns-then-number-ne-COMPLETE c =
-    c.not_asked.ensures ∙ first_said group4 _ _ _ _ _ c.refused-number.ensures c.if-number-ne-COMPLETE.true
+pub returns-in-Some : goal.returns-in-Some
+returns-in-Some c =
+    c.not_asked.ensures ∙ first_said group4 _ _ _ _ _ c.in-Some.ensures.0 c.in-Some.ensures.1
 
 pub returns-then-not-ascend : goal.returns-then-not-ascend
 returns-then-not-ascend c =
     c.not_asked-then-not-ascend.ensures
-    ∙ rows-said-4 _ _ _ _ (first-passed _ _ (sym c.refused-number.ensures ∙ c.if-number-ne-COMPLETE.false)) (sym c.ascend.ensures ∙ not-true _ c.if-not-ascend.true-raw)
+    ∙ rows-said-4 _ _ _ _ (first-passed _ _ c.in_default.ensures) (sym c.ascend.ensures ∙ not-true _ c.if-not-ascend.true-raw)
 
 pub parts-requires : goal.parts-requires
 parts-requires c =
-    faced (first-passed _ _ (sym c.refused-number.ensures ∙ c.if-number-ne-COMPLETE.false)) (omega (arith, c.ranges.columns)) _ _ (sym c.ascend.ensures ∙ not-false _ c.if-not-ascend.false-raw)
+    faced (first-passed _ _ c.in_default.ensures) (omega (arith, c.ranges.columns)) _ _ (sym c.ascend.ensures ∙ not-false _ c.if-not-ascend.false-raw)
 
 pub returns : goal.returns
 returns c =
-    c.parts.ensures ∙ page-said-4 _ _ _ _ (first-passed _ _ (sym c.refused-number.ensures ∙ c.if-number-ne-COMPLETE.false)) (sym c.ascend.ensures ∙ not-false _ c.if-not-ascend.false-raw)
+    c.parts.ensures ∙ page-said-4 _ _ _ _ (first-passed _ _ c.in_default.ensures) (sym c.ascend.ensures ∙ not-false _ c.if-not-ascend.false-raw)

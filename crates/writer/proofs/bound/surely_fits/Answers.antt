@@ -9,9 +9,6 @@ use Rattle.writer.proofs.bound.surely_fits.Goals as goal
 pub returns-then-rows-gt-MOST : goal.returns-then-rows-gt-MOST
 returns-then-rows-gt-MOST c = λ e. absurd (true≢false (sym e))
 
-pub returns-then-entries-gt-MOST : goal.returns-then-entries-gt-MOST
-returns-then-entries-gt-MOST c = λ e. absurd (true≢false (sym e))
-
 pub overflow_mul-result-2 : goal.overflow_mul-result-2
 overflow_mul-result-2 c = rw c.most_row-row.ensures (omega (arith, rows_fit _ c.args.columns c.if-rows-gt-MOST.false (omega (arith, c.ranges.columns))))
 

@@ -1,4 +1,5 @@
 -- `writer::line::alike` meets its contract. The invariant is what it ensures, of those that were seen. Assumes nothing.
+use mathlib.Core.Path.{◌≡◌}
 use native.Mathlib.Omega.{arith}
 use borrow.Author.Count.{below_more}
 use Rattle.writer.proofs.line.alike.Goals as goal
@@ -39,16 +40,12 @@ bounds-reference-above c = omega arith
 pub returns-then-row-place-2 : goal.returns-then-row-place-2
 returns-then-row-place-2 c = c.loop-k.invariant
 
-pub overflow_add-k : goal.overflow_add-k
-overflow_add-k c = omega arith
-
-pub loop-k-smaller : goal.loop-k-smaller
-loop-k-smaller c = omega arith
-
 pub loop-k-preserved : goal.loop-k-preserved
 loop-k-preserved c =
     let inv = c.loop-k.invariant in
     record { few = omega arith; each = below_more _ _ inv.each (c.if-reference-above.false, c.if-row-place.false, c.if-row-place-2.false) }
 
 pub returns : goal.returns
-returns c = c.loop-k.invariant
+returns c =
+    let all : c.loop-k.k ≡ 8 = omega (arith, c.loop-k.invariant.few, c.loop-k-test.false) in
+    rw all at c.loop-k.invariant

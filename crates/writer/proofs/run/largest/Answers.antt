@@ -1,13 +1,19 @@
--- `writer::run::largest` meets its contract. By the test of `largest`. Assumes nothing.
-use Prim.Native.Nat.{◌/◌}
-use borrow.Author.Tests.{le-leb, lt-leb}
+-- `writer::run::largest` meets its contract: the smaller of two numbers is told by their test. Assumes nothing.
+use mathlib.Core.Path.{◌≡◌, refl, ◌∙◌}
+use mathlib.Core.Bool.{Bool, true, false, cond}
+use Prim.Native.Nat.{ℕ, min, ◌/◌}
+use native.Mathlib.Omega.{arith}
+use lib.Dec.{leb}
+use borrow.Author.Tests.{leb-true, leb-false}
 use Rattle.rules.specs.Write.{most_makeup}
 use Rattle.writer.proofs.run.largest.Goals as goal
 
-pub returns-then-left-ge-MOST_MAKEUP : goal.returns-then-left-ge-MOST_MAKEUP
-returns-then-left-ge-MOST_MAKEUP c =
-    rw (le-leb most_makeup (c.args.left / 64) c.if-left-ge-MOST_MAKEUP.true)
+smaller : (n : ℕ) → min n most_makeup ≡ cond (leb most_makeup n) most_makeup n
+smaller n = tests (leb most_makeup n) refl
+  where
+    tests : (b : Bool) → leb most_makeup n ≡ b → min n most_makeup ≡ cond b most_makeup n
+    tests true e = omega (arith, leb-true most_makeup n e)
+    tests false e = omega (arith, leb-false most_makeup n e)
 
 pub returns : goal.returns
-returns c =
-    rw (lt-leb most_makeup (c.args.left / 64) c.if-left-ge-MOST_MAKEUP.false)
+returns c = c.min.ensures ∙ smaller (c.args.left / 64)

@@ -1,32 +1,32 @@
 -- `writer::same_eols::same_times` meets its contract. The loop's invariant: the codes that are left come to all. Assumes nothing.
+use mathlib.Core.Path.{◌≡◌, refl}
+use Prim.Native.Nat.{◌+◌, ◌-◌}
 use native.Mathlib.Omega.{arith}
-use borrow.Author.Tests.{not-true, not-false}
 use Rattle.rules.specs.Bits.{bits_for}
-use Rattle.writer.proofs.Leaving.{left-all}
+use Rattle.writer.proofs.Leaving.{left-all, passed_on}
 use Rattle.writer.proofs.CodesMet3.{times-parts, times-on, times-met}
 use Rattle.writer.proofs.same_eols.same_times.Goals as goal
 
-pub loop-left-init : goal.loop-left-init
-loop-left-init c = (left-all _ c.requires.2, c.requires.0)
-
-pub meet-met-requires : goal.meet-met-requires
-meet-met-requires c = (c.loop-left.invariant.0.loading, c.requires.1)
-
-pub returns-then-not-met : goal.returns-then-not-met
-returns-then-not-met c = times-parts (bits_for c.args.code.size c.args.code.word) c.args.n c.loop-left.left c.loop-left.invariant.0 c.loop-left.invariant.1 c.meet-met.ensures (not-true _ c.if-not-met.true)
-
-pub overflow_sub-left : goal.overflow_sub-left
-overflow_sub-left c = c.loop-left.invariant.1
-
-pub loop-left-smaller : goal.loop-left-smaller
-loop-left-smaller c = omega (arith, c.loop-left.invariant.1)
-
-pub loop-left-preserved : goal.loop-left-preserved
-loop-left-preserved c =
-    (times-on (bits_for c.args.code.size c.args.code.word) c.args.n c.loop-left.left c.loop-left.invariant.0 c.loop-left.invariant.1 c.meet-met.ensures (not-false _ c.if-not-met.false), omega (arith, c.loop-left-test.true))
+pub loop-init : goal.loop-init
+loop-init c =
+    let all : c.args.n - 0 ≡ c.args.n = omega arith in
+    (rw all (left-all _ c.requires.2), omega (arith, c.requires.0))
 
 pub meet-requires : goal.meet-requires
-meet-requires c = (c.loop-left.invariant.0.loading, c.requires.1)
+meet-requires c = (c.loop.invariant.0.loading, c.requires.1)
+
+pub returns-in_err-next : goal.returns-in_err-next
+returns-in_err-next c = passed_on _ c.from_residual.ensures.1 (times-parts (bits_for c.args.code.size c.args.code.word) c.args.n (c.args.n - c.loop.counter) c.loop.invariant.0 c.loop.invariant.1 c.in_err-next.ensures refl)
+
+pub loop-preserved : goal.loop-preserved
+loop-preserved c =
+    let less : c.args.n - (c.loop.counter + 1) ≡ c.args.n - c.loop.counter - 1 = omega arith in (
+      rw less (times-on (bits_for c.args.code.size c.args.code.word) c.args.n (c.args.n - c.loop.counter) c.loop.invariant.0 c.loop.invariant.1 c.in_ok-next.ensures refl),
+      omega (arith, c.loop-test.true),
+    )
+
+pub meet-requires-2 : goal.meet-requires-2
+meet-requires-2 c = (c.loop.invariant.0.loading, c.requires.1)
 
 pub returns : goal.returns
-returns c = times-met (bits_for c.args.code.size c.args.code.word) c.args.n c.loop-left.left c.loop-left.invariant.0 c.loop-left.invariant.1 c.meet.ensures (omega (arith, c.loop-left-test.false))
+returns c = times-met (bits_for c.args.code.size c.args.code.word) c.args.n (c.args.n - c.loop.counter) c.loop.invariant.0 c.loop.invariant.1 c.meet-2.ensures (omega (arith, c.loop-test.false))

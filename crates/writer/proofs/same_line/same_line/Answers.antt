@@ -3,9 +3,8 @@
 use mathlib.Core.Path.{refl}
 use Prim.Native.Nat.{◌+◌}
 use native.Mathlib.Omega.{arith}
-use borrow.Author.Tests.{not-true, not-false}
 use Rattle.writer.proofs.AlongLine.{place-few, searches, a1-low, a2-low, passes, verticals, horizontals}
-use Rattle.writer.proofs.Leaving.{meets-as}
+use Rattle.writer.proofs.Leaving.{meets-as, passed_on}
 use Rattle.writer.proofs.CodesMet.{trace, traced, turn-parts, turn_on}
 use Rattle.writer.proofs.same_line.same_line.Goals as goal
 
@@ -15,31 +14,31 @@ loop-position-init c = trace c.requires.1 c.requires.2
 pub find-found-requires : goal.find-found-requires
 find-found-requires c = searches c.loop-position.invariant.along c.requires.1.rises (omega (arith, c.requires.1.narrow, c.loop-position-test.true))
 
-pub meet-met-requires : goal.meet-met-requires
-meet-met-requires c = (c.loop-position.invariant.left.loading, c.pass.ensures.sound)
+pub meet-requires : goal.meet-requires
+meet-requires c = (c.loop-position.invariant.left.loading, c.pass.ensures.sound)
 
-pub returns-then-not-met : goal.returns-then-not-met
-returns-then-not-met c =
-    turn-parts c.loop-position.invariant c.loop-position.place (passes c.loop-position.invariant.along c.requires.1.rises c.loop-position-test.true c.find-found.ensures c.change_or-a1.ensures c.if-found-a1.true) (meets-as c.pass.ensures.bits c.meet-met.ensures) (not-true _ c.if-not-met.true)
+pub returns-in_err-next : goal.returns-in_err-next
+returns-in_err-next c =
+    passed_on _ c.from_residual.ensures.1 (turn-parts c.loop-position.invariant c.loop-position.place (passes c.loop-position.invariant.along c.requires.1.rises c.loop-position-test.true c.find-found.ensures c.change_or-a1.ensures c.if-found-a1.true) (meets-as c.pass.ensures.bits c.in_err-next.ensures) refl)
 
 pub loop-position-smaller-then-found-a1 : goal.loop-position-smaller-then-found-a1
 loop-position-smaller-then-found-a1 c = (passes c.loop-position.invariant.along c.requires.1.rises c.loop-position-test.true c.find-found.ensures c.change_or-a1.ensures c.if-found-a1.true).less
 
 pub loop-position-preserved-then-found-a1 : goal.loop-position-preserved-then-found-a1
 loop-position-preserved-then-found-a1 c =
-    turn_on c.loop-position.invariant _ (passes c.loop-position.invariant.along c.requires.1.rises c.loop-position-test.true c.find-found.ensures c.change_or-a1.ensures c.if-found-a1.true) (meets-as c.pass.ensures.bits c.meet-met.ensures) (not-false _ c.if-not-met.false) refl
+    turn_on c.loop-position.invariant _ (passes c.loop-position.invariant.along c.requires.1.rises c.loop-position-test.true c.find-found.ensures c.change_or-a1.ensures c.if-found-a1.true) (meets-as c.pass.ensures.bits c.in_ok-next.ensures) refl refl
     c.loop-position.invariant.along.coloured (omega arith) c.find-found.ensures.passed
 
 pub vertical-requires : goal.vertical-requires
 vertical-requires c = rw c.distance.ensures at c.if-distance-le3.true
 
-pub meet-met-requires-then-distance-le3 : goal.meet-met-requires-then-distance-le3
-meet-met-requires-then-distance-le3 c = (c.loop-position.invariant.left.loading, c.vertical.ensures.sound)
+pub meet-requires-then-distance-le3 : goal.meet-requires-then-distance-le3
+meet-requires-then-distance-le3 c = (c.loop-position.invariant.left.loading, c.vertical.ensures.sound)
 
-pub returns-then-not-met-2 : goal.returns-then-not-met-2
-returns-then-not-met-2 c =
+pub returns-in_err-next-2 : goal.returns-in_err-next-2
+returns-in_err-next-2 c =
     let near = rw c.distance.ensures at c.if-distance-le3.true in
-    turn-parts c.loop-position.invariant (c.loop-position.place + 1) (verticals c.loop-position.invariant.along c.requires.1.rises c.loop-position-test.true c.find-found.ensures c.change_or-a1.ensures c.if-found-a1.false near) (meets-as c.vertical.ensures.bits c.meet-met-then-distance-le3.ensures) (not-true _ c.if-not-met-2.true)
+    passed_on _ c.from_residual-in_err-next-2.ensures.1 (turn-parts c.loop-position.invariant (c.loop-position.place + 1) (verticals c.loop-position.invariant.along c.requires.1.rises c.loop-position-test.true c.find-found.ensures c.change_or-a1.ensures c.if-found-a1.false near) (meets-as c.vertical.ensures.bits c.in_err-next-2.ensures) refl)
 
 pub overflow_sub-colour : goal.overflow_sub-colour
 overflow_sub-colour c = c.loop-position.invariant.along.coloured
@@ -55,7 +54,7 @@ loop-position-smaller-then-distance-le3 c =
 pub loop-position-preserved-then-distance-le3 : goal.loop-position-preserved-then-distance-le3
 loop-position-preserved-then-distance-le3 c =
     let near = rw c.distance.ensures at c.if-distance-le3.true in
-    turn_on c.loop-position.invariant _ (verticals c.loop-position.invariant.along c.requires.1.rises c.loop-position-test.true c.find-found.ensures c.change_or-a1.ensures c.if-found-a1.false near) (meets-as c.vertical.ensures.bits c.meet-met-then-distance-le3.ensures) (not-false _ c.if-not-met-2.false) refl
+    turn_on c.loop-position.invariant _ (verticals c.loop-position.invariant.along c.requires.1.rises c.loop-position-test.true c.find-found.ensures c.change_or-a1.ensures c.if-found-a1.false near) (meets-as c.vertical.ensures.bits c.in_ok-next-2.ensures) refl refl
     (omega arith) (omega arith) c.find-found.ensures.passed
 
 pub overflow_add-place-in-loop-position : goal.overflow_add-place-in-loop-position
@@ -69,13 +68,13 @@ overflow_sub-second c =
     let far = rw c.distance.ensures at c.if-distance-le3.false in
     a2-low c.loop-position.invariant.along c.requires.1.rises c.loop-position-test.true c.find-found.ensures c.change_or-a1.ensures c.if-found-a1.false far c.change_or-a2.ensures
 
-pub same_horizontal-met-requires : goal.same_horizontal-met-requires
-same_horizontal-met-requires c = (c.requires.0, c.loop-position.invariant.along.coloured, c.loop-position.invariant.left.loading)
+pub same_horizontal-requires : goal.same_horizontal-requires
+same_horizontal-requires c = (c.requires.0, c.loop-position.invariant.along.coloured, c.loop-position.invariant.left.loading)
 
-pub returns-then-not-met-3 : goal.returns-then-not-met-3
-returns-then-not-met-3 c =
+pub returns-in_err-next-3 : goal.returns-in_err-next-3
+returns-in_err-next-3 c =
     let far = rw c.distance.ensures at c.if-distance-le3.false in
-    turn-parts c.loop-position.invariant (c.loop-position.place + 2) (horizontals c.loop-position.invariant.along c.requires.1.rises c.loop-position-test.true c.find-found.ensures c.change_or-a1.ensures c.if-found-a1.false far c.change_or-a2.ensures) c.same_horizontal-met.ensures (not-true _ c.if-not-met-3.true)
+    passed_on _ c.from_residual-in_err-next-3.ensures.1 (turn-parts c.loop-position.invariant (c.loop-position.place + 2) (horizontals c.loop-position.invariant.along c.requires.1.rises c.loop-position-test.true c.find-found.ensures c.change_or-a1.ensures c.if-found-a1.false far c.change_or-a2.ensures) c.in_err-next-3.ensures refl)
 
 pub overflow_add-place-in-loop-position-2 : goal.overflow_add-place-in-loop-position-2
 overflow_add-place-in-loop-position-2 c = omega (arith, place-few c.loop-position.invariant.along c.requires.1.narrow c.requires.1.rises')
@@ -88,7 +87,7 @@ loop-position-smaller c =
 pub loop-position-preserved : goal.loop-position-preserved
 loop-position-preserved c =
     let far = rw c.distance.ensures at c.if-distance-le3.false in
-    turn_on c.loop-position.invariant (c.loop-position.place + 2) (horizontals c.loop-position.invariant.along c.requires.1.rises c.loop-position-test.true c.find-found.ensures c.change_or-a1.ensures c.if-found-a1.false far c.change_or-a2.ensures) c.same_horizontal-met.ensures (not-false _ c.if-not-met-3.false) refl
+    turn_on c.loop-position.invariant (c.loop-position.place + 2) (horizontals c.loop-position.invariant.along c.requires.1.rises c.loop-position-test.true c.find-found.ensures c.change_or-a1.ensures c.if-found-a1.false far c.change_or-a2.ensures) c.in_ok-next-3.ensures refl refl
     c.loop-position.invariant.along.coloured (omega arith) c.find-found.ensures.passed
 
 pub returns : goal.returns

@@ -1,20 +1,10 @@
--- `writer::same_page::parting` meets its contract. Where the page is met, the zeros behind it tell. Assumes nothing.
-use mathlib.Core.Path.{sym, ap}
-use mathlib.Core.Bool.{◌&&◌}
-use Prim.Native.Nat.{◌*◌}
-use lib.Dec.{eqb}
-use lib.ListN.{length}
-use borrow.Author.Tests.{not-true, not-false}
-use Rattle.writer.proofs.PartingLaws.{page-parts, page-ends, unmet}
+-- `writer::same_page::parting` meets its contract. The data ends behind the page and its zeros, or parts from them. Assumes nothing.
+use mathlib.Core.Path.{refl}
+use Rattle.writer.proofs.PartingLaws.{page-told}
 use Rattle.writer.proofs.same_page.parting.Goals as goal
 
-pub returns-then-not-met : goal.returns-then-not-met
-returns-then-not-met c = λ xs m. page-parts c.requires xs m (not-true _ c.if-not-met.true-raw)
+pub returns-in-Ok : goal.returns-in-Ok
+returns-in-Ok c = λ xs m. page-told xs (c.in-Ok.ensures xs m) refl
 
-pub returns-then-end : goal.returns-then-end
-returns-then-end c =
-    λ xs m. page-ends c.requires xs m (not-false _ c.if-not-met.false-raw) c.same_zeros-end.ensures (ap (λ b. b && eqb c.same_zeros-end.result.at (8 * length c.args.src.now)) (sym c.if-end.true))
-
-pub returns-else-end : goal.returns-else-end
-returns-else-end c =
-    λ xs m. page-ends c.requires xs m (not-false _ c.if-not-met.false-raw) c.same_zeros-end.ensures (unmet _ c.if-end.false)
+pub returns-in-Err : goal.returns-in-Err
+returns-in-Err c = λ xs m. page-told xs (c.in-Err.ensures xs m) refl

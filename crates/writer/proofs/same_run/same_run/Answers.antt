@@ -1,9 +1,9 @@
 -- `writer::same_run::same_run` meets its contract. The loop's invariant: the codes of what is left come to those of the run.
 -- Assumes nothing.
+use mathlib.Core.Path.{refl}
 use native.Mathlib.Omega.{arith}
 use Rattle.tables.specs.Tables.{colour_of}
-use borrow.Author.Tests.{not-true, not-false}
-use Rattle.writer.proofs.Leaving.{left-all}
+use Rattle.writer.proofs.Leaving.{left-all, passed_on}
 use Rattle.writer.proofs.CodesMet.{makeup-parts, makeup-on, terminating-met}
 use Rattle.writer.proofs.RunCodes.{largest-held, makeup-spells, terminating-spells}
 use Rattle.writer.proofs.same_run.same_run.Goals as goal
@@ -19,13 +19,13 @@ makeup-code-requires c =
     let l = largest-held c.loop-left.left c.loop-left-test.true in
     (rw c.largest-m.ensures l.some-64s, rw c.largest-m.ensures l.in_table, c.requires.0.makeup)
 
-pub meet-met-requires : goal.meet-met-requires
-meet-met-requires c =
+pub meet-requires : goal.meet-requires
+meet-requires c =
     (c.loop-left.invariant.loading, (makeup-spells (colour_of c.args.colour) c.loop-left.left c.loop-left-test.true _ c.largest-m.ensures c.makeup-code.ensures).sound)
 
-pub returns-then-not-met : goal.returns-then-not-met
-returns-then-not-met c =
-    makeup-parts (colour_of c.args.colour) _ c.loop-left.left c.loop-left.invariant c.meet-met.ensures c.loop-left-test.true _ c.largest-m.ensures c.makeup-code.ensures (not-true _ c.if-not-met.true)
+pub returns-in_err-next : goal.returns-in_err-next
+returns-in_err-next c =
+    passed_on _ c.from_residual.ensures.1 (makeup-parts (colour_of c.args.colour) _ c.loop-left.left c.loop-left.invariant c.in_err-next.ensures c.loop-left-test.true _ c.largest-m.ensures c.makeup-code.ensures refl)
 
 pub overflow_mul-left : goal.overflow_mul-left
 overflow_mul-left c = omega (arith, c.largest-m.ensures, (largest-held c.loop-left.left c.loop-left-test.true).in_table)
@@ -38,15 +38,15 @@ loop-left-smaller c = omega (arith, c.largest-m.ensures, (largest-held c.loop-le
 
 pub loop-left-preserved : goal.loop-left-preserved
 loop-left-preserved c =
-    makeup-on (colour_of c.args.colour) _ c.loop-left.left c.loop-left.invariant c.meet-met.ensures c.loop-left-test.true _ c.largest-m.ensures c.makeup-code.ensures (not-false _ c.if-not-met.false)
+    makeup-on (colour_of c.args.colour) _ c.loop-left.left c.loop-left.invariant c.in_ok-next.ensures c.loop-left-test.true _ c.largest-m.ensures c.makeup-code.ensures refl
 
 pub terminating-code-requires : goal.terminating-code-requires
 terminating-code-requires c = (c.loop-left-test.false, c.requires.0.terminating)
 
-pub meet-requires : goal.meet-requires
-meet-requires c =
+pub meet-requires-2 : goal.meet-requires-2
+meet-requires-2 c =
     (c.loop-left.invariant.loading, (terminating-spells (colour_of c.args.colour) c.loop-left.left c.loop-left-test.false c.terminating-code.ensures).sound)
 
 pub returns : goal.returns
 returns c =
-    terminating-met (colour_of c.args.colour) _ c.loop-left.left c.loop-left.invariant c.meet.ensures c.loop-left-test.false c.terminating-code.ensures
+    terminating-met (colour_of c.args.colour) _ c.loop-left.left c.loop-left.invariant c.meet-2.ensures c.loop-left-test.false c.terminating-code.ensures
