@@ -2,6 +2,7 @@
 ghost use Rattle.std.specs.Prelude.{◌≡◌, ◌≤◌};
 ghost use Rattle.rules.specs.Rows.{bytes_to};
 ghost use Rattle.bitmap.specs.Packed.{fit_tests, reach};
+ghost use Rattle.bitmap.specs.Outcome.{Refuses};
 
 // The bytes of one row.
 pub(crate) fn row_size(width: u32) -> usize
@@ -10,33 +11,30 @@ pub(crate) fn row_size(width: u32) -> usize
     (width as usize + 7) / 8
 }
 
-// 6, 7, 10 and 9, in this order; 0 where all are passed. The last test divides, since a product may pass 64 bits.
-pub(crate) fn refused(width: u32, stride: usize, rows: usize, size: usize) -> u32
-    ensures { result ≡ fit_tests width stride rows size }
+// 6, 7, 10 and 9, in this order; nothing where all are passed. The last test divides, since a product may pass 64 bits.
+pub(crate) fn refused(width: u32, stride: usize, rows: usize, size: usize) -> Option<u32>
+    ensures { Refuses (fit_tests width stride rows size) result }
 {
-    if width == 0 {
-        return answer::BAD_WIDTH;
-    }
-    if width == answer::MOST_PIXELS {
-        return answer::BAD_WIDTH;
+    if width == 0 || width == answer::MOST_PIXELS {
+        return Some(answer::BAD_WIDTH);
     }
     if answer::MOST_BYTES < size {
-        return answer::TOO_LONG;
+        return Some(answer::TOO_LONG);
     }
     let row = row_size(width);
     if stride < row {
-        return answer::BAD_NUMBER;
+        return Some(answer::BAD_NUMBER);
     }
     if rows == 0 {
-        return answer::COMPLETE;
+        return None;
     }
     if size < row {
-        return answer::NO_FIT;
+        return Some(answer::NO_FIT);
     }
     if (size - row) / stride < rows - 1 {
-        return answer::NO_FIT;
+        return Some(answer::NO_FIT);
     }
-    answer::COMPLETE
+    None
 }
 
 // The byte after so many rows.

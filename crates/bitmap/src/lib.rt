@@ -41,8 +41,7 @@ pub fn paint(
     ensures { Paints (paint one columns stride changes.now ends.now out.old) result out.new }
 {
     let step = stride as usize;
-    let number = fit::refused(columns, step, ends.len(), out.len());
-    if number != answer::COMPLETE {
+    if let Some(number) = fit::refused(columns, step, ends.len(), out.len()) {
         return answer::refusal(number);
     }
     if !row_store::ascend(columns, changes, ends) {
@@ -68,8 +67,7 @@ pub fn unpaint(
 {
     let step = stride as usize;
     let count = rows as usize;
-    let number = fit::refused(columns, step, count, src.len());
-    if number != answer::COMPLETE {
+    if let Some(number) = fit::refused(columns, step, count, src.len()) {
         return answer::refusal(number);
     }
     if ends.len() < count {

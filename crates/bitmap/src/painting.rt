@@ -50,6 +50,7 @@ fn row(one: bool, width: u32, row: &[u32], out: &mut [u8])
 {
     let mut next: usize = 0;
     let mut black = false;
+    // The word in which the row ends begins where this loop stops.
     let mut i: usize = 0;
     while i + 8 < out.len() {
         let w = pixels::word(width, row, next, black, 8 * i);
@@ -71,6 +72,7 @@ fn blank(one: bool, width: u32, out: &mut [u8])
     requires { length out.old ≡ bytes_to width }
     ensures { out.new ≡ row_bytes one width [] }
 {
+    // `out.fill` was tried: it writes byte by byte, and a page took a quarter more instructions.
     let byte = white_byte(one);
     let mut i: usize = 0;
     while i < out.len() {
@@ -103,6 +105,7 @@ pub(crate) fn rows(
     ensures { out.new ≡ painted_from one width stride 0 (rows_in 0 changes.now ends.now) out.old }
 {
     let size = (width as usize + 7) / 8;
+    // With a `for` here and in `put::rest` a page took a fifth more instructions.
     let mut base: usize = 0;
     let mut k: usize = 0;
     while k < ends.len() {

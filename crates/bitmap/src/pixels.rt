@@ -5,7 +5,8 @@ ghost use Rattle.bitmap.specs.Steps.{ones_from, Turnable, Standing, Has};
 
 pub(crate) const ALL: u64 = 18446744073709551615;
 
-// `next` changes of the row lie left of where these 64 pixels end, and behind them it goes on in black or not.
+// `next` changes of the row lie left of where these 64 pixels end, and behind them it goes on in black or not. The colour says nothing of the
+// count, so it stands beside it.
 #[derive(Clone, Copy)]
 pub(crate) struct Span {
     pub(crate) next: usize,
@@ -40,6 +41,7 @@ pub(crate) fn word(width: u32, row: &[u32], first: usize, ink: bool, from: usize
     let mut next = first;
     let mut black = ink;
     let mut bits = flat(ink);
+    // How many changes were passed is a part of the answer, so they are counted here and by no iterator.
     while next < row.len() {
         let x = row[next] as usize;
         if end <= x {

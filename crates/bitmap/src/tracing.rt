@@ -6,7 +6,7 @@ ghost use Rattle.bitmap.specs.Turning.{bit_in, recorded, up_to, Roomy, Traced, T
 
 use crate::{painting, pixels};
 
-// Which change comes next, and whether the pixel before it is black.
+// Which change comes next, and whether the pixel before it is black: two facts of one place, and no refusal among them.
 #[derive(Clone, Copy)]
 pub(crate) struct Turn {
     pub(crate) next: usize,
@@ -93,6 +93,7 @@ pub(crate) fn row(
 {
     let mut next = first;
     let mut black = false;
+    // By whole words: the place behind the last one may lie past the width, and is what the invariant speaks of.
     let mut from: usize = 0;
     while from < width as usize {
         let t = turns(one, width, src, at, from, next, black, changes, write);
@@ -128,11 +129,9 @@ pub(crate) fn rows(
     ensures { Rows (rows_at one width stride src.now count 0) write changes.old ends.old result changes.new ends.new }
 {
     let mut next: usize = 0;
-    let mut k: usize = 0;
-    while k < count {
+    for k in 0..count {
         next = row(one, width, src, k * stride, changes, next, write);
         note_end(ends, k, next, write);
-        k += 1;
     }
     next
 }

@@ -22,13 +22,6 @@ note_end-requires c =
     end-roomy c.args.one c.args.width c.args.stride c.args.src.now c.args.count c.args.write
     c.args.changes.now c.args.ends.now c.requires c.loop-k.invariant c.loop-k-test.true
 
-pub overflow_add-k : goal.overflow_add-k
-overflow_add-k c =
-    omega (arith, c.loop-k-test.true)
-
-pub loop-k-smaller : goal.loop-k-smaller
-loop-k-smaller c = omega (arith, c.loop-k-test.true)
-
 pub loop-k-preserved : goal.loop-k-preserved
 loop-k-preserved c =
     store-next c.args.one c.args.width c.args.stride c.args.src.now c.args.count c.args.write
