@@ -5,11 +5,11 @@ use Prim.Native.Nat.{ℕ, zero, suc, ◌+◌, ◌-◌, ◌≤◌, ◌<◌}
 use native.Mathlib.Omega.{arith}
 use lib.Dec.{leb, ltb}
 use lib.IntN.{ℤ, pos, negsuc, sub_ℕ, ◌-ℤ◌}
-use lib.Signed.{mag, lt_z, le_z}
+use lib.Signed.{mag}
 use mir.Syntax.{w32}
 use mir.Val.{SFits, of_z, to_z}
 use mir.Facts.{to_z-of_z, to_z_pos}
-use borrow.Author.Tests.{ltb-true, ltb-false, leb-true, lt-leb, le-leb, lt-ltb}
+use borrow.Author.Tests.{leb-true, lt-ltb}
 use mathlib.Core.List.{List}
 use Rattle.heads.specs.Form.{all, ordered, given, quota_given}
 use Rattle.heads.specs.declared.Box.{Box}
@@ -53,19 +53,6 @@ module _ (quota : ℤ) (n : ℕ) (given : quota_given quota ≡ true) (few : n �
 
 -- ---- What the caller gives
 
--- of two numbers one is below the other or not
-below-not : (a b : ℤ) → lt_z a b ≡ true → le_z b a ≡ false
-below-not (pos a) (pos b) e = lt-leb b a (ltb-true a b e)
-below-not (pos a) (negsuc b) e = absurd (true≢false (sym e))
-below-not (negsuc a) (pos b) e = refl
-below-not (negsuc a) (negsuc b) e = lt-leb a b (ltb-true b a e)
-
-not-below : (a b : ℤ) → lt_z a b ≡ false → le_z b a ≡ true
-not-below (pos a) (pos b) e = le-leb b a (ltb-false a b e)
-not-below (pos a) (negsuc b) e = refl
-not-below (negsuc a) (pos b) e = absurd (true≢false e)
-not-below (negsuc a) (negsuc b) e = le-leb a b (ltb-false b a e)
-
 module _ (form : List (List Box)) (least : ℕ) (quota : ℤ) where
   pub given-boxes : all (all ordered) form ≡ false → false ≡ given form least quota
   unfolding given
@@ -76,18 +63,6 @@ module _ (form : List (List Box)) (least : ℕ) (quota : ℤ) where
     unfolding given
     given-least e = sym (rw (boxes, e))
 
-    module _ (some : least ≡ 0 → ⊥) (f : SFits w32 quota) where
-      positive : 0 < least
-      positive = by least some
-        where
-          by : (n : ℕ) → (n ≡ 0 → ⊥) → 0 < n
-          by zero h = absurd (h refl)
-          by (suc n) h = omega arith
-
-      pub given-low : lt_z (to_z w32 (of_z w32 quota)) (negsuc 999999) ≡ true → false ≡ given form least quota
-      unfolding given
-      given-low e = sym (rw (boxes, lt-ltb 0 least positive, below-not quota (negsuc 999999) (rw (held f) at e)))
-
-      pub given-rest : lt_z (to_z w32 (of_z w32 quota)) (negsuc 999999) ≡ false → le_z (to_z w32 (of_z w32 quota)) (pos 1000000) ≡ given form least quota
-      unfolding given
-      given-rest e = rw (held f) (sym (rw (boxes, lt-ltb 0 least positive, not-below quota (negsuc 999999) (rw (held f) at e))))
+    pub given-rest : 0 < least → quota_given quota ≡ given form least quota
+    unfolding given
+    given-rest some = sym (rw (boxes, lt-ltb 0 least some))

@@ -28,10 +28,8 @@ fn form_in(numbers: &[u32]) -> [[Box; 2]; 10]
         bottom: 0,
     };
     let mut form: [[Box; 2]; 10] = [[blank; 2]; 10];
-    let mut digit: usize = 0;
-    while digit < 10 {
+    for digit in 0..10 {
         form[digit] = [box_in(numbers, 8 * digit), box_in(numbers, 8 * digit + 4)];
-        digit += 1;
     }
     form
 }

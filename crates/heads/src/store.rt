@@ -10,12 +10,10 @@ fn marked(rows: usize, marks: &[u8]) -> bool
     if marks.len() < rows {
         return false;
     }
-    let mut k: usize = 0;
-    while k < rows {
+    for k in 0..rows {
         if 2 < marks[k] {
             return false;
         }
-        k += 1;
     }
     true
 }
@@ -23,10 +21,7 @@ fn marked(rows: usize, marks: &[u8]) -> bool
 pub(crate) fn sound(columns: u32, changes: &[u32], ends: &[u64], marks: &[u8]) -> bool
     ensures { result ≡ Form.sound columns changes.now ends.now marks.now }
 {
-    if !row_store::ascend(columns, changes, ends) {
-        return false;
-    }
-    marked(ends.len(), marks)
+    row_store::ascend(columns, changes, ends) && marked(ends.len(), marks)
 }
 
 // Where the first `rows` rows end.

@@ -11,43 +11,31 @@ use Rattle.heads.proofs.Twos.{no_box, twos-first, twos-second, twos-next}
 use Rattle.heads.proofs.Lengths.{form-row}
 use Rattle.heads.proofs.boxes.all_ordered.Goals as goal
 
-pub loop-digit-init : goal.loop-digit-init
-loop-digit-init c = (omega arith, refl)
-
-pub offset_bounds-form-digit : goal.offset_bounds-form-digit
-offset_bounds-form-digit c = omega arith
+pub loop-row-init : goal.loop-row-init
+loop-row-init c = (omega arith, refl)
 
 pub returns-then-not-ordered : goal.returns-then-not-ordered
 returns-then-not-ordered c =
-    let h : c.loop-digit.digit < length c.args.form = omega (arith, c.loop-digit-test.true) in
-    twos-first ordered c.args.form c.loop-digit.digit [] no_box h (form-row c.args.form _ c.loop-digit.digit c.well_formed.0.1.1 h)
-    (sym c.ordered.ensures ∙ not-true _ c.if-not-ordered.true-raw) ∙ c.loop-digit.invariant.1
-
-pub offset_bounds-form-digit-in-loop-digit : goal.offset_bounds-form-digit-in-loop-digit
-offset_bounds-form-digit-in-loop-digit c = omega arith
+    let h : c.loop-row.row-index < length c.args.form = omega (arith, c.loop-row-test.true) in
+    twos-first ordered c.args.form c.loop-row.row-index [] no_box h (form-row c.args.form _ c.loop-row.row-index c.well_formed.0.1.1 h)
+    (sym c.ordered.ensures ∙ not-true _ c.if-not-ordered.true-raw) ∙ c.loop-row.invariant.1
 
 pub returns-then-not-ordered-2 : goal.returns-then-not-ordered-2
 returns-then-not-ordered-2 c =
-    let h : c.loop-digit.digit < length c.args.form = omega (arith, c.loop-digit-test.true) in
-    twos-second ordered c.args.form c.loop-digit.digit [] no_box h (form-row c.args.form _ c.loop-digit.digit c.well_formed.0.1.1 h)
+    let h : c.loop-row.row-index < length c.args.form = omega (arith, c.loop-row-test.true) in
+    twos-second ordered c.args.form c.loop-row.row-index [] no_box h (form-row c.args.form _ c.loop-row.row-index c.well_formed.0.1.1 h)
     (sym c.ordered.ensures ∙ not-false _ c.if-not-ordered.false-raw)
-    (sym c.ordered-in-loop-digit.ensures ∙ not-true _ c.if-not-ordered-2.true-raw) ∙ c.loop-digit.invariant.1
+    (sym c.ordered-in-loop-row.ensures ∙ not-true _ c.if-not-ordered-2.true-raw) ∙ c.loop-row.invariant.1
 
-pub overflow_add-digit : goal.overflow_add-digit
-overflow_add-digit c = omega arith
-
-pub loop-digit-smaller : goal.loop-digit-smaller
-loop-digit-smaller c = omega arith
-
-pub loop-digit-preserved : goal.loop-digit-preserved
-loop-digit-preserved c =
-    let h : c.loop-digit.digit < length c.args.form = omega (arith, c.loop-digit-test.true) in (
+pub loop-row-preserved : goal.loop-row-preserved
+loop-row-preserved c =
+    let h : c.loop-row.row-index < length c.args.form = omega (arith, c.loop-row-test.true) in (
       omega arith,
-      twos-next ordered c.args.form c.loop-digit.digit [] no_box h (form-row c.args.form _ c.loop-digit.digit c.well_formed.0.1.1 h)
+      twos-next ordered c.args.form c.loop-row.row-index [] no_box h (form-row c.args.form _ c.loop-row.row-index c.well_formed.0.1.1 h)
           (sym c.ordered.ensures ∙ not-false _ c.if-not-ordered.false-raw)
-          (sym c.ordered-in-loop-digit.ensures ∙ not-false _ c.if-not-ordered-2.false-raw) ∙ c.loop-digit.invariant.1,
+          (sym c.ordered-in-loop-row.ensures ∙ not-false _ c.if-not-ordered-2.false-raw) ∙ c.loop-row.invariant.1,
     )
 
 pub returns : goal.returns
 returns c =
-    all_past (all ordered) c.args.form c.loop-digit.digit (omega (arith, c.loop-digit-test.false)) ∙ c.loop-digit.invariant.1
+    all_past (all ordered) c.args.form c.loop-row.row-index (omega (arith, c.loop-row-test.false)) ∙ c.loop-row.invariant.1

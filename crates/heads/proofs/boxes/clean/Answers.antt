@@ -11,48 +11,36 @@ use Rattle.heads.proofs.Twos.{no_box, twos-first, twos-second, twos-next}
 use Rattle.heads.proofs.Lengths.{form-row}
 use Rattle.heads.proofs.boxes.clean.Goals as goal
 
-pub loop-digit-init : goal.loop-digit-init
+pub loop-row-init : goal.loop-row-init
 unfolding clean
-loop-digit-init c = (omega arith, refl)
-
-pub offset_bounds-form-digit : goal.offset_bounds-form-digit
-offset_bounds-form-digit c = omega arith
+loop-row-init c = (omega arith, refl)
 
 pub returns-then-not-clean_under : goal.returns-then-not-clean_under
 returns-then-not-clean_under c =
     let a = c.args in
-    let h : c.loop-digit.digit < length a.form = omega (arith, c.loop-digit-test.true) in
-    twos-first (clean_under a.columns a.rows a.marks.now) a.form c.loop-digit.digit [] no_box h (form-row a.form _ c.loop-digit.digit c.well_formed.1.1.1.0.1.1 h)
-    (sym c.clean_under.ensures ∙ not-true _ c.if-not-clean_under.true-raw) ∙ c.loop-digit.invariant.1
-
-pub offset_bounds-form-digit-in-loop-digit : goal.offset_bounds-form-digit-in-loop-digit
-offset_bounds-form-digit-in-loop-digit c = omega arith
+    let h : c.loop-row.row-index < length a.form = omega (arith, c.loop-row-test.true) in
+    twos-first (clean_under a.columns a.rows a.marks.now) a.form c.loop-row.row-index [] no_box h (form-row a.form _ c.loop-row.row-index c.well_formed.1.1.1.0.1.1 h)
+    (sym c.clean_under.ensures ∙ not-true _ c.if-not-clean_under.true-raw) ∙ c.loop-row.invariant.1
 
 pub returns-then-not-clean_under-2 : goal.returns-then-not-clean_under-2
 returns-then-not-clean_under-2 c =
     let a = c.args in
-    let h : c.loop-digit.digit < length a.form = omega (arith, c.loop-digit-test.true) in
-    twos-second (clean_under a.columns a.rows a.marks.now) a.form c.loop-digit.digit [] no_box h (form-row a.form _ c.loop-digit.digit c.well_formed.1.1.1.0.1.1 h)
+    let h : c.loop-row.row-index < length a.form = omega (arith, c.loop-row-test.true) in
+    twos-second (clean_under a.columns a.rows a.marks.now) a.form c.loop-row.row-index [] no_box h (form-row a.form _ c.loop-row.row-index c.well_formed.1.1.1.0.1.1 h)
     (sym c.clean_under.ensures ∙ not-false _ c.if-not-clean_under.false-raw)
-    (sym c.clean_under-in-loop-digit.ensures ∙ not-true _ c.if-not-clean_under-2.true-raw) ∙ c.loop-digit.invariant.1
+    (sym c.clean_under-in-loop-row.ensures ∙ not-true _ c.if-not-clean_under-2.true-raw) ∙ c.loop-row.invariant.1
 
-pub overflow_add-digit : goal.overflow_add-digit
-overflow_add-digit c = omega arith
-
-pub loop-digit-smaller : goal.loop-digit-smaller
-loop-digit-smaller c = omega arith
-
-pub loop-digit-preserved : goal.loop-digit-preserved
-loop-digit-preserved c =
+pub loop-row-preserved : goal.loop-row-preserved
+loop-row-preserved c =
     let a = c.args in
-    let h : c.loop-digit.digit < length a.form = omega (arith, c.loop-digit-test.true) in (
+    let h : c.loop-row.row-index < length a.form = omega (arith, c.loop-row-test.true) in (
       omega arith,
-      twos-next (clean_under a.columns a.rows a.marks.now) a.form c.loop-digit.digit [] no_box h (form-row a.form _ c.loop-digit.digit c.well_formed.1.1.1.0.1.1 h)
+      twos-next (clean_under a.columns a.rows a.marks.now) a.form c.loop-row.row-index [] no_box h (form-row a.form _ c.loop-row.row-index c.well_formed.1.1.1.0.1.1 h)
           (sym c.clean_under.ensures ∙ not-false _ c.if-not-clean_under.false-raw)
-          (sym c.clean_under-in-loop-digit.ensures ∙ not-false _ c.if-not-clean_under-2.false-raw) ∙ c.loop-digit.invariant.1,
+          (sym c.clean_under-in-loop-row.ensures ∙ not-false _ c.if-not-clean_under-2.false-raw) ∙ c.loop-row.invariant.1,
     )
 
 pub returns : goal.returns
 returns c =
     let a = c.args in
-    all_past (all (clean_under a.columns a.rows a.marks.now)) a.form c.loop-digit.digit (omega (arith, c.loop-digit-test.false)) ∙ c.loop-digit.invariant.1
+    all_past (all (clean_under a.columns a.rows a.marks.now)) a.form c.loop-row.row-index (omega (arith, c.loop-row-test.false)) ∙ c.loop-row.invariant.1

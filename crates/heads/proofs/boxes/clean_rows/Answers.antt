@@ -21,12 +21,6 @@ returns-then-marks-y-ne0 c =
     under-bad c.args.rows c.args.marks.now c.loop-y.y c.args.bottom c.loop-y-test.true c.if-rows-y.false
     c.if-marks-y-ne0.true ∙ c.loop-y.invariant
 
-pub overflow_add-y : goal.overflow_add-y
-overflow_add-y c = omega arith
-
-pub loop-y-smaller : goal.loop-y-smaller
-loop-y-smaller c = omega arith
-
 pub loop-y-preserved : goal.loop-y-preserved
 loop-y-preserved c =
     under_next c.args.rows c.args.marks.now c.loop-y.y c.args.bottom c.loop-y-test.true c.if-rows-y.false

@@ -8,6 +8,3 @@ use Rattle.heads.proofs.boxes.clean_rows.Given as goal
 
 abbrev pub invariant-loop-y : goal.invariant-loop-y
 invariant-loop-y l = every (under l.rows l.marks) (l.bottom - l.y) l.y ≡ clean_rows l.rows l.marks l.top l.bottom
-
-abbrev pub decreases-loop-y : goal.decreases-loop-y
-decreases-loop-y l = l.last - l.y

@@ -29,12 +29,6 @@ offset_bounds-table-digit-in-loop-digit c = omega arith
 pub bounds-table-digit-in-loop-digit : goal.bounds-table-digit-in-loop-digit
 bounds-table-digit-in-loop-digit c = omega arith
 
-pub overflow_add-digit : goal.overflow_add-digit
-overflow_add-digit c = omega arith
-
-pub loop-digit-smaller : goal.loop-digit-smaller
-loop-digit-smaller c = omega arith
-
 pub loop-digit-preserved : goal.loop-digit-preserved
 loop-digit-preserved c =
     let page = page_in c.args.columns c.args.changes.now c.args.ends.now in

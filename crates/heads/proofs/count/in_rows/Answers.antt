@@ -57,22 +57,17 @@ overflow_add-count c =
     let few = black-few white _ c.args.left c.args.right c.in_row.ensures in
     omega (arith, c.loop-y.invariant.0, c.loop-y.invariant.1, c.ranges.right, c.ranges.bottom, c.loop-y-test.true)
 
-pub overflow_add-y-in-loop-y : goal.overflow_add-y-in-loop-y
-overflow_add-y-in-loop-y c = omega arith
-
-pub loop-y-smaller : goal.loop-y-smaller
-loop-y-smaller c = omega arith
-
 pub loop-y-preserved : goal.loop-y-preserved
 loop-y-preserved c =
     let few = black-few white _ c.args.left c.args.right c.in_row.ensures in
     let r = row_at c.args.columns c.args.changes.now c.args.ends.now c.loop-y.y c.if-ends-y.false c.requires.0 in (
       omega (arith, c.loop-y.invariant.0),
       omega (arith, c.loop-y.invariant.0, c.loop-y.invariant.1, c.ranges.right),
-      rows_next (rows_in 0 c.args.changes.now c.args.ends.now) c.args.left c.args.right c.loop-y.count c.loop-y.y c.args.bottom c.loop-y.invariant.2
+      rw c.from-count.ensures
+          (rows_next (rows_in 0 c.args.changes.now c.args.ends.now) c.args.left c.args.right c.loop-y.count c.loop-y.y c.args.bottom c.loop-y.invariant.2
           c.loop-y-test.true
           (row-counted white c.args.changes.now c.end_after-base.result c.end_after-end.result c.args.left c.args.right r
-          c.end_after-base.ensures c.end_after-end.ensures c.in_row.ensures),
+          c.end_after-base.ensures c.end_after-end.ensures c.in_row.ensures)),
     )
 
 pub returns : goal.returns

@@ -9,6 +9,3 @@ use Rattle.heads.proofs.count.in_rows.Given as goal
 
 abbrev pub invariant-loop-y : goal.invariant-loop-y
 invariant-loop-y l = (l.top ≤ l.y) × (l.count ≤ 4294967295 * (l.y - l.top)) × (l.count + sum (ink_at (rows_in 0 l.changes l.ends) l.left l.right) (l.bottom - l.y) l.y ≡ black_rows (rows_in 0 l.changes l.ends) l.left l.right l.top l.bottom)
-
-abbrev pub decreases-loop-y : goal.decreases-loop-y
-decreases-loop-y l = l.last - l.y

@@ -35,12 +35,6 @@ offset_bounds-form-digit c = omega arith
 pub bounds-form-digit : goal.bounds-form-digit
 bounds-form-digit c = omega arith
 
-pub overflow_add-digit-in-loop-digit : goal.overflow_add-digit-in-loop-digit
-overflow_add-digit-in-loop-digit c = omega arith
-
-pub loop-digit-smaller : goal.loop-digit-smaller
-loop-digit-smaller c = omega arith
-
 pub loop-digit-preserved : goal.loop-digit-preserved
 loop-digit-preserved c =
     let numbers = c.args.numbers.now in (

@@ -1,7 +1,7 @@
 -- The invariant: the rows below `digit` are those of the numbers, the others are blank. Assumes nothing.
 use mathlib.Core.List.{List, [], ◌∷◌}
 use mathlib.Core.Path.{◌≡◌}
-use Prim.Native.Nat.{◌-◌, ◌≤◌}
+use Prim.Native.Nat.{◌≤◌}
 use Rattle.heads.specs.Numbers.{form_in}
 use Rattle.heads.specs.declared.Box.{Box}
 use Rattle.heads.proofs.Twos.{no_box, filled}
@@ -12,6 +12,3 @@ no_boxes = no_box ∷ no_box ∷ []
 
 abbrev pub invariant-loop-digit : goal.invariant-loop-digit
 invariant-loop-digit l = (l.digit ≤ 10) × (l.form ≡ filled no_boxes (form_in l.numbers) l.digit)
-
-abbrev pub decreases-loop-digit : goal.decreases-loop-digit
-decreases-loop-digit l = 10 - l.digit

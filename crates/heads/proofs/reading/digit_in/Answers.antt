@@ -18,12 +18,6 @@ overflow_cast-i c = omega arith
 pub offset_bounds-table-i : goal.offset_bounds-table-i
 offset_bounds-table-i c = omega arith
 
-pub overflow_add-d : goal.overflow_add-d
-overflow_add-d c = omega arith
-
-pub loop-d-smaller : goal.loop-d-smaller
-loop-d-smaller c = omega arith
-
 pub loop-d-preserved : goal.loop-d-preserved
 loop-d-preserved c =
     let h : c.loop-d.d < length c.args.table = omega (arith, c.loop-d-test.true) in
