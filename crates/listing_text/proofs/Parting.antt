@@ -9,7 +9,8 @@ use lib.Seq.{get_or-drop, set_at}
 use Rattle.listing_text.specs.Text.{tab, newline, decimal}
 use Rattle.listing_text.specs.Line.{mark, parted, filled, Held}
 use Rattle.listing_text.specs.Reading.{Stops, NumberAt}
-use Rattle.listing_text.specs.declared.settings_line.Number.TheVariants.{Is, Missing}
+use Rattle.std.specs.Prelude.{Some, None}
+use Rattle.listing_text.specs.declared.settings_line.Number.{Number}
 use Rattle.listing_text.proofs.Digits.{same_number}
 use Rattle.listing_text.proofs.Spelling.{inside, split}
 
@@ -85,12 +86,18 @@ module _ (bytes : List ℕ) (at k : ℕ) (read : List ℕ) (r : Reading bytes at
   pub tenth : 9 ≤ k → Nowhere bytes 0 0
   tenth h = r.wrong (λ n ns rest few many held e. omega arith)
 
-  pub number-missing : NumberAt bytes at Missing → Nowhere bytes 0 0
+  pub number-missing : NumberAt bytes at None → Nowhere bytes 0 0
   unfolding AllHeld
   number-missing f =
       r.wrong (λ n ns rest few many held e. f n (mark ns ∷ (parted ns ++ rest)) (held 0) (mark-stops ns (parted ns ++ rest)) (e ∙ parted-cons n ns rest))
 
-  module _ (n next : ℕ) (s : NumberAt bytes at (Is n next)) where
+  module _ (number : Number) (s : NumberAt bytes at (Some number)) where
+    abbrev n : ℕ
+    n = number.value
+
+    abbrev next : ℕ
+    next = number.next
+
     -- what begins the bytes is the number that was read, and the byte behind it
     behind-first : (m : ℕ) (ns rest : List ℕ) → drop at bytes ≡ parted (m ∷ ns) ++ rest → drop next bytes ≡ mark ns ∷ (parted ns ++ rest)
     behind-first m ns rest e =

@@ -121,6 +121,10 @@ pub record Left (mark : ℕ) (text : List ℕ) (k at left : ℕ) : Type 0 where
 pub left-all : (mark : ℕ) (text : List ℕ) (k : ℕ) → Left mark text k 0 k
 left-all mark text k = record { inside = omega arith; piece = refl }
 
+-- as many, counted otherwise
+pub left-as : {mark : ℕ} {text : List ℕ} {k at left n : ℕ} → Left mark text k at left → left ≡ n → Left mark text k at n
+left-as {mark} {text} {k} {at} l e = subst (λ (m : ℕ). Left mark text k at m) e l
+
 pub left-none : {mark : ℕ} {text : List ℕ} {k at left : ℕ} → Left mark text k at left → left ≤ 0 → Left mark text k at 0
 left-none {mark} {text} {k} {at} {left} l h = let z : left ≡ 0 = omega arith in subst (λ (n : ℕ). Left mark text k at n) z l
 

@@ -12,7 +12,7 @@ use borrow.Author.Tests.{ltb-true, ltb-false}
 use Rattle.listing_text.specs.Text.{digit, decimal}
 use Rattle.listing_text.specs.Line.{Held}
 use Rattle.listing_text.specs.Reading.{digit_of, Spelt, NumberAt}
-use Rattle.listing_text.specs.declared.settings_line.Number.TheVariants.{Missing}
+use Rattle.std.specs.Prelude.{None}
 use Rattle.listing_text.proofs.Digits.{of-digit, decimal-one, decimal_step, begins, longer-number, no-leading-zero}
 
 -- a byte that is not past the end, and the bytes from it on
@@ -27,7 +27,7 @@ pub split : (bytes : List ℕ) (i : ℕ) → i < length bytes → drop i bytes �
 split bytes i h = drop-cons bytes i 0 h ∙ (let e : suc i ≡ i + 1 = omega arith in ap (λ (n : ℕ). get_or bytes i 0 ∷ drop n bytes) e)
 
 -- no digit, no number
-pub no_number : (bytes : List ℕ) (at x : ℕ) → x ≡ digit_of (get_or bytes at 0) → 9 < x → NumberAt bytes at Missing
+pub no_number : (bytes : List ℕ) (at x : ℕ) → x ≡ digit_of (get_or bytes at 0) → 9 < x → NumberAt bytes at None
 no_number bytes at x d h n rest held stops e =
     let f : get_or bytes at 0 ≡ get_or (decimal n ++ rest) 0 0 = sym (get_or-drop at bytes 0 0 ∙ ap (λ (i : ℕ). get_or bytes i 0) (add-zero at)) ∙ ap (λ (l : List ℕ). get_or l 0 0) e in
     omega (arith, begins n rest, ap digit_of f)
@@ -65,8 +65,8 @@ module _ (bytes : List ℕ) (i x : ℕ) (e : x ≡ digit_of (get_or bytes i 0)) 
     longer : drop at bytes ≡ decimal n ++ get_or bytes i 0 ∷ drop (i + 1) bytes
     longer = s.text ∙ ap (λ (l : List ℕ). decimal n ++ l) (split bytes i digit-inside)
 
-    pub zero-leads : n ≡ 0 → NumberAt bytes at Missing
+    pub zero-leads : n ≡ 0 → NumberAt bytes at None
     zero-leads z m rest held stops f = no-leading-zero n (get_or bytes i 0) (drop (i + 1) bytes) m rest (omega arith) stops (sym longer ∙ f) z
 
-    pub too_large : 4294967295 < n * 10 + x → NumberAt bytes at Missing
+    pub too_large : 4294967295 < n * 10 + x → NumberAt bytes at None
     too_large l m rest held stops f = omega (arith, longer-number n (get_or bytes i 0) (drop (i + 1) bytes) m rest (omega arith) stops (sym longer ∙ f))

@@ -6,7 +6,6 @@ use Prim.Native.Nat.{ℕ, zero, suc, ◌+◌, ◌-◌, ◌*◌, ◌≤◌, ◌<�
 use native.Mathlib.Omega.{arith}
 use lib.Dec.{eqb}
 use lib.ListN.{length, get_or, drop, replicate, drop_of_length-le, length-append, length-drop}
-use borrow.Author.Tests.{eqb-true, eqb-false}
 use Rattle.rules.specs.Rows.{Encoding, group4, group3_1_d, group3_2_d, Settings}
 use Rattle.settings.specs.Settings.{encoding_of, settings_of}
 use Rattle.settings.specs.declared.DecodeSettings.{DecodeSettings}
@@ -16,7 +15,7 @@ use Rattle.listing_text.specs.Text.{decimal}
 use Rattle.listing_text.specs.Line.{mark, parted, flag, encoding_number, settings_numbers, filled, Held, Begins, Says}
 use Rattle.listing_text.specs.Reading.{Stands}
 use Rattle.listing_text.specs.declared.settings_line.Parsed.{Parsed}
-use Rattle.listing_text.specs.declared.settings_line.Parsed.TheVariants.{Settings as found, Bad}
+use Rattle.std.specs.Prelude.{Option, Some, None}
 use Rattle.listing_text.proofs.Spelling.{split}
 use Rattle.listing_text.proofs.Lengths.{decimal-short}
 use Rattle.listing_text.proofs.Parting.{AllHeld, Nowhere, Whole, parted-once}
@@ -24,17 +23,6 @@ use Rattle.listing_text.proofs.Parting.{AllHeld, Nowhere, Whole, parted-once}
 flag_small : (b : Bool) → flag b ≤ 1
 flag_small true = omega arith
 flag_small false = omega arith
-
-flag_is : (n : ℕ) → n ≤ 1 → flag (eqb n 1) ≡ n
-flag_is n h = tests (eqb n 1) refl
-  where
-    small : (m : ℕ) → m ≤ 1 → (m ≡ 1 → ⊥) → 0 ≡ m
-    small zero l f = refl
-    small (suc m) l f = absurd (f (omega arith))
-
-    tests : (b : Bool) → eqb n 1 ≡ b → flag b ≡ n
-    tests true e = sym (eqb-true n 1 e)
-    tests false e = small n h (eqb-false n 1 e)
 
 mode_small : (e : Encoding) → encoding_number e ≤ 2
 mode_small group4 = omega arith
@@ -72,14 +60,13 @@ module _ (columns rows block line aligned encoding strict exact plain : ℕ) whe
   pub stand-large : (Small → ⊥) → (S : Settings) (engine : Bool) → settings_numbers S engine ≡ nine → ⊥
   stand-large f S engine e = f (numbers-small S engine e)
 
-  -- smaller ones are
-  pub stand-found : (next : ℕ) (mode : EncodingMode) → Small → encoding_number (encoding_of mode) ≡ encoding → Held columns → Held rows
-      → Stands nine next (found (record { columns = columns; rows = rows; end_of_block = eqb block 1; end_of_line = eqb line 1; rows_are_byte_aligned = eqb aligned 1; encoding = mode; strict = eqb strict 1; exact = eqb exact 1; plain = eqb plain 1 }) next)
+  -- flags and an encoding that are these numbers are
+  pub stand-found : (a b c d e f : Bool) (mode : EncodingMode) (at : ℕ)
+      → flag a ≡ block → flag b ≡ line → flag c ≡ aligned → encoding_number (encoding_of mode) ≡ encoding → flag d ≡ strict → flag e ≡ exact → flag f ≡ plain
+      → Held columns → Held rows
+      → Stands nine at (Some (record { settings = record { columns = columns; rows = rows; end_of_block = a; end_of_line = b; rows_are_byte_aligned = c; encoding = mode; strict = d; exact = e; plain = f }; at = at }))
   unfolding settings_numbers
-  stand-found next mode s e c r = (numbers, refl, c, r)
-    where
-      numbers : columns ∷ rows ∷ flag (eqb block 1) ∷ flag (eqb line 1) ∷ flag (eqb aligned 1) ∷ encoding_number (encoding_of mode) ∷ flag (eqb strict 1) ∷ flag (eqb exact 1) ∷ flag (eqb plain 1) ∷ [] ≡ nine
-      numbers = rw (flag_is block s.block-small, flag_is line s.line_small, flag_is aligned s.aligned-small, e, flag_is strict s.strict-small, flag_is exact s.exact-small, flag_is plain s.plain-small)
+  stand-found a b c d e f mode at p q r s t u v w x = (rw (p, q, r, s, t, u, v), refl, w, x)
 
 -- ---- From the numbers to what the bytes say
 
@@ -128,7 +115,7 @@ module _ {bytes : List ℕ} {S : Settings} {plain : Bool} {rest : List ℕ} (b :
   unfolding settings_numbers
   numbers-few = omega (arith, ap length b.said.all, length-append b.numbers (replicate (9 - length b.numbers) 0))
 
-pub says-bad : (bytes : List ℕ) → Nowhere bytes 0 0 → Says bytes Bad
+pub says-bad : (bytes : List ℕ) → Nowhere bytes 0 0 → Says bytes None
 says-bad bytes f S plain rest b = cases b.numbers b.said.seven (numbers-few b) (numbers-held b) b.text
   where
     cases : (ns : List ℕ) → 7 ≤ length ns → length ns ≤ 9 → AllHeld ns → bytes ≡ parted ns ++ rest → ⊥
@@ -141,10 +128,10 @@ one_line bytes [] ns xs ys h l p q = absurd (omega arith)
 one_line bytes (m ∷ ms) [] xs ys h l p q = absurd (omega arith)
 one_line bytes (m ∷ ms) (n ∷ ns) xs ys h l p q = parted-once m n ms ns xs ys (sym p ∙ q)
 
-pub says-stands : (bytes read : List ℕ) (at : ℕ) (r : Parsed) → Whole bytes at read → Stands read at r → Says bytes r
-says-stands bytes read at (found s next) w t =
+pub says-stands : (bytes read : List ℕ) (at : ℕ) (r : Option Parsed) → Whole bytes at read → Stands read at r → Says bytes r
+says-stands bytes read at (Some s) w t =
     (record { columns = t.2; rows = t.3; numbers = w.numbers; said = record { seven = w.seven; all = sym (t.0 ∙ w.array) }; text = w.text ∙ ap (λ (i : ℕ). parted w.numbers ++ drop i bytes) (sym t.1) }, omega (arith, t.1, w.inside))
-says-stands bytes read at Bad w f =
+says-stands bytes read at None w f =
     λ S plain rest b. f S plain (sym b.said.all ∙ ap filled (one_line bytes b.numbers w.numbers rest (drop at bytes) b.said.seven w.seven b.text w.text).0 ∙ sym w.array)
 
 -- ---- Bytes say one thing only
@@ -219,14 +206,17 @@ begins-once bytes S R f g xs ys p q =
     let e : settings_numbers S f ≡ settings_numbers R g = sym p.said.all ∙ ap filled u.0 ∙ q.said.all in
     (sym (numbers-back S f) ∙ ap from_numbers e ∙ numbers-back R g, sym (engine-back S f) ∙ ap engine_from e ∙ engine-back R g, u.1)
 
-pub says-once : (bytes : List ℕ) (a b : Parsed) → Says bytes a → Says bytes b → a ≡ b
-says-once bytes (found s i) (found t j) p q =
-    let u = begins-once bytes (settings_of s) (settings_of t) s.plain t.plain (drop i bytes) (drop j bytes) p.0 q.0 in
-    let e : i ≡ j = omega (arith, length-drop i bytes, length-drop j bytes, ap length u.2) in
-    ap₂ found (sym (source-back s) ∙ ap₂ source u.0 u.1 ∙ source-back t) e
-says-once bytes (found s i) Bad p q = absurd (q (settings_of s) s.plain (drop i bytes) p.0)
-says-once bytes Bad (found t j) p q = absurd (p (settings_of t) t.plain (drop j bytes) q.0)
-says-once bytes Bad Bad p q = refl
+abbrev found : DecodeSettings → ℕ → Option Parsed
+found settings at = Some (record { settings = settings; at = at })
+
+pub says-once : (bytes : List ℕ) (a b : Option Parsed) → Says bytes a → Says bytes b → a ≡ b
+says-once bytes (Some s) (Some t) p q =
+    let u = begins-once bytes (settings_of s.settings) (settings_of t.settings) s.settings.plain t.settings.plain (drop s.at bytes) (drop t.at bytes) p.0 q.0 in
+    let e : s.at ≡ t.at = omega (arith, length-drop s.at bytes, length-drop t.at bytes, ap length u.2) in
+    ap₂ found (sym (source-back s.settings) ∙ ap₂ source u.0 u.1 ∙ source-back t.settings) e
+says-once bytes (Some s) None p q = absurd (q (settings_of s.settings) s.settings.plain (drop s.at bytes) p.0)
+says-once bytes None (Some t) p q = absurd (p (settings_of t.settings) t.settings.plain (drop t.at bytes) q.0)
+says-once bytes None None p q = refl
 
 -- ---- How long a line can be
 

@@ -1,10 +1,9 @@
 -- The line of settings, and when bytes begin with one (01 "Sheets on the wall"; 02, A12, A14).
-use Rattle.std.specs.Prelude.{◌≡◌, Bool, true, false, List, [], ◌∷◌, ◌++◌, ℕ, ◌-◌, ◌≤◌, length, drop, replicate}
+use Rattle.std.specs.Prelude.{◌≡◌, Bool, true, false, Option, Some, None, List, [], ◌∷◌, ◌++◌, ℕ, ◌-◌, ◌≤◌, length, drop, replicate}
 use Rattle.rules.specs.Rows.{Encoding, group4, group3_1_d, group3_2_d, Settings}
 use Rattle.settings.specs.Settings.{settings_of}
 use Rattle.listing_text.specs.Text.{tab, newline, decimal}
 use Rattle.listing_text.specs.declared.settings_line.Parsed.{Parsed}
-use Rattle.listing_text.specs.declared.settings_line.Parsed.TheVariants.{Settings as found, Bad}
 
 -- the byte behind a number: "parted by tabs and ended by a line feed"
 abbrev pub mark : List ℕ → ℕ
@@ -61,6 +60,6 @@ pub record Begins (bytes : List ℕ) (S : Settings) (plain : Bool) (rest : List 
   pub text : bytes ≡ parted numbers ++ rest
 
 -- the settings that bytes begin with, the engine among them, and where the rest starts; or there are none
-abbrev pub Says : List ℕ → Parsed → Type 0
-Says bytes (found s at) = Begins bytes (settings_of s) s.plain (drop at bytes) × (at ≤ length bytes)
-Says bytes Bad = (S : Settings) (plain : Bool) (rest : List ℕ) → Begins bytes S plain rest → ⊥
+abbrev pub Says : List ℕ → Option Parsed → Type 0
+Says bytes (Some p) = Begins bytes (settings_of p.settings) p.settings.plain (drop p.at bytes) × (p.at ≤ length bytes)
+Says bytes None = (S : Settings) (plain : Bool) (rest : List ℕ) → Begins bytes S plain rest → ⊥

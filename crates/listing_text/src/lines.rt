@@ -13,10 +13,8 @@ fn put_fields(out: &mut [u8], at: usize, numbers: &[u32]) -> usize
     ensures { Puts out.old at (tabbed numbers.now) result out.new }
 {
     let mut p = at;
-    let mut i = 0;
-    while i < numbers.len() {
-        p = put_field(out, p, numbers[i] as u64);
-        i += 1;
+    for number in numbers {
+        p = put_field(out, p, u64::from(*number));
     }
     p
 }
@@ -49,13 +47,11 @@ fn put_rows(out: &mut [u8], at: usize, changes: &[u32], ends: &[u64], marks: &[u
 {
     let mut p = at;
     let mut base = 0;
-    let mut k = 0;
-    while k < ends.len() {
+    for k in 0..ends.len() {
         let end = ends[k] as usize;
         let number = k + 1;
         p = put_row(out, p, number, marks[k], &changes[base..end]);
         base = end;
-        k = number;
     }
     p
 }

@@ -16,10 +16,8 @@ pub(crate) fn put_text(out: &mut [u8], at: usize, text: &[u8]) -> usize
     ensures { Puts out.old at text.now result out.new }
 {
     let mut p = at;
-    let mut i = 0;
-    while i < text.len() {
-        p = put_byte(out, p, text[i]);
-        i += 1;
+    for b in text {
+        p = put_byte(out, p, *b);
     }
     p
 }
@@ -28,7 +26,7 @@ fn glyph(d: u64) -> u8
     requires { d < 10 }
     ensures { result ≡ digit d }
 {
-    48 + d as u8
+    b'0' + d as u8
 }
 
 pub fn put_number(out: &mut [u8], at: usize, n: u64) -> usize

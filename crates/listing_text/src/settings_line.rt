@@ -1,8 +1,7 @@
 // The line of settings.
 ghost use Rattle.std.specs.Prelude.{◌≡◌, [], ◌∷◌, ◌≤◌, length, get_or};
-ghost use Rattle.settings.specs.Settings.{encoding_of};
-ghost use Rattle.listing_text.specs.Line.{encoding_number, Says};
-ghost use Rattle.listing_text.specs.Reading.{digit_of, NumberAt, Stands};
+ghost use Rattle.listing_text.specs.Line.{Says};
+ghost use Rattle.listing_text.specs.Reading.{DigitIs, NumberAt, FlagIs, ModeIs, Stands};
 
 use settings::{DecodeSettings, EncodingMode};
 
@@ -11,9 +10,9 @@ const MOST_NUMBER: u64 = answer::MOST_PIXELS as u64;
 
 // The settings, and where the data begins.
 #[derive(Clone, Copy)]
-pub enum Parsed {
-    Settings(DecodeSettings, usize),
-    Bad,
+pub struct Parsed {
+    pub settings: DecodeSettings,
+    pub at: usize,
 }
 
 // A byte; 0 past the end, which stands in no line.
@@ -23,61 +22,62 @@ fn byte(bytes: &[u8], at: usize) -> u8
     if at < bytes.len() { bytes[at] } else { 0 }
 }
 
-// The digit at a place; 10 where there is none.
-fn digit(bytes: &[u8], at: usize) -> u64
-    ensures { result ≡ digit_of (get_or bytes.now at 0) }
+fn digit(bytes: &[u8], at: usize) -> Option<u64>
+    ensures { DigitIs (get_or bytes.now at 0) result }
 {
     let b = byte(bytes, at);
-    if b < 48 {
-        return 10;
+    if b < b'0' || b'9' < b {
+        return None;
     }
-    if b > 57 {
-        return 10;
-    }
-    (b - 48) as u64
+    Some(u64::from(b - b'0'))
 }
 
 // A number, and the place behind its digits.
 #[derive(Clone, Copy)]
-enum Number {
-    Is(u32, usize),
-    Missing,
+struct Number {
+    value: u32,
+    next: usize,
 }
 
-fn read_number(bytes: &[u8], at: usize) -> Number
+fn read_number(bytes: &[u8], at: usize) -> Option<Number>
     requires { at ≤ length bytes.now }
     ensures { NumberAt bytes.now at result }
 {
-    let mut n = digit(bytes, at);
-    if n > 9 {
-        return Number::Missing;
-    }
+    let mut n = digit(bytes, at)?;
     let mut next = at + 1;
-    loop {
-        let d = digit(bytes, next);
-        if d > 9 {
-            return Number::Is(n as u32, next);
-        }
+    while let Some(d) = digit(bytes, next) {
         // `0` stands alone: a zero never leads.
         if n == 0 {
-            return Number::Missing;
+            return None;
         }
         n = n * 10 + d;
         if n > MOST_NUMBER {
-            return Number::Missing;
+            return None;
         }
         next += 1;
     }
+    let value = n as u32;
+    Some(Number { value, next })
 }
 
-fn mode(n: u32) -> EncodingMode
-    requires { n ≤ 2 }
-    ensures { encoding_number (encoding_of result) ≡ n }
+fn flag(n: u32) -> Option<bool>
+    ensures { FlagIs n result }
 {
     match n {
-        0 => EncodingMode::Group4,
-        1 => EncodingMode::Group3_1D,
-        _ => EncodingMode::Group3_2D,
+        0 => Some(false),
+        1 => Some(true),
+        _ => None,
+    }
+}
+
+fn mode(n: u32) -> Option<EncodingMode>
+    ensures { ModeIs n result }
+{
+    match n {
+        0 => Some(EncodingMode::Group4),
+        1 => Some(EncodingMode::Group3_1D),
+        2 => Some(EncodingMode::Group3_2D),
+        _ => None,
     }
 }
 
@@ -92,71 +92,44 @@ fn stand(
     strict: u32,
     exact: u32,
     plain: u32,
-    next: usize,
-) -> Parsed
-    ensures { Stands (columns ∷ rows ∷ block ∷ line ∷ aligned ∷ encoding ∷ strict ∷ exact ∷ plain ∷ []) next result }
+    at: usize,
+) -> Option<Parsed>
+    ensures { Stands (columns ∷ rows ∷ block ∷ line ∷ aligned ∷ encoding ∷ strict ∷ exact ∷ plain ∷ []) at result }
 {
-    if block > 1 {
-        return Parsed::Bad;
-    }
-    if line > 1 {
-        return Parsed::Bad;
-    }
-    if aligned > 1 {
-        return Parsed::Bad;
-    }
-    if encoding > 2 {
-        return Parsed::Bad;
-    }
-    if strict > 1 {
-        return Parsed::Bad;
-    }
-    if exact > 1 {
-        return Parsed::Bad;
-    }
-    if plain > 1 {
-        return Parsed::Bad;
-    }
-    Parsed::Settings(
-        DecodeSettings {
-            columns: columns,
-            rows: rows,
-            end_of_block: block == 1,
-            end_of_line: line == 1,
-            rows_are_byte_aligned: aligned == 1,
-            encoding: mode(encoding),
-            strict: strict == 1,
-            exact: exact == 1,
-            plain: plain == 1,
-        },
-        next,
-    )
+    let settings = DecodeSettings {
+        columns,
+        rows,
+        end_of_block: flag(block)?,
+        end_of_line: flag(line)?,
+        rows_are_byte_aligned: flag(aligned)?,
+        encoding: mode(encoding)?,
+        strict: flag(strict)?,
+        exact: flag(exact)?,
+        plain: flag(plain)?,
+    };
+    Some(Parsed { settings, at })
 }
 
 // The settings that the bytes begin with: seven numbers, eight or nine; one that is missing is 0.
-pub fn parse(bytes: &[u8]) -> Parsed
+pub fn parse(bytes: &[u8]) -> Option<Parsed>
     ensures { Says bytes.now result }
 {
     let mut n = [0u32; 9];
     let mut at = 0;
-    let mut k = 0;
-    while k < 9 {
-        let Number::Is(value, next) = read_number(bytes, at) else {
-            return Parsed::Bad;
-        };
-        let behind = byte(bytes, next);
-        n[k] = value;
-        at = next + 1;
-        k += 1;
+    for k in 0..9 {
+        let number = read_number(bytes, at)?;
+        let behind = byte(bytes, number.next);
+        n[k] = number.value;
+        at = number.next + 1;
         if behind == b'\n' {
-            if k < 7 {
-                return Parsed::Bad;
+            if k < 6 {
+                return None;
             }
             return stand(n[0], n[1], n[2], n[3], n[4], n[5], n[6], n[7], n[8], at);
         }
         if behind != b'\t' {
-            return Parsed::Bad;
+            return None;
         }
     }
-    Parsed::Bad
+    None
 }

@@ -7,14 +7,12 @@ pub fn line_end(text: &[u8], at: usize) -> usize
     requires { at ≤ length text.now }
     ensures { LineTo text.now at result }
 {
-    let mut i = at;
-    while i < text.len() {
+    for i in at..text.len() {
         if text[i] == b'\n' {
             return i;
         }
-        i += 1;
     }
-    i
+    text.len()
 }
 
 // Where the line of a number begins; the end of the text where it has no such line.
@@ -22,14 +20,12 @@ pub fn line_start(text: &[u8], k: usize) -> usize
     ensures { LineFrom text.now k result }
 {
     let mut at = 0;
-    let mut left = k;
-    while 0 < left {
+    for passed in 0..k {
         let end = line_end(text, at);
         if end == text.len() {
             return end;
         }
         at = end + 1;
-        left -= 1;
     }
     at
 }

@@ -33,9 +33,6 @@ slice_bounds-put_row-end c = omega (arith, (end-rises c.loop-k.invariant c.loop-
 pub put_row-p-requires : goal.put_row-p-requires
 put_row-p-requires c = row_room c.loop-k.invariant c.loop-k-test.true
 
-pub loop-k-smaller : goal.loop-k-smaller
-loop-k-smaller c = omega arith
-
 pub loop-k-preserved : goal.loop-k-preserved
 loop-k-preserved c = row_put c.loop-k.invariant c.loop-k-test.true c.put_row-p.ensures
 

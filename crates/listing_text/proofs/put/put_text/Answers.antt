@@ -5,26 +5,17 @@ use Rattle.listing_text.proofs.Spelling.{split}
 use Rattle.listing_text.proofs.Written.{owes-all, owes-room, owes-some, owes-none}
 use Rattle.listing_text.proofs.put.put_text.Goals as goal
 
-pub loop-i-init : goal.loop-i-init
-loop-i-init c = (owes-all c.requires, omega arith)
-
-pub bounds-text-i : goal.bounds-text-i
-bounds-text-i c = omega arith
+pub loop-b-init : goal.loop-b-init
+loop-b-init c = (owes-all c.requires, omega arith)
 
 pub put_byte-p-requires : goal.put_byte-p-requires
-put_byte-p-requires c = owes-room c.loop-i.invariant.0 _ _ (split _ _ c.loop-i-test.true)
+put_byte-p-requires c = owes-room c.loop-b.invariant.0 _ _ (split _ _ c.loop-b-test.true)
 
-pub overflow_add-i : goal.overflow_add-i
-overflow_add-i c = omega arith
-
-pub loop-i-smaller : goal.loop-i-smaller
-loop-i-smaller c = omega arith
-
-pub loop-i-preserved : goal.loop-i-preserved
-loop-i-preserved c = (owes-some c.loop-i.invariant.0 _ _ (split _ _ c.loop-i-test.true) c.put_byte-p.ensures, omega arith)
+pub loop-b-preserved : goal.loop-b-preserved
+loop-b-preserved c = (owes-some c.loop-b.invariant.0 _ _ (split _ _ c.loop-b-test.true) c.put_byte-p.ensures, omega arith)
 
 pub shape_of-out : goal.shape_of-out
-shape_of-out c = c.loop-i.invariant.0.size
+shape_of-out c = c.loop-b.invariant.0.size
 
 pub returns : goal.returns
-returns c = owes-none c.loop-i.invariant.0 (drop_of_length-le _ c.loop-i-test.false)
+returns c = owes-none c.loop-b.invariant.0 (drop_of_length-le _ c.loop-b-test.false)

@@ -1,10 +1,6 @@
 -- `listing_text::settings_line::parse` meets its contract. The invariant: whatever the bytes from `at` on say, the whole says. Assumes nothing.
-use Prim.Native.Nat.{◌-◌}
 use Rattle.listing_text.proofs.Parting.{Reading}
 use Rattle.listing_text.proofs.settings_line.parse.Given as goal
 
 abbrev pub invariant-loop-k : goal.invariant-loop-k
 invariant-loop-k l = Reading l.bytes l.at l.k l.n
-
-abbrev pub decreases-loop-k : goal.decreases-loop-k
-decreases-loop-k l = 9 - l.k

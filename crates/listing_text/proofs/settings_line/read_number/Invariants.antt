@@ -4,8 +4,8 @@ use lib.ListN.{length}
 use Rattle.listing_text.specs.Reading.{Spelt}
 use Rattle.listing_text.proofs.settings_line.read_number.Given as goal
 
-abbrev pub invariant-loop-at : goal.invariant-loop-at
-invariant-loop-at l = Spelt l.bytes l.at l.n l.next
+abbrev pub invariant-loop-d : goal.invariant-loop-d
+invariant-loop-d l = Spelt l.bytes l.at l.n l.next
 
-abbrev pub decreases-loop-at : goal.decreases-loop-at
-decreases-loop-at l = length l.bytes - l.next
+abbrev pub decreases-loop-d : goal.decreases-loop-d
+decreases-loop-d l = length l.bytes - l.next

@@ -1,32 +1,46 @@
 -- `listing_text::settings_line::stand` meets its contract. Assumes nothing.
+use Prim.Native.Nat.{◌<◌}
 use native.Mathlib.Omega.{arith}
 use Rattle.listing_text.proofs.Standing.{stand-large, stand-found}
-use borrow.Author.Rules.{rules}
 use Rattle.listing_text.proofs.settings_line.stand.Goals as goal
 
-pub returns-then-block-gt1 : goal.returns-then-block-gt1
-returns-then-block-gt1 c = stand-large _ _ _ _ _ _ _ _ _ (λ s. omega (arith, s.block-small, c.if-block-gt1.true))
+pub returns-in_err-flag : goal.returns-in_err-flag
+returns-in_err-flag c =
+    let h : 1 < c.args.block = c.in_err-flag.ensures in
+    rw c.from_residual.ensures (stand-large _ _ _ _ _ _ _ _ _ (λ s. omega (arith, s.block-small)))
 
-pub returns-then-line-gt1 : goal.returns-then-line-gt1
-returns-then-line-gt1 c = stand-large _ _ _ _ _ _ _ _ _ (λ s. omega (arith, s.line_small, c.if-line-gt1.true))
+pub returns-in_err-flag-2 : goal.returns-in_err-flag-2
+returns-in_err-flag-2 c =
+    let h : 1 < c.args.line = c.in_err-flag-2.ensures in
+    rw c.from_residual-in_err-flag-2.ensures (stand-large _ _ _ _ _ _ _ _ _ (λ s. omega (arith, s.line_small)))
 
-pub returns-then-aligned-gt1 : goal.returns-then-aligned-gt1
-returns-then-aligned-gt1 c = stand-large _ _ _ _ _ _ _ _ _ (λ s. omega (arith, s.aligned-small, c.if-aligned-gt1.true))
+pub returns-in_err-flag-3 : goal.returns-in_err-flag-3
+returns-in_err-flag-3 c =
+    let h : 1 < c.args.aligned = c.in_err-flag-3.ensures in
+    rw c.from_residual-in_err-flag-3.ensures (stand-large _ _ _ _ _ _ _ _ _ (λ s. omega (arith, s.aligned-small)))
 
-pub returns-then-encoding-gt2 : goal.returns-then-encoding-gt2
-returns-then-encoding-gt2 c = stand-large _ _ _ _ _ _ _ _ _ (λ s. omega (arith, s.encoding-small, c.if-encoding-gt2.true))
+pub returns-in_err-mode : goal.returns-in_err-mode
+returns-in_err-mode c =
+    let h : 2 < c.args.encoding = c.in_err-mode.ensures in
+    rw c.from_residual-in_err-mode.ensures (stand-large _ _ _ _ _ _ _ _ _ (λ s. omega (arith, s.encoding-small)))
 
-pub returns-then-strict-gt1 : goal.returns-then-strict-gt1
-returns-then-strict-gt1 c = stand-large _ _ _ _ _ _ _ _ _ (λ s. omega (arith, s.strict-small, c.if-strict-gt1.true))
+pub returns-in_err-flag-4 : goal.returns-in_err-flag-4
+returns-in_err-flag-4 c =
+    let h : 1 < c.args.strict = c.in_err-flag-4.ensures in
+    rw c.from_residual-in_err-flag-4.ensures (stand-large _ _ _ _ _ _ _ _ _ (λ s. omega (arith, s.strict-small)))
 
-pub returns-then-exact-gt1 : goal.returns-then-exact-gt1
-returns-then-exact-gt1 c = stand-large _ _ _ _ _ _ _ _ _ (λ s. omega (arith, s.exact-small, c.if-exact-gt1.true))
+pub returns-in_err-flag-5 : goal.returns-in_err-flag-5
+returns-in_err-flag-5 c =
+    let h : 1 < c.args.exact = c.in_err-flag-5.ensures in
+    rw c.from_residual-in_err-flag-5.ensures (stand-large _ _ _ _ _ _ _ _ _ (λ s. omega (arith, s.exact-small)))
 
-pub returns-then-plain-gt1 : goal.returns-then-plain-gt1
-returns-then-plain-gt1 c = stand-large _ _ _ _ _ _ _ _ _ (λ s. omega (arith, s.plain-small, c.if-plain-gt1.true))
+pub returns-in_err-flag-6 : goal.returns-in_err-flag-6
+returns-in_err-flag-6 c =
+    let h : 1 < c.args.plain = c.in_err-flag-6.ensures in
+    rw c.from_residual-in_err-flag-6.ensures (stand-large _ _ _ _ _ _ _ _ _ (λ s. omega (arith, s.plain-small)))
 
 pub returns : goal.returns
 returns c =
-    stand-found _ _ _ _ _ _ _ _ _ _ c.mode.result
-    (record { block-small = c.if-block-gt1.false; line_small = c.if-line-gt1.false; aligned-small = c.if-aligned-gt1.false; encoding-small = c.if-encoding-gt2.false; strict-small = c.if-strict-gt1.false; exact-small = c.if-exact-gt1.false; plain-small = c.if-plain-gt1.false })
-    c.mode.ensures (search rules) (search rules)
+    stand-found _ _ _ _ _ _ _ _ _ _ _ _ _ _ _ c.in_ok-mode.field-0 c.args.at
+    c.in_ok-flag.ensures c.in_ok-flag-2.ensures c.in_ok-flag-3.ensures c.in_ok-mode.ensures c.in_ok-flag-4.ensures c.in_ok-flag-5.ensures c.in_ok-flag-6.ensures
+    (omega arith) (omega arith)

@@ -1,12 +1,7 @@
 -- `listing_text::text_lines::line_end` meets its contract. The invariant: no line feed stands in what was passed. Assumes nothing.
-use Prim.Native.Nat.{◌-◌}
-use lib.ListN.{length}
 use Rattle.listing_text.specs.Text.{newline}
 use Rattle.listing_text.proofs.Piecing.{Passed}
 use Rattle.listing_text.proofs.text_lines.line_end.Given as goal
 
 abbrev pub invariant-loop-i : goal.invariant-loop-i
 invariant-loop-i l = Passed newline l.text l.at l.i
-
-abbrev pub decreases-loop-i : goal.decreases-loop-i
-decreases-loop-i l = length l.text - l.i
