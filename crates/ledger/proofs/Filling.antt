@@ -6,7 +6,7 @@ use Prim.Native.Nat.{ℕ, ◌+◌, ◌-◌, ◌≤◌, ◌<◌}
 use native.Mathlib.Omega.{arith}
 use lib.Dec.{leb}
 use lib.ListN.{length, get_or, drop}
-use borrow.Author.Tests.{leb-true, le-leb, lt-leb, lt-ltb, le-ltb, eq-eqb, ne_eqb}
+use borrow.Author.Tests.{leb-true}
 use Rattle.listing_text.specs.Text.{decimal}
 use Rattle.listing_text.proofs.Spelling.{split}
 use Rattle.ledger.specs.Said.{is_letter, fill, shown, shown_byte}
@@ -18,12 +18,6 @@ letter-low b e = by (leb 65 b) refl e
     by : (t : Bool) → leb 65 b ≡ t → (t && leb b 90) ≡ true → 65 ≤ b
     by true p q = leb-true 65 b p
     by false p q = absurd (let z : ◌≡◌ {A = ℕ} 0 1 = cc in omega arith)
-
-pub letter-no : (b : ℕ) → b < 65 → false ≡ is_letter b
-letter-no b h = sym (rw (lt-leb 65 b h))
-
-pub letter-if : (b : ℕ) → 65 ≤ b → leb b 90 ≡ is_letter b
-letter-if b h = sym (rw (le-leb 65 b h))
 
 -- ---- Piece by piece
 
@@ -61,12 +55,3 @@ shown-split name i h = ap shown (split name i h)
 pub shown-none : (name : List ℕ) → name ≡ [] → shown name ≡ []
 unfolding shown
 shown-none name e = rw e
-
-pub shown-low : (b : ℕ) → b < 32 → 63 ≡ shown_byte b
-shown-low b h = sym (rw (shown_byte, lt-ltb b 32 h))
-
-pub shown-delete : (b : ℕ) → 32 ≤ b → b ≡ 127 → 63 ≡ shown_byte b
-shown-delete b h e = sym (rw (shown_byte, le-ltb b 32 h, eq-eqb b 127 e))
-
-pub shown-plain : (b : ℕ) → 32 ≤ b → (b ≡ 127 → ⊥) → b ≡ shown_byte b
-shown-plain b h e = sym (rw (shown_byte, le-ltb b 32 h, ne_eqb b 127 e))

@@ -3,7 +3,7 @@ use mathlib.Core.Path.{◌≡◌, sym, ap, ap₂, ◌∙◌}
 use mathlib.Core.Bool.{Bool, true, false}
 use Prim.Native.Nat.{ℕ, ◌+◌, ◌*◌, ◌≤◌, ◌<◌}
 use native.Mathlib.Omega.{arith}
-use lib.Dec.{eqb, ltb}
+use lib.Dec.{ltb}
 use borrow.Author.Tests.{eq-eqb, ne_eqb, le-leb, lt-leb}
 use Rattle.ledger.specs.Phrases.{one, is_units, plain_at, missing_at, is_of_one_number, is_of_no_line, reason_at}
 use Rattle.ledger.specs.declared.Verdict.{Verdict}
@@ -46,18 +46,6 @@ module _ (v : Verdict) where
   missing-place l e f = sym (rw (missing_at, le-leb 20 v.which l, ne_eqb v.which 20 e, ne_eqb v.which 21 f))
 
   -- ---- Two tests in one
-
-  pub other-number : (v.number ≡ 18 → ⊥) → false ≡ is_of_one_number v
-  other-number h = sym (rw (ne_eqb v.number 18 h))
-
-  pub that-number : v.number ≡ 18 → eqb v.least v.most ≡ is_of_one_number v
-  that-number h = sym (rw (eq-eqb v.number 18 h))
-
-  pub other-fault : (v.number ≡ 34 → ⊥) → false ≡ is_of_no_line v
-  other-fault h = sym (rw (ne_eqb v.number 34 h))
-
-  pub that-fault : v.number ≡ 34 → eqb v.line 0 ≡ is_of_no_line v
-  that-fault h = sym (rw (eq-eqb v.number 34 h))
 
   -- ---- The reason
 

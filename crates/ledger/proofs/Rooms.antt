@@ -1,12 +1,12 @@
 -- Room in the books, and the books behind a page. Assumes nothing.
 use mathlib.Core.Path.{◌≡◌, refl, sym, ap, ap₂, ◌∙◌}
-use mathlib.Core.Bool.{Bool, true, false, not, ◌&&◌}
+use mathlib.Core.Bool.{Bool, true, false, ◌&&◌}
 use Prim.Native.Nat.{ℕ, suc, ◌+◌, ◌≤◌, ◌<◌}
 use native.Mathlib.Omega.{arith}
 use lib.Dec.{leb, ltb}
 use lib.IntN.{ℤ}
 use borrow.Author.Tests.{ltb-true, leb-true, lt-ltb, le-ltb, eq-eqb, ne_eqb}
-use Rattle.ledger.specs.Books.{left, is_below, status_of, booked, has_room, booked_in}
+use Rattle.ledger.specs.Books.{booked, has_room, booked_in}
 use Rattle.ledger.specs.declared.Ledger.{Ledger}
 use Rattle.ledger.specs.declared.Verdict.{Verdict}
 
@@ -62,18 +62,3 @@ module _ (b : Ledger) (v : Verdict) where
       ap₂ (λ (x : ℤ) (n : ℕ). made x b.heads n (b.looked + 1)) e s
       ∙ ap (λ (n : ℕ). made b.quota b.heads (suc b.pages) n) t
       ∙ sym (rw (booked_in, r, booked, ne_eqb v.number 0 z))
-
--- ---- What a run ends with
-
-module _ (b : Ledger) where
-  abbrev by_tests : Bool → Bool → ℕ
-  by_tests s t = elim (s && not t) [ true ↦ 0 | false ↦ 1 ]
-
-  pub looked-at : (b.looked ≡ 0 → ⊥) → 1 ≡ status_of b
-  looked-at h = sym (ap (λ (s : Bool). by_tests s (is_below (left b))) (ne_eqb b.looked 0 h))
-
-  pub passed-by : b.looked ≡ 0 → is_below (left b) ≡ true → 1 ≡ status_of b
-  passed-by h e = sym (ap₂ by_tests (eq-eqb b.looked 0 h) e)
-
-  pub all-well : b.looked ≡ 0 → is_below (left b) ≡ false → 0 ≡ status_of b
-  all-well h e = sym (ap₂ by_tests (eq-eqb b.looked 0 h) e)

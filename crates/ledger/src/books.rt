@@ -8,13 +8,9 @@ use crate::{Ledger, Verdict};
 pub fn has_room(b: Ledger, v: Verdict) -> bool
     ensures { result ≡ has_room b v }
 {
-    if 4294967294 < b.pages {
-        return false;
-    }
-    if 4294967294 < b.looked {
-        return false;
-    }
-    b.heads as u64 + v.heads as u64 <= 4294967295
+    b.pages < 4294967295
+        && b.looked < 4294967295
+        && u64::from(b.heads) + u64::from(v.heads) <= 4294967295
 }
 
 // The books behind a page; books that have no room for it stay as they are.
@@ -26,16 +22,14 @@ pub fn book(b: Ledger, v: Verdict) -> Ledger
     }
     if v.number == 0 {
         return Ledger {
-            quota: b.quota,
             heads: b.heads + v.heads,
             pages: b.pages + 1,
-            looked: b.looked,
+            ..b
         };
     }
     Ledger {
-        quota: b.quota,
-        heads: b.heads,
         pages: b.pages + 1,
         looked: b.looked + 1,
+        ..b
     }
 }

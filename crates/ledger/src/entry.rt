@@ -8,16 +8,13 @@ use crate::{Entered, Ledger, Verdict, books, said};
 pub fn enter(out: &mut [u8], name: &[u8], v: Verdict, b: Ledger) -> Entered
     ensures { Enters name.now b v out.old result out.new }
 {
-    if !books::has_room(b, v) {
-        return Entered { ledger: b, text: 0 };
-    }
-    if !said::has_room(out.len(), name.len()) {
+    if !books::has_room(b, v) || !said::has_room(out.len(), name.len()) {
         return Entered { ledger: b, text: 0 };
     }
     let after = books::book(b, v);
     let text = said::put_line(out, name, v, after);
     Entered {
         ledger: after,
-        text: text,
+        text,
     }
 }

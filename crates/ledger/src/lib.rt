@@ -51,7 +51,7 @@ pub struct Entered {
     pub text: usize,
 }
 
-// The numbers of the verdicts. Up to 15 they are the answers' (crate `answer`); those above are the desk's own.
+// The numbers of the verdicts: numbers and no enum, since a verdict crosses the C interface with its number in it. Up to 15 they are the answers' (crate `answer`); those above are the desk's own.
 
 // Of the page: read with other columns than the form's, bytes left behind it, other rows than the form says, a row that the form
 // rests on and that is not clean, a place that is not black, not white, a box in doubt, EOLs that were given up, a page that is not proper,

@@ -107,7 +107,7 @@ pub(crate) fn one(b: bool) -> usize
     ensures value { result ≡ Phrases.one b }
     ensures upper_bound { result ≤ 1 }
 {
-    if b { 1 } else { 0 }
+    usize::from(b)
 }
 
 // The phrase of a number by itself. From 32 on it is the next one.
@@ -148,20 +148,14 @@ fn missing_at(v: Verdict) -> usize
 fn is_of_one_number(v: Verdict) -> bool
     ensures { result ≡ is_of_one_number v }
 {
-    if v.number != crate::OTHER_ROWS {
-        return false;
-    }
-    v.least == v.most
+    v.number == crate::OTHER_ROWS && v.least == v.most
 }
 
 // A doubt above the tick is the fault of no line.
 fn is_of_no_line(v: Verdict) -> bool
     ensures { result ≡ is_of_no_line v }
 {
-    if v.number != crate::BAD_NUMBERS {
-        return false;
-    }
-    v.line == 0
+    v.number == crate::BAD_NUMBERS && v.line == 0
 }
 
 // The phrase of a verdict's reason.

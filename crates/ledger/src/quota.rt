@@ -14,28 +14,21 @@ fn is_negative(n: i32) -> bool
 fn magnitude(n: i32) -> u64
     ensures { result ≡ size n }
 {
-    let wide = n as i64;
-    if wide < 0 {
-        return (0 - wide) as u64;
-    }
-    wide as u64
+    u64::from(n.unsigned_abs())
 }
 
 // Whether a quota is passed by so many heads, and what is left of it, or by how much it is passed.
 fn is_below(quota: i32, heads: u32) -> bool
     ensures { result ≡ is_below (quota -ℤ pos heads) }
 {
-    if is_negative(quota) {
-        return true;
-    }
-    magnitude(quota) < heads as u64
+    is_negative(quota) || magnitude(quota) < u64::from(heads)
 }
 
 fn left_size(quota: i32, heads: u32) -> u64
     ensures { result ≡ size (quota -ℤ pos heads) }
 {
     let before = magnitude(quota);
-    let off = heads as u64;
+    let off = u64::from(heads);
     if is_negative(quota) {
         return before + off;
     }
@@ -62,11 +55,5 @@ pub fn size_left(b: Ledger) -> u64
 pub fn status(b: Ledger) -> u32
     ensures { result ≡ status_of b }
 {
-    if b.looked != 0 {
-        return 1;
-    }
-    if is_passed(b) {
-        return 1;
-    }
-    0
+    u32::from(b.looked != 0 || is_passed(b))
 }

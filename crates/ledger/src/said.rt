@@ -45,10 +45,7 @@ pub fn numbers(v: Verdict, b: Ledger) -> [u64; 16]
 fn counted_pages(pages: u32, looked: u32) -> u64
     ensures { result ≡ pages - looked }
 {
-    if pages < looked {
-        return 0;
-    }
-    (pages - looked) as u64
+    u64::from(pages.saturating_sub(looked))
 }
 
 fn number_at(numbers: &[u64], k: usize) -> u64
@@ -60,10 +57,7 @@ fn number_at(numbers: &[u64], k: usize) -> u64
 fn is_letter(b: u8) -> bool
     ensures { result ≡ is_letter b }
 {
-    if b < 65 {
-        return false;
-    }
-    b <= 90
+    b'A' <= b && b <= b'Z'
 }
 
 // A byte of a template.
@@ -72,7 +66,7 @@ fn put_piece(out: &mut [u8], at: usize, b: u8, numbers: &[u64]) -> usize
     ensures { Puts out.old at (fill numbers.now (b ∷ [])) result out.new }
 {
     if is_letter(b) {
-        return put_number(out, at, number_at(numbers, (b - 65) as usize));
+        return put_number(out, at, number_at(numbers, usize::from(b - b'A')));
     }
     put_byte(out, at, b)
 }
@@ -82,10 +76,8 @@ fn put_filled(out: &mut [u8], at: usize, template: &[u8], numbers: &[u64]) -> us
     ensures { Puts out.old at (fill numbers.now template.now) result out.new }
 {
     let mut p = at;
-    let mut i = 0;
-    while i < template.len() {
-        p = put_piece(out, p, template[i], numbers);
-        i += 1;
+    for b in template {
+        p = put_piece(out, p, *b, numbers);
     }
     p
 }
@@ -129,13 +121,7 @@ pub fn put_words(out: &mut [u8], at: usize, v: Verdict, numbers: &[u64]) -> usiz
 pub fn shown_byte(b: u8) -> u8
     ensures { result ≡ shown_byte b }
 {
-    if b < 32 {
-        return b'?';
-    }
-    if b == 127 {
-        return b'?';
-    }
-    b
+    if b < 32 || b == 127 { b'?' } else { b }
 }
 
 fn put_name(out: &mut [u8], at: usize, name: &[u8]) -> usize
@@ -143,10 +129,8 @@ fn put_name(out: &mut [u8], at: usize, name: &[u8]) -> usize
     ensures { Puts out.old at (shown name.now) result out.new }
 {
     let mut p = at;
-    let mut i = 0;
-    while i < name.len() {
-        p = put_byte(out, p, shown_byte(name[i]));
-        i += 1;
+    for b in name {
+        p = put_byte(out, p, shown_byte(*b));
     }
     p
 }
@@ -164,10 +148,7 @@ fn put_parts(out: &mut [u8], name: &[u8], v: Verdict, k: usize, ns: &[u64]) -> u
 pub(crate) fn has_room(out: usize, name: usize) -> bool
     ensures { result ≡ line_room name out }
 {
-    if out < LINE_ROOM {
-        return false;
-    }
-    name <= out - LINE_ROOM
+    LINE_ROOM <= out && name <= out - LINE_ROOM
 }
 
 // With its numbers.
@@ -221,7 +202,7 @@ pub fn unread(number: u32) -> Verdict
     ensures { result ≡ Said.unread number }
 {
     Verdict {
-        number: number,
+        number,
         heads: 0,
         which: 0,
         line: 0,

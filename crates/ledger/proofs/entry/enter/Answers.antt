@@ -1,17 +1,19 @@
 -- `ledger::entry::enter` meets its contract. Assumes nothing.
 use mathlib.Core.Path.{sym, ◌∙◌}
-use borrow.Author.Tests.{not-true, not-false}
 use Rattle.ledger.proofs.Entering.{no-books, no_line, goes_in}
+use Rattle.ledger.proofs.entry.enter.Goals.{then-not-has_room-via-then-not-has_room, then-not-has_room-via-else-not-has_room+then-not-has_room-2}
 use Rattle.ledger.proofs.entry.enter.Goals as goal
 
 pub returns-then-not-has_room : goal.returns-then-not-has_room
 returns-then-not-has_room c =
-    no-books c.args.name.now c.args.b c.args.v c.args.out.now (sym c.has_room.ensures ∙ not-true _ c.if-not-has_room.true-raw)
-
-pub returns-then-not-has_room-2 : goal.returns-then-not-has_room-2
-returns-then-not-has_room-2 c =
-    no_line c.args.name.now c.args.b c.args.v c.args.out.now (sym c.has_room.ensures ∙ not-false _ c.if-not-has_room.false-raw) (sym c.has_room-2.ensures ∙ not-true _ c.if-not-has_room-2.true-raw)
+    let a = c.args in
+    elim c.then-not-has_room.branch [
+      | then-not-has_room-via-then-not-has_room w ↦ no-books a.name.now a.b a.v a.out.now (sym c.has_room.ensures ∙ w.if-not-has_room.true)
+      | then-not-has_room-via-else-not-has_room+then-not-has_room-2 w ↦
+          no_line a.name.now a.b a.v a.out.now (sym c.has_room.ensures ∙ w.if-not-has_room.false) (sym w.has_room-else-not-has_room.ensures ∙ w.if-not-has_room-2.true)
+    ]
 
 pub returns : goal.returns
 returns c =
-    goes_in c.args.name.now c.args.b c.args.v c.args.out.now (sym c.has_room.ensures ∙ not-false _ c.if-not-has_room.false-raw) (sym c.has_room-2.ensures ∙ not-false _ c.if-not-has_room-2.false-raw) c.book-after.ensures c.put_line-text.ensures
+    goes_in c.args.name.now c.args.b c.args.v c.args.out.now (sym c.has_room.ensures ∙ c.if-not-has_room.false)
+    (sym c.has_room-else-not-has_room.ensures ∙ c.if-not-has_room-2.false) c.book-after.ensures c.put_line-text.ensures
