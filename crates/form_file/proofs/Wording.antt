@@ -5,10 +5,10 @@ use mathlib.Core.List.{List, [], ◌∷◌}
 use Prim.Native.Nat.{ℕ, suc, ◌+◌, ◌*◌, ◌≤◌, ◌<◌}
 use native.Mathlib.Omega.{arith}
 use native.Mathlib.Numerals.{add-one}
-use lib.Dec.{eqb, leb, ltb}
+use lib.Dec.{eqb, ltb}
 use lib.ListN.{length, get_or, take, drop, length-drop, drop_of_length-le}
 use lib.Seq.{drop-cons, drop-drop}
-use borrow.Author.Tests.{eqb-true, eq-eqb, ne_eqb, le-leb, lt-leb, lt-ltb, le-ltb}
+use borrow.Author.Tests.{eqb-true, eq-eqb, ne_eqb, lt-ltb, le-ltb}
 use Rattle.listing_text.specs.Lines.{onto, pieces}
 use Rattle.listing_text.specs.Reading.{digit_of}
 use Rattle.form_file.specs.Words.{is_blank, filled, same, none, value_from, value_of}
@@ -16,15 +16,6 @@ use Rattle.form_file.specs.Steps.{ahead, is_letter, words_in}
 use Rattle.form_file.proofs.Ahead.{ahead_more}
 
 -- ---- Blanks
-
-pub blank-space : (b : ℕ) → b ≡ 32 → true ≡ is_blank b
-blank-space b e = rw (eq-eqb b 32 e)
-
-pub blank-low : (b : ℕ) → (b ≡ 32 → ⊥) → b < 9 → false ≡ is_blank b
-blank-low b n l = rw (ne_eqb b 32 n, lt-leb 9 b l)
-
-pub blank-high : (b : ℕ) → (b ≡ 32 → ⊥) → 9 ≤ b → leb b 13 ≡ is_blank b
-blank-high b n l = rw (ne_eqb b 32 n, le-leb 9 b l)
 
 -- ---- Words by their places
 

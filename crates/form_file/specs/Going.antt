@@ -1,5 +1,5 @@
 -- The steps of a reading that contracts of inner functions speak of: what the lent arrays hold between two lines.
-use Rattle.std.specs.Prelude.{◌≡◌, Bool, ◌&&◌, List, ℕ, ◌*◌, ◌≤◌, leb, length, take, drop}
+use Rattle.std.specs.Prelude.{◌≡◌, Result, Ok, Err, Bool, ◌&&◌, List, ℕ, ◌*◌, ◌≤◌, leb, length, take, drop}
 use Rattle.heads.specs.declared.Box.{Box}
 use Rattle.rules.specs.Pages.{overlaid}
 use Rattle.listing_text.specs.Lines.{lines_of}
@@ -7,8 +7,7 @@ use Rattle.form_file.specs.Heard.{Heard, no_form, heard, on, fault}
 use Rattle.form_file.specs.FormFile.{Read, hearing, places_for}
 use Rattle.form_file.specs.declared.Form.{Form}
 use Rattle.form_file.specs.declared.Formed.{Formed}
-use Rattle.form_file.specs.declared.heard.Went.{Went}
-use Rattle.form_file.specs.declared.heard.Went.TheVariants.{On, Fault}
+use Rattle.form_file.specs.declared.heard.Fault.{Fault}
 use Rattle.form_file.specs.declared.said.Said.{Said}
 use Rattle.form_file.specs.declared.said.Said.TheVariants.{Nothing as nothing, Square as box, Page as page, Tick as tick, Doubt as doubt, Place as place, Proper as proper, Shift as shift, Wrong as wrong}
 
@@ -61,18 +60,18 @@ pub record Stopped (room line : ℕ) (f : Form) (said : Said) (boxes lines place
   pub boxes_same : boxes' ≡ boxes
   pub places_same : places' ≡ places
 
-abbrev pub Gone : ℕ → ℕ → Form → Said → List ℕ → List ℕ → List ℕ → Went → List ℕ → List ℕ → List ℕ → Type 0
-Gone room line f said boxes lines places (On f') boxes' lines' places' = Onward room line f said boxes lines places f' boxes' lines' places'
-Gone room line f said boxes lines places (Fault number which) boxes' lines' places' = Stopped room line f said boxes lines places number which boxes' places'
+abbrev pub Gone : ℕ → ℕ → Form → Said → List ℕ → List ℕ → List ℕ → Result Form Fault → List ℕ → List ℕ → List ℕ → Type 0
+Gone room line f said boxes lines places (Ok f') boxes' lines' places' = Onward room line f said boxes lines places f' boxes' lines' places'
+Gone room line f said boxes lines places (Err e) boxes' lines' places' = Stopped room line f said boxes lines places e.number e.which boxes' places'
 
 -- a line that changes nothing but the form; the boxes; the places
-abbrev pub FormGoes : Form → Said → Went → Type 0
+abbrev pub FormGoes : Form → Said → Result Form Fault → Type 0
 FormGoes f said went = (room line : ℕ) (boxes lines places : List ℕ) → f.places ≤ room → Gone room line f said boxes lines places went boxes lines places
 
-abbrev pub BoxGoes : ℕ → Form → Said → List ℕ → List ℕ → Went → List ℕ → List ℕ → Type 0
+abbrev pub BoxGoes : ℕ → Form → Said → List ℕ → List ℕ → Result Form Fault → List ℕ → List ℕ → Type 0
 BoxGoes line f said boxes lines went boxes' lines' = (room : ℕ) (places : List ℕ) → f.places ≤ room → Gone room line f said boxes lines places went boxes' lines' places
 
-abbrev pub PlaceGoes : ℕ → ℕ → Form → Said → List ℕ → Went → List ℕ → Type 0
+abbrev pub PlaceGoes : ℕ → ℕ → Form → Said → List ℕ → Result Form Fault → List ℕ → Type 0
 PlaceGoes room line f said places went places' = (boxes lines : List ℕ) → f.places ≤ room → Gone room line f said boxes lines places went boxes lines places'
 
 -- ---- The lines, one behind the other

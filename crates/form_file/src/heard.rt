@@ -9,20 +9,17 @@ use crate::Form;
 use crate::said::Said;
 use heads::Box;
 
-// What a line leaves: the form with what it says, or the number of a fault and the box that it is about.
+// What is wrong with a line: the number of the fault, and the box that it is about.
 #[derive(Clone, Copy)]
-pub(crate) enum Went {
-    On(Form),
-    Fault(u32, u32),
+pub(crate) struct Fault {
+    pub number: u32,
+    pub which: u32,
 }
 
 fn holds(b: Box) -> bool
     ensures { result ≡ Heard.holds b }
 {
-    if b.right <= b.left {
-        return false;
-    }
-    b.top < b.bottom
+    b.left < b.right && b.top < b.bottom
 }
 
 fn set_box(numbers: &mut [u32], at: usize, b: Box)
@@ -53,92 +50,97 @@ fn heard_box(
     b: Box,
     boxes: &mut [u32],
     lines: &mut [u32],
-) -> Went
+) -> Result<Form, Fault>
     requires { (length boxes.old ≡ 80) × (length lines.old ≡ 20) × (which < 20) }
     ensures { BoxGoes line form (Square which b) boxes.old lines.old result boxes.new lines.new }
 {
     let k = which as usize;
     if lines[k] != 0 {
-        return Went::Fault(ledger::SAID_TWICE, which);
+        return Err(Fault {
+            number: ledger::SAID_TWICE,
+            which,
+        });
     }
     if !holds(b) {
-        return Went::Fault(ledger::BAD_NUMBERS, which);
+        return Err(Fault {
+            number: ledger::BAD_NUMBERS,
+            which,
+        });
     }
     set_box(boxes, 4 * k, b);
     lines[k] = line;
-    Went::On(form)
+    Ok(form)
 }
 
-fn heard_page(form: Form, columns: u32, least: u32, most: u32) -> Went
+fn heard_page(form: Form, columns: u32, least: u32, most: u32) -> Result<Form, Fault>
     ensures { FormGoes form (Page columns least most) result }
 {
     if form.columns != 0 {
-        return Went::Fault(ledger::SAID_TWICE, 0);
+        return Err(Fault {
+            number: ledger::SAID_TWICE,
+            which: 0,
+        });
     }
     if columns == 0 {
-        return Went::Fault(ledger::BAD_NUMBERS, 0);
+        return Err(Fault {
+            number: ledger::BAD_NUMBERS,
+            which: 0,
+        });
     }
     if least == 0 {
-        return Went::Fault(ledger::BAD_NUMBERS, 0);
+        return Err(Fault {
+            number: ledger::BAD_NUMBERS,
+            which: 0,
+        });
     }
     if most < least {
-        return Went::Fault(ledger::BAD_NUMBERS, 0);
+        return Err(Fault {
+            number: ledger::BAD_NUMBERS,
+            which: 0,
+        });
     }
-    Went::On(Form {
+    Ok(Form {
         columns,
         least,
         most,
-        tick: form.tick,
-        doubt: form.doubt,
-        places: form.places,
-        proper: form.proper,
-        across: form.across,
-        down: form.down,
+        ..form
     })
 }
 
-fn heard_tick(form: Form, n: u32) -> Went
+fn heard_tick(form: Form, n: u32) -> Result<Form, Fault>
     ensures { FormGoes form (Tick n) result }
 {
     if form.tick != 0 {
-        return Went::Fault(ledger::SAID_TWICE, 0);
+        return Err(Fault {
+            number: ledger::SAID_TWICE,
+            which: 0,
+        });
     }
     if n == 0 {
-        return Went::Fault(ledger::BAD_NUMBERS, 0);
+        return Err(Fault {
+            number: ledger::BAD_NUMBERS,
+            which: 0,
+        });
     }
-    Went::On(Form {
-        columns: form.columns,
-        least: form.least,
-        most: form.most,
-        tick: n,
-        doubt: form.doubt,
-        places: form.places,
-        proper: form.proper,
-        across: form.across,
-        down: form.down,
-    })
+    Ok(Form { tick: n, ..form })
 }
 
-fn heard_doubt(form: Form, n: u32) -> Went
+fn heard_doubt(form: Form, n: u32) -> Result<Form, Fault>
     ensures { FormGoes form (Doubt n) result }
 {
     if form.doubt != 0 {
-        return Went::Fault(ledger::SAID_TWICE, 0);
+        return Err(Fault {
+            number: ledger::SAID_TWICE,
+            which: 0,
+        });
     }
     if n == 0 {
-        return Went::Fault(ledger::BAD_NUMBERS, 0);
+        return Err(Fault {
+            number: ledger::BAD_NUMBERS,
+            which: 0,
+        });
     }
-    Went::On(Form {
-        columns: form.columns,
-        least: form.least,
-        most: form.most,
-        tick: form.tick,
-        doubt: n,
-        places: form.places,
-        proper: form.proper,
-        across: form.across,
-        down: form.down,
-    })
+    Ok(Form { doubt: n, ..form })
 }
 
 fn heard_place(
@@ -149,47 +151,42 @@ fn heard_place(
     b: Box,
     n: u32,
     places: &mut [u32],
-) -> Went
+) -> Result<Form, Fault>
     requires { (7 * room ≤ length places.old) × (room ≤ 256) }
     ensures { PlaceGoes room line form (Place kind b n) places.old result places.new }
 {
     let k = form.places as usize;
     if room <= k {
-        return Went::Fault(ledger::TOO_MANY_PLACES, 0);
+        return Err(Fault {
+            number: ledger::TOO_MANY_PLACES,
+            which: 0,
+        });
     }
     if !holds(b) {
-        return Went::Fault(ledger::BAD_NUMBERS, 0);
+        return Err(Fault {
+            number: ledger::BAD_NUMBERS,
+            which: 0,
+        });
     }
     set_place(places, 7 * k, kind, b, n, line);
-    Went::On(Form {
-        columns: form.columns,
-        least: form.least,
-        most: form.most,
-        tick: form.tick,
-        doubt: form.doubt,
+    Ok(Form {
         places: form.places + 1,
-        proper: form.proper,
-        across: form.across,
-        down: form.down,
+        ..form
     })
 }
 
-fn heard_proper(form: Form) -> Went
+fn heard_proper(form: Form) -> Result<Form, Fault>
     ensures { FormGoes form Proper result }
 {
     if form.proper {
-        return Went::Fault(ledger::SAID_TWICE, 0);
+        return Err(Fault {
+            number: ledger::SAID_TWICE,
+            which: 0,
+        });
     }
-    Went::On(Form {
-        columns: form.columns,
-        least: form.least,
-        most: form.most,
-        tick: form.tick,
-        doubt: form.doubt,
-        places: form.places,
+    Ok(Form {
         proper: true,
-        across: form.across,
-        down: form.down,
+        ..form
     })
 }
 
@@ -197,40 +194,43 @@ fn heard_proper(form: Form) -> Went
 pub(crate) fn is_shift(across: u32, down: u32) -> bool
     ensures { result ≡ is_shift across down }
 {
-    if 0 < across {
-        return true;
-    }
-    0 < down
+    0 < across || 0 < down
 }
 
 // How far it may, at most.
 const MOST_SHIFT: u32 = 1000;
 
-fn heard_shift(form: Form, across: u32, down: u32) -> Went
+fn heard_shift(form: Form, across: u32, down: u32) -> Result<Form, Fault>
     ensures { FormGoes form (Shift across down) result }
 {
     if is_shift(form.across, form.down) {
-        return Went::Fault(ledger::SAID_TWICE, 0);
+        return Err(Fault {
+            number: ledger::SAID_TWICE,
+            which: 0,
+        });
     }
     if !is_shift(across, down) {
-        return Went::Fault(ledger::BAD_NUMBERS, 0);
+        return Err(Fault {
+            number: ledger::BAD_NUMBERS,
+            which: 0,
+        });
     }
     if MOST_SHIFT < across {
-        return Went::Fault(ledger::BAD_NUMBERS, 0);
+        return Err(Fault {
+            number: ledger::BAD_NUMBERS,
+            which: 0,
+        });
     }
     if MOST_SHIFT < down {
-        return Went::Fault(ledger::BAD_NUMBERS, 0);
+        return Err(Fault {
+            number: ledger::BAD_NUMBERS,
+            which: 0,
+        });
     }
-    Went::On(Form {
-        columns: form.columns,
-        least: form.least,
-        most: form.most,
-        tick: form.tick,
-        doubt: form.doubt,
-        places: form.places,
-        proper: form.proper,
+    Ok(Form {
         across,
         down,
+        ..form
     })
 }
 
@@ -243,12 +243,12 @@ pub(crate) fn heard(
     boxes: &mut [u32],
     lines: &mut [u32],
     places: &mut [u32],
-) -> Went
+) -> Result<Form, Fault>
     requires { Lent room form boxes.old lines.old places.old × (box_of said < 20) }
     ensures { Gone room line form said boxes.old lines.old places.old result boxes.new lines.new places.new }
 {
     match said {
-        Said::Nothing => Went::On(form),
+        Said::Nothing => Ok(form),
         Said::Square(which, b) => heard_box(form, line, which, b, boxes, lines),
         Said::Page(columns, least, most) => heard_page(form, columns, least, most),
         Said::Tick(n) => heard_tick(form, n),
@@ -256,6 +256,9 @@ pub(crate) fn heard(
         Said::Place(kind, b, n) => heard_place(room, form, line, kind, b, n, places),
         Said::Proper => heard_proper(form),
         Said::Shift(across, down) => heard_shift(form, across, down),
-        Said::Wrong => Went::Fault(ledger::NO_FORM_LINE, 0),
+        Said::Wrong => Err(Fault {
+            number: ledger::NO_FORM_LINE,
+            which: 0,
+        }),
     }
 }

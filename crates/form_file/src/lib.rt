@@ -10,7 +10,7 @@ ghost use Rattle.std.specs.Prelude.{◌≡◌};
 ghost use Rattle.form_file.specs.FormFile.{Forms, places_for, text_start};
 ghost use Rattle.form_file.specs.Going.{Hearable, Leaves, heard_from};
 
-use heard::{Went, heard};
+use heard::heard;
 use listing_text::text_lines::line_end;
 use said::line_says;
 use whole::{faulty, whole};
@@ -103,12 +103,8 @@ fn hear(
         let said = line_says(&text[at..end]);
         let went = heard(room, form, line, said, boxes, lines, places);
         match went {
-            Went::Fault(number, which) => {
-                return faulty(number, which, line);
-            }
-            Went::On(next) => {
-                form = next;
-            }
+            Ok(next) => form = next,
+            Err(fault) => return faulty(fault.number, fault.which, line),
         }
         if end == text.len() {
             return whole(form, boxes, lines, places);

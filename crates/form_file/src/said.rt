@@ -110,6 +110,7 @@ fn place_in(kind: u32, v: Values) -> Said
     Said::Place(kind, b, n[4])
 }
 
+// `tick` and `doubt`: one function for both would take what is said as a closure, and a contract over that is no plainer than two of them.
 fn tick_in(v: Values) -> Said
     ensures { (ns : List ℕ) → Numbers v ns → result ≡ one_said tick ns }
 {

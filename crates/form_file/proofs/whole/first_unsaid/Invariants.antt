@@ -1,5 +1,4 @@
 -- `form_file::whole::first_unsaid` meets its contract. The invariant: the first box that is sought lies ahead. Assumes nothing.
-use Prim.Native.Nat.{◌-◌}
 use lib.Dec.{eqb}
 use lib.ListN.{get_or}
 use Rattle.form_file.proofs.Firsts.{Sought}
@@ -7,6 +6,3 @@ use Rattle.form_file.proofs.whole.first_unsaid.Given as goal
 
 abbrev pub invariant-loop-k : goal.invariant-loop-k
 invariant-loop-k l = Sought (λ i. eqb (get_or l.lines i 0) 0) 20 0 l.k
-
-abbrev pub decreases-loop-k : goal.decreases-loop-k
-decreases-loop-k l = 20 - l.k

@@ -29,12 +29,6 @@ returns-then-not-apart c =
     let h = sought-hit _ c.loop-k.invariant (omega arith) (told-not (λ (b : Box). apart b (box_at a.boxes.now a.which)) (c.apart.ensures ∙ ap (λ (b : Box). apart c.box_at.result b) c.box_at-b.ensures) c.box_at.ensures c.if-not-apart.true-raw) in
     sym (ap (λ r. ltb r a.which) (sym h) ∙ lt-ltb c.loop-k.k a.which (omega arith))
 
-pub overflow_add-k : goal.overflow_add-k
-overflow_add-k c = omega arith
-
-pub loop-k-smaller : goal.loop-k-smaller
-loop-k-smaller c = omega arith
-
 pub loop-k-preserved : goal.loop-k-preserved
 loop-k-preserved c =
     let a = c.args in

@@ -9,20 +9,11 @@ returns-then-word-with c = same_length _ _ c.if-word-with.true
 pub loop-i-init : goal.loop-i-init
 loop-i-init c = alike-first _ _ c.if-word-with.false
 
-pub bounds-word-i : goal.bounds-word-i
-bounds-word-i c = omega arith
-
 pub bounds-with-i : goal.bounds-with-i
 bounds-with-i c = omega (arith, c.loop-i.invariant.long)
 
 pub returns-then-word-i : goal.returns-then-word-i
 returns-then-word-i c = alike-differ c.args.word.now c.args.with.now c.loop-i.invariant c.loop-i-test.true c.if-word-i.true
-
-pub overflow_add-i : goal.overflow_add-i
-overflow_add-i c = omega arith
-
-pub loop-i-smaller : goal.loop-i-smaller
-loop-i-smaller c = omega arith
 
 pub loop-i-preserved : goal.loop-i-preserved
 loop-i-preserved c = alike_next c.args.word.now c.args.with.now c.loop-i.invariant c.loop-i-test.true c.if-word-i.false

@@ -7,20 +7,11 @@ use Rattle.form_file.proofs.words.uncommented.Goals as goal
 pub loop-i-init : goal.loop-i-init
 loop-i-init c = walked-first is_plain _ 0
 
-pub bounds-line-i : goal.bounds-line-i
-bounds-line-i c = omega arith
-
 pub returns-then-line-i-eq35 : goal.returns-then-line-i-eq35
 returns-then-line-i-eq35 c = omega (arith, walked_stop is_plain c.args.line.now 0 c.loop-i.invariant c.loop-i-test.true (at-comment _ c.if-line-i-eq35.true))
-
-pub overflow_add-i : goal.overflow_add-i
-overflow_add-i c = omega arith
-
-pub loop-i-smaller : goal.loop-i-smaller
-loop-i-smaller c = omega arith
 
 pub loop-i-preserved : goal.loop-i-preserved
 loop-i-preserved c = walked_next is_plain c.args.line.now 0 c.loop-i.invariant c.loop-i-test.true (at_other _ c.if-line-i-eq35.false)
 
 pub returns : goal.returns
-returns c = omega (arith, walked_end is_plain c.args.line.now 0 c.loop-i.invariant c.loop-i-test.false)
+returns c = omega (arith, c.loop-i-test.false, walked_end is_plain c.args.line.now 0 c.loop-i.invariant c.loop-i-test.false)

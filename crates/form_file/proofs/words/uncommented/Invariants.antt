@@ -1,12 +1,7 @@
 -- `form_file::words::uncommented` meets its contract. The invariant: no comment begins in what was passed. Assumes nothing.
-use Prim.Native.Nat.{◌-◌}
-use lib.ListN.{length}
 use Rattle.form_file.specs.Steps.{is_plain}
 use Rattle.form_file.proofs.Ahead.{Walked}
 use Rattle.form_file.proofs.words.uncommented.Given as goal
 
 abbrev pub invariant-loop-i : goal.invariant-loop-i
 invariant-loop-i l = Walked is_plain l.line 0 l.i
-
-abbrev pub decreases-loop-i : goal.decreases-loop-i
-decreases-loop-i l = length l.line - l.i

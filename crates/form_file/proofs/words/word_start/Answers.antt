@@ -9,20 +9,11 @@ use Rattle.form_file.proofs.words.word_start.Goals as goal
 pub loop-i-init : goal.loop-i-init
 loop-i-init c = walked-first is_blank _ _
 
-pub bounds-line-i : goal.bounds-line-i
-bounds-line-i c = omega arith
-
 pub returns-then-not-is_blank : goal.returns-then-not-is_blank
 returns-then-not-is_blank c = walked_stop is_blank c.args.line.now _ c.loop-i.invariant c.loop-i-test.true (sym c.is_blank.ensures ∙ not-true _ c.if-not-is_blank.true-raw)
-
-pub overflow_add-i : goal.overflow_add-i
-overflow_add-i c = omega arith
-
-pub loop-i-smaller : goal.loop-i-smaller
-loop-i-smaller c = omega arith
 
 pub loop-i-preserved : goal.loop-i-preserved
 loop-i-preserved c = walked_next is_blank c.args.line.now _ c.loop-i.invariant c.loop-i-test.true (sym c.is_blank.ensures ∙ not-false _ c.if-not-is_blank.false-raw)
 
 pub returns : goal.returns
-returns c = walked_end is_blank c.args.line.now _ c.loop-i.invariant c.loop-i-test.false
+returns c = grind (arith, c.max.ensures, walked_end is_blank c.args.line.now c.args.at c.loop-i.invariant c.loop-i-test.false, walked_end is_blank c.args.line.now c.args.at (walked-first is_blank c.args.line.now c.args.at))
