@@ -1,11 +1,10 @@
 -- What the functions that add up ledgers find on their way.
-use Rattle.std.specs.Prelude.{◌≡◌, List, ℕ, ◌+◌, ◌≤◌, ◌<◌, length, get_or, take, drop}
+use Rattle.std.specs.Prelude.{◌≡◌, Result, Ok, Err, List, ℕ, ◌+◌, ◌≤◌, ◌<◌, length, get_or, take, drop}
 use Rattle.ledger.specs.declared.Ledger.{Ledger}
 use Rattle.ledger_file.specs.Sums.{Sum, Went, on, wrong, Added, name_at}
 use Rattle.ledger_file.specs.declared.AddedUp.{AddedUp}
 use Rattle.ledger_file.specs.declared.tally.Tally.{Tally}
-use Rattle.ledger_file.specs.declared.tally.Step.{Step}
-use Rattle.ledger_file.specs.declared.tally.Step.TheVariants.{On, Wrong}
+use Rattle.ledger_file.specs.declared.tally.Wrong.{Wrong}
 
 -- a tab ends the name with which the line at a place begins
 pub record Tabbed (text : List ℕ) (at : ℕ) : Type 0 where
@@ -32,9 +31,9 @@ pub record Stopped (w : Went) (starts : List ℕ) (number other : ℕ) (starts' 
   pub is : w ≡ wrong number other
   pub same : starts' ≡ starts
 
-abbrev pub Gone : List ℕ → Went → ℕ → List ℕ → Step → List ℕ → Type 0
-Gone text w pages starts (On t') starts' = Onward text w pages starts t' starts'
-Gone text w pages starts (Wrong number other) starts' = Stopped w starts number other starts'
+abbrev pub Gone : List ℕ → Went → ℕ → List ℕ → Result Tally Wrong → List ℕ → Type 0
+Gone text w pages starts (Ok t') starts' = Onward text w pages starts t' starts'
+Gone text w pages starts (Err e) starts' = Stopped w starts e.number e.other starts'
 
 abbrev pub told : ℕ → Ledger → ℕ → ℕ → AddedUp
 told number books at other = record { number = number; ledger = books; at = at; other = other }

@@ -10,12 +10,10 @@ pub(crate) fn count(line: &[u8]) -> usize
     ensures { result ≡ length (fields_of line.now) }
 {
     let mut n = 1;
-    let mut i = 0;
-    while i < line.len() {
-        if line[i] == b'\t' {
+    for b in line {
+        if *b == b'\t' {
             n += 1;
         }
-        i += 1;
     }
     n
 }
@@ -25,14 +23,12 @@ pub(crate) fn field_end(line: &[u8], at: usize) -> usize
     requires { at ≤ length line.now }
     ensures { FieldTo line.now at result }
 {
-    let mut i = at;
-    while i < line.len() {
+    for i in at..line.len() {
         if line[i] == b'\t' {
             return i;
         }
-        i += 1;
     }
-    i
+    line.len()
 }
 
 // Where the field of a number begins; the end of the line where it has no such field.
@@ -40,14 +36,12 @@ fn field_start(line: &[u8], k: usize) -> usize
     ensures { FieldFrom line.now k result }
 {
     let mut at = 0;
-    let mut left = k;
-    while 0 < left {
+    for passed in 0..k {
         let end = field_end(line, at);
         if end == line.len() {
             return end;
         }
         at = end + 1;
-        left -= 1;
     }
     at
 }

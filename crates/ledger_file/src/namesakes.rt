@@ -32,12 +32,10 @@ pub(crate) fn namesake(text: &[u8], at: usize, n: usize, starts: &[u64], count: 
     requires { Standing text.now count starts.now × Tabbed text.now at × (n ≡ length (name_at text.now at)) }
     ensures { result ≡ first_of (λ k. same (name_at text.now (get_or starts.now k 0)) (name_at text.now at)) count 0 }
 {
-    let mut k = 0;
-    while k < count {
+    for k in 0..count {
         if same_name(text, starts[k] as usize, at, n) {
             return k;
         }
-        k += 1;
     }
-    k
+    count
 }

@@ -19,12 +19,10 @@ pub(crate) fn is_named(line: &[u8], name: &[u8]) -> bool
     if field_end(line, 0) != name.len() {
         return false;
     }
-    let mut i = 0;
-    while i < name.len() {
+    for i in 0..name.len() {
         if line[i] != ledger::shown_byte(name[i]) {
             return false;
         }
-        i += 1;
     }
     true
 }
@@ -56,8 +54,8 @@ pub(crate) fn verdict_of(number: u32, heads: u32) -> Verdict
     ensures { result ≡ verdict_of number heads }
 {
     Verdict {
-        number: number,
-        heads: heads,
+        number,
+        heads,
         which: 0,
         line: 0,
         rows: 0,

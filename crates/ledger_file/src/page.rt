@@ -35,7 +35,7 @@ pub fn page_line(line: &[u8]) -> PageLine
         }
         return PageLine {
             good: true,
-            name: name,
+            name,
             number: number as u32,
             heads: 0,
         };
@@ -46,7 +46,7 @@ pub fn page_line(line: &[u8]) -> PageLine
     }
     PageLine {
         good: true,
-        name: name,
+        name,
         number: 0,
         heads: heads as u32,
     }

@@ -4,7 +4,7 @@ ghost use Rattle.ledger_file.specs.Sums.{ended, AddsUp};
 ghost use Rattle.ledger_file.specs.Tallying.{sum_in, told, Tells};
 
 use crate::AddedUp;
-use crate::tally::{Step, Tally, line_taken};
+use crate::tally::{Tally, line_taken};
 use ledger::Ledger;
 use listing_text::text_lines::line_end;
 
@@ -13,10 +13,10 @@ fn answer(number: u32, t: Tally, at: usize, other: usize) -> AddedUp
 {
     let books = t.books;
     AddedUp {
-        number: number,
+        number,
         ledger: books,
-        at: at,
-        other: other,
+        at,
+        other,
     }
 }
 
@@ -41,7 +41,7 @@ pub fn add_up(text: &[u8], quota: i32, starts: &mut [u64]) -> AddedUp
     ensures { AddsUp text.now quota starts.old result starts.new }
 {
     let opened = Ledger {
-        quota: quota,
+        quota,
         heads: 0,
         pages: 0,
         looked: 0,
@@ -58,12 +58,8 @@ pub fn add_up(text: &[u8], quota: i32, starts: &mut [u64]) -> AddedUp
         }
         let step = line_taken(text, at, end, t, starts);
         match step {
-            Step::Wrong(number, other) => {
-                return answer(number, t, at, other);
-            }
-            Step::On(next) => {
-                t = next;
-            }
+            Ok(next) => t = next,
+            Err(wrong) => return answer(wrong.number, t, at, wrong.other),
         }
         at = end + 1;
     }

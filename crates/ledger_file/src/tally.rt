@@ -18,15 +18,22 @@ pub(crate) struct Tally {
     pub closed: Ledger,
 }
 
-// What a line leaves: the books, or the number of what is wrong and another line that it is about.
+// What is wrong with a line: its number, and where another line begins that it is about.
 #[derive(Clone, Copy)]
-pub(crate) enum Step {
-    On(Tally),
-    Wrong(u32, usize),
+pub(crate) struct Wrong {
+    pub number: u32,
+    pub other: usize,
 }
 
 // A page's line, of a name of so many bytes.
-fn page_taken(text: &[u8], at: usize, n: usize, v: Verdict, t: Tally, starts: &mut [u64]) -> Step
+fn page_taken(
+    text: &[u8],
+    at: usize,
+    n: usize,
+    v: Verdict,
+    t: Tally,
+    starts: &mut [u64],
+) -> Result<Tally, Wrong>
     requires { Standing text.now t.books.pages starts.old × Tabbed text.now at × (n ≡ length (name_at text.now at)) }
     ensures { Gone text.now (page_taken text.now (length starts.old) at v (sum_in t starts.old)) t.books.pages starts.old result starts.new }
 {
@@ -34,19 +41,28 @@ fn page_taken(text: &[u8], at: usize, n: usize, v: Verdict, t: Tally, starts: &m
     let closed = t.closed;
     let count = books.pages as usize;
     if starts.len() <= count {
-        return Step::Wrong(crate::NO_ROOM, 0);
+        return Err(Wrong {
+            number: crate::NO_ROOM,
+            other: 0,
+        });
     }
     let k = namesake(text, at, n, starts, count);
     if k < count {
-        return Step::Wrong(crate::STANDS_TWICE, starts[k] as usize);
+        return Err(Wrong {
+            number: crate::STANDS_TWICE,
+            other: starts[k] as usize,
+        });
     }
     if !ledger::has_room(books, v) {
-        return Step::Wrong(crate::BOOKS_FULL, 0);
+        return Err(Wrong {
+            number: crate::BOOKS_FULL,
+            other: 0,
+        });
     }
     starts[count] = at as u64;
-    Step::On(Tally {
+    Ok(Tally {
         books: ledger::book(books, v),
-        closed: closed,
+        closed,
     })
 }
 
@@ -54,35 +70,47 @@ fn page_taken(text: &[u8], at: usize, n: usize, v: Verdict, t: Tally, starts: &m
 fn since(all: u32, before: u32) -> u64
     ensures { result ≡ all - before }
 {
-    if all < before {
-        return 0;
-    }
-    (all - before) as u64
+    u64::from(all.saturating_sub(before))
 }
 
 // A total's line.
-fn total_taken(line: &[u8], t: Tally) -> Step
+fn total_taken(line: &[u8], t: Tally) -> Result<Tally, Wrong>
     ensures { (text starts : List ℕ) → Standing text t.books.pages starts → Gone text (total_taken line.now (sum_in t starts)) t.books.pages starts result starts }
 {
     let books = t.books;
     let closed = t.closed;
     if number_of(line, 1) != since(books.looked, closed.looked) {
-        return Step::Wrong(crate::OTHER_TOTAL, 0);
+        return Err(Wrong {
+            number: crate::OTHER_TOTAL,
+            other: 0,
+        });
     }
     if number_of(line, 2) != since(books.heads, closed.heads) {
-        return Step::Wrong(crate::OTHER_TOTAL, 0);
+        return Err(Wrong {
+            number: crate::OTHER_TOTAL,
+            other: 0,
+        });
     }
     if total_pages(line) != since(books.pages, closed.pages) {
-        return Step::Wrong(crate::OTHER_TOTAL, 0);
+        return Err(Wrong {
+            number: crate::OTHER_TOTAL,
+            other: 0,
+        });
     }
-    Step::On(Tally {
-        books: books,
+    Ok(Tally {
+        books,
         closed: books,
     })
 }
 
 // The line from a place up to its line feed.
-pub(crate) fn line_taken(text: &[u8], at: usize, end: usize, t: Tally, starts: &mut [u64]) -> Step
+pub(crate) fn line_taken(
+    text: &[u8],
+    at: usize,
+    end: usize,
+    t: Tally,
+    starts: &mut [u64],
+) -> Result<Tally, Wrong>
     requires { LineTo text.now at end × (end < length text.now) × Standing text.now t.books.pages starts.old }
     ensures { Gone text.now (taken text.now (length starts.old) at (take (end - at) (drop at text.now)) (sum_in t starts.old)) t.books.pages starts.old result starts.new }
 {
@@ -91,7 +119,10 @@ pub(crate) fn line_taken(text: &[u8], at: usize, end: usize, t: Tally, starts: &
     }
     let p = page_line(&text[at..end]);
     if !p.good {
-        return Step::Wrong(crate::NO_LEDGER_LINE, 0);
+        return Err(Wrong {
+            number: crate::NO_LEDGER_LINE,
+            other: 0,
+        });
     }
     let v = verdict_of(p.number, p.heads);
     page_taken(text, at, p.name, v, t, starts)

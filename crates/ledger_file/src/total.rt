@@ -11,24 +11,19 @@ use form_file::words;
 fn is_digit(b: u8) -> bool
     ensures { result ≡ is_a_digit b }
 {
-    if b < 48 {
-        return false;
-    }
-    b <= 57
+    b'0' <= b && b <= b'9'
 }
 
 // Where the digits end that a word begins with.
 fn digits_end(word: &[u8]) -> usize
     ensures { result ≡ ahead is_a_digit word.now }
 {
-    let mut i = 0;
-    while i < word.len() {
+    for i in 0..word.len() {
         if !is_digit(word[i]) {
             return i;
         }
-        i += 1;
     }
-    i
+    word.len()
 }
 
 // Whether a field has the words of a total.

@@ -1,12 +1,7 @@
 -- `ledger_file::fields::field_end` meets its contract. The invariant: no tab stands in what was passed. Assumes nothing.
-use Prim.Native.Nat.{◌-◌}
-use lib.ListN.{length}
 use Rattle.listing_text.specs.Text.{tab}
 use Rattle.listing_text.proofs.Piecing.{Passed}
 use Rattle.ledger_file.proofs.fields.field_end.Given as goal
 
 abbrev pub invariant-loop-i : goal.invariant-loop-i
 invariant-loop-i l = Passed tab l.line l.at l.i
-
-abbrev pub decreases-loop-i : goal.decreases-loop-i
-decreases-loop-i l = length l.line - l.i

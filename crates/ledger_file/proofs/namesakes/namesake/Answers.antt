@@ -4,10 +4,10 @@ use Rattle.form_file.proofs.Firsts.{sought-start, sought-hit, sought-next, sough
 use Rattle.form_file.specs.Words.{same}
 use lib.ListN.{get_or}
 use native.Mathlib.Omega.{arith}
-use Prim.Native.Nat.{ℕ, ◌-◌}
+use Prim.Native.Nat.{ℕ}
 use mathlib.Core.Bool.{Bool}
 use mathlib.Core.List.{List}
-use mathlib.Core.Path.{sym, ◌∙◌}
+use mathlib.Core.Path.{◌≡◌, sym, ◌∙◌}
 use Rattle.ledger_file.proofs.namesakes.namesake.Goals as goal
 
 abbrev alike : List ℕ → ℕ → List ℕ → ℕ → Bool
@@ -28,14 +28,8 @@ same_name-requires c = (c.requires.0.tabbed _ c.loop-k-test.true, c.requires.1, 
 pub returns-then-same_name : goal.returns-then-same_name
 returns-then-same_name c = sought-hit (alike c.args.text.now c.args.at c.args.starts.now) c.loop-k.invariant (omega arith) (sym c.same_name.ensures ∙ c.if-same_name.true)
 
-pub overflow_add-k : goal.overflow_add-k
-overflow_add-k c = omega arith
-
-pub loop-k-smaller : goal.loop-k-smaller
-loop-k-smaller c = omega arith
-
 pub loop-k-preserved : goal.loop-k-preserved
 loop-k-preserved c = sought-next (alike c.args.text.now c.args.at c.args.starts.now) c.loop-k.invariant (omega arith) (sym c.same_name.ensures ∙ c.if-same_name.false)
 
 pub returns : goal.returns
-returns c = sought-none (alike c.args.text.now c.args.at c.args.starts.now) c.loop-k.invariant (omega arith)
+returns c = let e : c.args.count ≡ c.loop-k.k = omega arith in e ∙ sought-none (alike c.args.text.now c.args.at c.args.starts.now) c.loop-k.invariant (omega arith)

@@ -1,7 +1,6 @@
 -- `ledger_file::onward::is_named` meets its contract. Assumes nothing.
 use Rattle.ledger_file.proofs.Naming.{naming-not, naming-first, naming-differ, naming-next, naming-end}
 use native.Mathlib.Omega.{arith}
-use Prim.Native.Nat.{◌-◌}
 use Rattle.ledger_file.proofs.onward.is_named.Goals as goal
 
 pub field_end-requires : goal.field_end-requires
@@ -16,17 +15,8 @@ loop-i-init c = naming-first c.args.line.now c.args.name.now c.field_end.ensures
 pub bounds-line-i : goal.bounds-line-i
 bounds-line-i c = omega (arith, c.loop-i.invariant.long)
 
-pub bounds-name-i : goal.bounds-name-i
-bounds-name-i c = omega arith
-
 pub returns-then-line-i : goal.returns-then-line-i
 returns-then-line-i c = naming-differ c.args.line.now c.args.name.now c.loop-i.invariant c.loop-i-test.true c.shown_byte.ensures c.if-line-i.true
-
-pub overflow_add-i : goal.overflow_add-i
-overflow_add-i c = omega arith
-
-pub loop-i-smaller : goal.loop-i-smaller
-loop-i-smaller c = omega arith
 
 pub loop-i-preserved : goal.loop-i-preserved
 loop-i-preserved c = naming-next c.args.line.now c.args.name.now c.loop-i.invariant c.loop-i-test.true c.shown_byte.ensures c.if-line-i.false

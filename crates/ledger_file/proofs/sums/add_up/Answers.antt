@@ -34,12 +34,12 @@ returns-then-end-text c = adds-as (to_z-of_z c.ranges.quota) (going-ends (to_z w
 pub line_taken-step-requires : goal.line_taken-step-requires
 line_taken-step-requires c = (c.line_end-end.ensures, differ _ _ c.line_end-end.ensures.inside c.if-end-text.false, c.loop-t.invariant.stands)
 
-pub shape_of-starts-in-Wrong : goal.shape_of-starts-in-Wrong
-shape_of-starts-in-Wrong c = omega (arith, c.starts-1.given, c.loop-t.invariant.long)
+pub shape_of-starts-in-Err : goal.shape_of-starts-in-Err
+shape_of-starts-in-Err c = omega (arith, c.starts-1.given, c.loop-t.invariant.long)
 
-pub returns-in-Wrong : goal.returns-in-Wrong
-returns-in-Wrong c =
-    let s = rw c.in-Wrong.is at c.line_taken-step.ensures in
+pub returns-in-Err : goal.returns-in-Err
+returns-in-Err c =
+    let s = rw c.in-Err.is at c.line_taken-step.ensures in
     adds-as (to_z-of_z c.ranges.quota) (going-stops (to_z w32 (of_z w32 c.args.quota)) c.loop-t.invariant _ c.line_end-end.ensures c.if-end-text.false _ _ _ s c.answer.ensures)
 
 pub overflow_add-at : goal.overflow_add-at
@@ -50,5 +50,5 @@ loop-t-smaller c = below _ _ _ c.line_end-end.ensures.behind c.line_end-end.ensu
 
 pub loop-t-preserved : goal.loop-t-preserved
 loop-t-preserved c =
-    let s = rw c.in-On.is at c.line_taken-step.ensures in
+    let s = rw c.in-Ok.is at c.line_taken-step.ensures in
     going_on (to_z w32 (of_z w32 c.args.quota)) c.loop-t.invariant _ c.line_end-end.ensures c.if-end-text.false _ _ s c.starts-1.given

@@ -1,9 +1,8 @@
 -- `ledger_file::sums::add_up` meets its contract. Assumes nothing.
 use Rattle.ledger_file.specs.Sums.{added_up}
-use mathlib.Core.Path.{◌≡◌}
 use Rattle.ledger_file.proofs.Adding.{Going}
 use lib.ListN.{length}
-use Prim.Native.Nat.{◌+◌, ◌-◌, ◌≤◌, ◌<◌}
+use Prim.Native.Nat.{◌-◌}
 use Rattle.ledger_file.proofs.sums.add_up.Given as goal
 
 abbrev pub invariant-loop-t : goal.invariant-loop-t
