@@ -1,7 +1,7 @@
 -- The first of several positions that passes a test, and how many pass: as a loop goes over them, and what the answer tells. Assumes nothing.
 use mathlib.Core.Path.{◌≡◌, refl, sym, ◌∙◌}
 use mathlib.Core.Bool.{Bool, true, false}
-use Prim.Native.Nat.{ℕ, zero, suc, ◌+◌, ◌-◌, ◌≤◌, ◌<◌}
+use Prim.Native.Nat.{ℕ, zero, suc, ◌+◌, ◌-◌, ◌≤◌, ◌<◌, max}
 use native.Mathlib.Omega.{arith}
 use lib.Dec.{ltb}
 use borrow.Author.Tests.{ltb-true, ltb-false}
@@ -18,6 +18,21 @@ module _ (test : ℕ → Bool) where
     pub first_past : last ≤ i → i ≡ first_of test (last - i) i
     unfolding first_of
     first_past h = let e : last - i ≡ 0 = omega arith in rw e
+
+    -- behind a loop that ran from one position on, or not at all
+    pub first_over : (from : ℕ) {k : ℕ} → k ≡ max last from → last ≤ i → (from ≤ last → i ≤ last) → first_of test (last - i) i ≡ first_of test (last - from) from
+        → k ≡ first_of test (last - from) from
+    unfolding first_of
+    first_over from {k} m h g e = by (ltb last from) (ltb-true last from) (ltb-false last from)
+      where
+        by : (t : Bool) → (t ≡ true → last < from) → (t ≡ false → from ≤ last) → k ≡ first_of test (last - from) from
+        by true p q =
+            let n : last - from ≡ 0 = omega (arith, p refl) in
+            let s : k ≡ from = omega (arith, p refl, m) in
+            rw n s
+        by false p q =
+            let s : k ≡ i = omega (arith, q refl, g (q refl), m, h) in
+            s ∙ first_past h ∙ e
 
     module _ (h : i < last) where
       one_more : last - i ≡ suc (last - (i + 1))

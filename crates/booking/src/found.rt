@@ -1,5 +1,5 @@
 // A form that has a shift is looked for on the page.
-ghost use Rattle.std.specs.Prelude.{◌≡◌, true, ℕ, suc, ◌+◌, ◌-◌, ◌*◌, ◌≤◌, ◌<◌, length, take};
+ghost use Rattle.std.specs.Prelude.{◌≡◌, is_ok, true, ℕ, suc, ◌+◌, ◌-◌, ◌*◌, ◌≤◌, ◌<◌, length, take};
 ghost use Rattle.heads.specs.Form.{page_in};
 ghost use Rattle.heads.specs.Steps.{Good, Sound};
 ghost use Rattle.form_file.specs.First.{first_of, count_of};
@@ -21,13 +21,6 @@ use settings::EncodingMode;
 #[derive(Clone, Copy)]
 struct Missed {
     count: u32,
-    last: usize,
-}
-
-// Whether an offset is one that is looked for, and a place that failed at it or before.
-#[derive(Clone, Copy)]
-struct Tried {
-    hit: bool,
     last: usize,
 }
 
@@ -78,8 +71,7 @@ fn failing(
 {
     let mut n: u32 = 0;
     let mut last = 0;
-    let mut k = 0;
-    while k < count {
+    for k in 0..count {
         if limit <= n {
             return Missed { count: n, last };
         }
@@ -87,12 +79,12 @@ fn failing(
             n += 1;
             last = k;
         }
-        k += 1;
     }
     Missed { count: n, last }
 }
 
-// Whether the form fits at an offset. The place that failed last is tried first: most offsets cost no more than that.
+// Whether the form fits at an offset; where it does not, a place that failed at it or before. The place that failed last is tried first:
+// most offsets cost no more than that.
 fn fits_at(
     columns: u32,
     rows: u32,
@@ -105,9 +97,9 @@ fn fits_at(
     count: usize,
     i: u32,
     hint: usize,
-) -> Tried
+) -> Result<(), usize>
     requires { Seekable columns rows across count changes.now ends.now boxes.now places.now }
-    ensures { result.hit ≡ fits_at across down count boxes.now places.now (page_in columns changes.now ends.now) i }
+    ensures { is_ok result ≡ fits_at across down count boxes.now places.now (page_in columns changes.now ends.now) i }
 {
     let wide = 2 * across + 1;
     let u = i % wide;
@@ -116,23 +108,19 @@ fn fits_at(
         if !stands(
             columns, rows, changes, ends, across, down, u, v, places, hint,
         ) {
-            return Tried {
-                hit: false,
-                last: hint,
-            };
+            return Err(hint);
         }
     }
     let f = failing(
         columns, rows, changes, ends, across, down, u, v, places, count, 1,
     );
     if f.count != 0 {
-        return Tried {
-            hit: false,
-            last: f.last,
-        };
+        return Err(f.last);
     }
-    let hit = boxes_inside(columns, rows, across, down, u, v, boxes);
-    Tried { hit, last: hint }
+    if !boxes_inside(columns, rows, across, down, u, v, boxes) {
+        return Err(hint);
+    }
+    Ok(())
 }
 
 // The first offset that fits; as many as there are, if none does.
@@ -152,18 +140,16 @@ pub(crate) fn first_fit(
     ensures { result ≡ first_of (fits_at across down count boxes.now places.now (page_in columns changes.now ends.now)) offsets 0 }
 {
     let mut hint = 0;
-    let mut i: u32 = 0;
-    while i < offsets {
+    for i in 0..offsets {
         let fit = fits_at(
             columns, rows, changes, ends, across, down, boxes, places, count, i, hint,
         );
-        if fit.hit {
-            return i;
+        match fit {
+            Ok(()) => return i,
+            Err(last) => hint = last,
         }
-        hint = fit.last;
-        i += 1;
     }
-    i
+    offsets
 }
 
 // How many places fail at an offset that lies inside the page, up to a limit; the limit, where it does not. Most offsets come to the limit by a
@@ -220,8 +206,7 @@ pub(crate) fn best_fit(
 {
     let mut best = offsets;
     let mut fewest = count as u32 + 1;
-    let mut i: u32 = 0;
-    while i < offsets {
+    for i in 0..offsets {
         let n = failing_at(
             columns, rows, changes, ends, across, down, boxes, places, count, i, fewest,
         );
@@ -229,7 +214,6 @@ pub(crate) fn best_fit(
             best = i;
             fewest = n;
         }
-        i += 1;
     }
     best
 }
@@ -327,7 +311,8 @@ fn found_at(
     )
 }
 
-// Whether the form fits at an offset, and other heads are found there, or none.
+// Whether the form fits at an offset, and other heads are found there, or none; where it does not, or the same are, a place that failed
+// at it or before.
 fn differs(
     columns: u32,
     rows: u32,
@@ -341,12 +326,12 @@ fn differs(
     heads: u32,
     i: u32,
     hint: usize,
-) -> Tried
+) -> Result<(), usize>
     requires { Looking columns rows changes.now ends.now marks.now form boxes.now places.now }
-    ensures { result.hit ≡ Found.differs form boxes.now places.now encoding (page_in columns changes.now ends.now) marks.now heads i }
+    ensures { is_ok result ≡ Found.differs form boxes.now places.now encoding (page_in columns changes.now ends.now) marks.now heads i }
 {
     let count = form.places as usize;
-    let t = fits_at(
+    fits_at(
         columns,
         rows,
         changes,
@@ -358,26 +343,17 @@ fn differs(
         count,
         i,
         hint,
-    );
-    if !t.hit {
-        return Tried {
-            hit: false,
-            last: t.last,
-        };
-    }
+    )?;
     let f = found_at(
         columns, encoding, changes, ends, marks, form, boxes, places, i,
     );
     if f.number != answer::COMPLETE {
-        return Tried {
-            hit: true,
-            last: t.last,
-        };
+        return Ok(());
     }
-    Tried {
-        hit: f.heads != heads,
-        last: t.last,
+    if f.heads != heads {
+        return Ok(());
     }
+    Err(hint)
 }
 
 // The first offset from one on that fits and differs; as many as there are, if none does.
@@ -401,18 +377,16 @@ fn other_fit(
     let f = form;
     let e = encoding;
     let mut hint = 0;
-    let mut i = from;
-    while i < offsets {
+    for i in from..offsets {
         let t = differs(
             columns, rows, e, changes, ends, marks, f, boxes, places, heads, i, hint,
         );
-        if t.hit {
-            return i;
+        match t {
+            Ok(()) => return i,
+            Err(last) => hint = last,
         }
-        hint = t.last;
-        i += 1;
     }
-    i
+    offsets.max(from)
 }
 
 // Behind the first offset that fits and counts: another may tell otherwise.
@@ -511,31 +485,21 @@ fn looked_for(
 }
 
 // Whether the boxes and the places are there, no more of them than a form file has, and the shift is one that it may have.
+#[tactic(auto, unfolding(crate::specs::Found::can_look_for))]
 pub(crate) fn can_look_for(form: Form, boxes: &[u32], places: &[u32]) -> bool
     ensures { result ≡ can_look_for form boxes.now places.now }
 {
-    if boxes.len() != 80 {
-        return false;
-    }
-    if places.len() / 7 < form.places as usize {
-        return false;
-    }
-    if 256 < form.places {
-        return false;
-    }
-    if 1000 < form.across {
-        return false;
-    }
-    form.down <= 1000
+    boxes.len() == 80
+        && form.places as usize <= places.len() / 7
+        && form.places <= 256
+        && form.across <= 1000
+        && form.down <= 1000
 }
 
 pub(crate) fn has_shift(form: Form) -> bool
     ensures { result ≡ has_shift form }
 {
-    if 0 < form.across {
-        return true;
-    }
-    0 < form.down
+    0 < form.across || 0 < form.down
 }
 
 // A form without a shift lies at its place.

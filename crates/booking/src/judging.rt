@@ -19,13 +19,7 @@ use settings::DecodeSettings;
 fn fits(form: Form, settings: DecodeSettings) -> bool
     ensures { result ≡ fits form settings }
 {
-    if settings.exact {
-        return true;
-    }
-    if form.least == form.most {
-        return true;
-    }
-    0 < form.places
+    settings.exact || form.least == form.most || 0 < form.places
 }
 
 fn unfit(form: Form) -> Finding

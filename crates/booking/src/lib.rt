@@ -113,7 +113,7 @@ pub fn book_page(
     let entered = ledger::enter(out, name, verdict, ledger);
     let books = entered.ledger;
     Booked {
-        verdict: verdict,
+        verdict,
         ledger: books,
         text: entered.text,
     }

@@ -37,16 +37,11 @@ fn between(low: u32, high: u32, last: u32, by: u32, back: u32) -> bool
 {
     let by = by as u64;
     let back = back as u64;
-    if low as u64 + by < back {
-        return false;
-    }
-    if high < low {
-        return false;
-    }
-    high as u64 + by <= last as u64 + back
+    back <= low as u64 + by && low <= high && high as u64 + by <= last as u64 + back
 }
 
 // Whether a box, moved, lies inside a page.
+#[tactic(auto, unfolding(crate::specs::Found::box_inside))]
 pub(crate) fn inside(
     columns: u32,
     rows: u32,
@@ -58,10 +53,7 @@ pub(crate) fn inside(
 ) -> bool
     ensures { result ≡ box_inside across down u v columns rows b }
 {
-    if !between(b.left, b.right, columns, u, across) {
-        return false;
-    }
-    between(b.top, b.bottom, rows, v, down)
+    between(b.left, b.right, columns, u, across) && between(b.top, b.bottom, rows, v, down)
 }
 
 pub(crate) fn boxes_inside(
@@ -76,12 +68,10 @@ pub(crate) fn boxes_inside(
     requires { length boxes.now ≡ 80 }
     ensures { result ≡ boxes_inside across down u v columns rows boxes.now }
 {
-    let mut k = 0;
-    while k < 20 {
+    for k in 0..20 {
         if !inside(columns, rows, across, down, u, v, box_at(boxes, 4 * k)) {
             return false;
         }
-        k += 1;
     }
     true
 }
@@ -99,12 +89,10 @@ pub(crate) fn places_inside(
     requires { 7 * count ≤ length places.now }
     ensures { result ≡ places_inside across down u v columns rows count places.now }
 {
-    let mut k = 0;
-    while k < count {
+    for k in 0..count {
         if !inside(columns, rows, across, down, u, v, box_at(places, 7 * k + 1)) {
             return false;
         }
-        k += 1;
     }
     true
 }
@@ -114,14 +102,12 @@ pub(crate) fn move_boxes(across: u32, down: u32, u: u32, v: u32, boxes: &[u32], 
     requires { BoxesMovable across down u v boxes.now × (80 ≤ length out.old) }
     ensures { out.new ≡ overlaid (moved_boxes across down u v boxes.now) out.old }
 {
-    let mut k = 0;
-    while k < 20 {
+    for k in 0..20 {
         let b = moved(across, down, u, v, box_at(boxes, 4 * k));
         out[4 * k] = b.left;
         out[4 * k + 1] = b.right;
         out[4 * k + 2] = b.top;
         out[4 * k + 3] = b.bottom;
-        k += 1;
     }
 }
 
@@ -138,8 +124,7 @@ pub(crate) fn move_places(
     requires { PlacesMovable across down u v count places.now × (7 * count ≤ length out.old) }
     ensures { out.new ≡ overlaid (moved_places across down u v count places.now) out.old }
 {
-    let mut k = 0;
-    while k < count {
+    for k in 0..count {
         let b = moved(across, down, u, v, box_at(places, 7 * k + 1));
         out[7 * k] = places[7 * k];
         out[7 * k + 1] = b.left;
@@ -148,6 +133,5 @@ pub(crate) fn move_places(
         out[7 * k + 4] = b.bottom;
         out[7 * k + 5] = places[7 * k + 5];
         out[7 * k + 6] = places[7 * k + 6];
-        k += 1;
     }
 }

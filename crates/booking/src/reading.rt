@@ -15,17 +15,11 @@ pub const STRICTLY: u32 = 2;
 fn reading(settings: DecodeSettings, columns: u32, strict: bool, exact: bool) -> DecodeSettings
     ensures { result ≡ reading settings columns strict exact }
 {
-    let encoding = settings.encoding;
     DecodeSettings {
-        columns: columns,
-        rows: settings.rows,
-        end_of_block: settings.end_of_block,
-        end_of_line: settings.end_of_line,
-        rows_are_byte_aligned: settings.rows_are_byte_aligned,
-        encoding: encoding,
-        strict: strict,
-        exact: exact,
-        plain: settings.plain,
+        columns,
+        strict,
+        exact,
+        ..settings
     }
 }
 

@@ -75,20 +75,14 @@ fn lies_on(
 fn is_sought(form: Form, boxes: &[u32], places: &[u32]) -> bool
     ensures { result ≡ (has_shift form && can_look_for form boxes.now places.now) }
 {
-    if !has_shift(form) {
-        return false;
-    }
-    can_look_for(form, boxes, places)
+    has_shift(form) && can_look_for(form, boxes, places)
 }
 
 // Whether a store's rows are in order, and no more than 32 bits count.
 fn is_listed(columns: u32, changes: &[u32], ends: &[u64]) -> bool
     ensures { result ≡ (leb (length ends.now) 4294967295 && good_rows columns changes.now 0 ends.now) }
 {
-    if MOST_ROWS < ends.len() {
-        return false;
-    }
-    row_store::ascend(columns, changes, ends)
+    ends.len() <= MOST_ROWS && row_store::ascend(columns, changes, ends)
 }
 
 // Where a form lies on the page in a store: how far to the right and down of the first offset, which lies `across` to the left of its
@@ -121,6 +115,7 @@ pub fn lies_at(
 }
 
 // Whether the numbers of a form are there, room for them is lent, and it lies inside its page where it is moved to.
+#[tactic(auto, unfolding(crate::specs::Showing::can_move))]
 fn can_move(
     form: Form,
     rows: u32,
@@ -134,31 +129,21 @@ fn can_move(
     ensures { result ≡ can_move form rows u v boxes.now places.now box_room place_room }
 {
     let count = form.places as usize;
-    if boxes.len() != 80 {
-        return false;
-    }
-    if places.len() / 7 < count {
-        return false;
-    }
-    if box_room < 80 {
-        return false;
-    }
-    if place_room / 7 < count {
-        return false;
-    }
-    if !boxes_inside(form.columns, rows, form.across, form.down, u, v, boxes) {
-        return false;
-    }
-    places_inside(
-        form.columns,
-        rows,
-        form.across,
-        form.down,
-        u,
-        v,
-        places,
-        count,
-    )
+    boxes.len() == 80
+        && count <= places.len() / 7
+        && 80 <= box_room
+        && count <= place_room / 7
+        && boxes_inside(form.columns, rows, form.across, form.down, u, v, boxes)
+        && places_inside(
+            form.columns,
+            rows,
+            form.across,
+            form.down,
+            u,
+            v,
+            places,
+            count,
+        )
 }
 
 // The numbers of a form at an offset, as `lies_at` tells it, at the front of what is lent for its boxes and its places. False, and nothing

@@ -86,37 +86,26 @@ fn counted(heads: u32) -> Finding
 fn mark_at(marks: &[u8], y: usize) -> u8
     ensures { result ≡ get_or marks.now y 0 }
 {
-    if y < marks.len() {
-        return marks[y];
-    }
-    0
+    if y < marks.len() { marks[y] } else { 0 }
 }
 
 // The first row from `top` on that is not clean.
 fn bad_row(marks: &[u8], top: u32, bottom: u32) -> u32
     ensures { result ≡ first_of (unclean_at marks.now) (bottom - top) top }
 {
-    let mut y = top;
-    while y < bottom {
+    for y in top..bottom {
         if mark_at(marks, y as usize) != 0 {
             return y;
         }
-        y += 1;
     }
-    y
+    bottom.max(top)
 }
 
 // Whether each row that the box touches was read clean. A box whose bottom is above its top touches none.
 fn clean_under(columns: u32, marks: &[u8], b: Box) -> bool
     ensures { result ≡ clean_under columns (length marks.now) marks.now b }
 {
-    if b.right <= b.left {
-        return true;
-    }
-    if columns <= b.left {
-        return true;
-    }
-    b.bottom <= bad_row(marks, b.top, b.bottom)
+    b.right <= b.left || columns <= b.left || b.bottom <= bad_row(marks, b.top, b.bottom)
 }
 
 // The first box that touches a row that is not clean.
@@ -124,14 +113,12 @@ fn bad_box(columns: u32, marks: &[u8], boxes: &[u32]) -> u32
     requires { length boxes.now ≡ 80 }
     ensures { result ≡ first_of (box_touches columns marks.now boxes.now) 20 0 }
 {
-    let mut k: u32 = 0;
-    while k < 20 {
+    for k in 0..20 {
         if !clean_under(columns, marks, box_at(boxes, 4 * k as usize)) {
             return k;
         }
-        k += 1;
     }
-    k
+    20
 }
 
 // The first place that touches one.
@@ -139,14 +126,12 @@ fn bad_place(columns: u32, marks: &[u8], places: &[u32], count: usize) -> usize
     requires { 7 * count ≤ length places.now }
     ensures { result ≡ first_of (place_touches columns marks.now places.now) count 0 }
 {
-    let mut k = 0;
-    while k < count {
+    for k in 0..count {
         if !clean_under(columns, marks, box_at(places, 7 * k + 1)) {
             return k;
         }
-        k += 1;
     }
-    k
+    count
 }
 
 // The lowest bottom edge of the boxes.
@@ -155,13 +140,11 @@ fn lowest_box(boxes: &[u32]) -> u32
     ensures { result ≡ lowest (box_at boxes.now) 20 0 0 }
 {
     let mut low: u32 = 0;
-    let mut k = 0;
-    while k < 20 {
+    for k in 0..20 {
         let b = box_at(boxes, 4 * k);
         if low < b.bottom {
             low = b.bottom;
         }
-        k += 1;
     }
     low
 }
@@ -172,13 +155,11 @@ fn lowest_place(places: &[u32], count: usize, from: u32) -> u32
     ensures { result ≡ lowest (place_at places.now) count 0 from }
 {
     let mut low = from;
-    let mut k = 0;
-    while k < count {
+    for k in 0..count {
         let b = box_at(places, 7 * k + 1);
         if low < b.bottom {
             low = b.bottom;
         }
-        k += 1;
     }
     low
 }
@@ -199,15 +180,13 @@ fn bad_above(marks: &[u8], low: usize) -> usize
     ensures { result ≡ first_of (unclean_above marks.now low) (length marks.now) 0 }
 {
     let rows = marks.len();
-    let mut y = 0;
-    while y < rows {
+    for y in 0..rows {
         if low <= y {
             return rows;
         }
         if marks[y] != 0 {
             return y;
         }
-        y += 1;
     }
     rows
 }
@@ -271,14 +250,12 @@ fn wrong_place(columns: u32, changes: &[u32], ends: &[u64], places: &[u32], coun
     requires { Good columns changes.now ends.now × (7 * count ≤ length places.now) }
     ensures { result ≡ first_of (fails_at (page_in columns changes.now ends.now) places.now) count 0 }
 {
-    let mut k = 0;
-    while k < count {
+    for k in 0..count {
         if !place_holds(columns, changes, ends, places, k) {
             return k;
         }
-        k += 1;
     }
-    k
+    count
 }
 
 // What is told of it.
@@ -301,10 +278,7 @@ fn in_doubt(columns: u32, changes: &[u32], ends: &[u64], b: Box, doubt: u64, tic
     ensures { result ≡ doubts_in (page_in columns changes.now ends.now) doubt tick b }
 {
     let count = in_box(columns, changes, ends, b);
-    if count < doubt {
-        return false;
-    }
-    count < tick
+    doubt <= count && count < tick
 }
 
 // The first box in doubt.
@@ -319,15 +293,13 @@ fn doubtful(
     requires { Good columns changes.now ends.now × (length boxes.now ≡ 80) }
     ensures { result ≡ first_of (doubts_at (page_in columns changes.now ends.now) doubt tick boxes.now) 20 0 }
 {
-    let mut k: u32 = 0;
-    while k < 20 {
+    for k in 0..20 {
         let b = box_at(boxes, 4 * k as usize);
         if in_doubt(columns, changes, ends, b, doubt, tick) {
             return k;
         }
-        k += 1;
     }
-    k
+    20
 }
 
 // The ticks of a column.
@@ -343,13 +315,11 @@ fn ticks_in(
     ensures { result ≡ ticks_of (page_in columns changes.now ends.now) boxes.now tick column }
 {
     let mut n: u64 = 0;
-    let mut d = 0;
-    while d < 10 {
+    for d in 0..10 {
         let b = box_at(boxes, 4 * (2 * d + column));
         if tick <= in_box(columns, changes, ends, b) {
             n += 1;
         }
-        d += 1;
     }
     n
 }

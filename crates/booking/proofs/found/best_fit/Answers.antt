@@ -4,11 +4,8 @@ use Rattle.booking.specs.Found.{best_from}
 use Rattle.heads.specs.Form.{page_in}
 use native.Mathlib.Omega.{arith}
 use native.Mathlib.Numerals.{add-one}
-use Prim.Native.Nat.{ℕ, ◌-◌}
-use mathlib.Core.Path.{◌≡◌, ap, ◌∙◌}
-use Rattle.booking.proofs.found.best_fit.Reads as reads
-use Rattle.booking.proofs.found.best_fit.Lts as lts
-use Rattle.booking.proofs.found.failing_at.Reads as failing-at-reads
+use Prim.Native.Nat.{ℕ}
+use mathlib.Core.Path.{ap, ◌∙◌}
 use Rattle.booking.proofs.found.best_fit.Goals.{then-n-fewest, else-n-fewest}
 use Rattle.booking.proofs.found.best_fit.Goals as goal
 
@@ -27,12 +24,6 @@ loop-i-init c =
 
 pub failing_at-n-requires : goal.failing_at-n-requires
 failing_at-n-requires c = c.requires
-
-pub overflow_add-i : goal.overflow_add-i
-overflow_add-i c = omega arith
-
-pub loop-i-smaller : goal.loop-i-smaller
-loop-i-smaller c = omega arith
 
 pub loop-i-preserved : goal.loop-i-preserved
 loop-i-preserved c =

@@ -4,12 +4,8 @@ use Rattle.booking.proofs.Firsts.{count_past, count-here, count_next}
 use Rattle.booking.specs.Moving.{fails_by}
 use Rattle.heads.specs.Form.{page_in}
 use native.Mathlib.Omega.{arith}
-use Prim.Native.Nat.{◌+◌, ◌-◌, ◌≤◌}
 use mathlib.Core.Bool.{not}
-use mathlib.Core.Path.{◌≡◌, sym, ap, ◌∙◌}
-use Rattle.booking.proofs.found.failing.Reads as reads
-use Rattle.booking.proofs.found.failing.Lts as lts
-use Rattle.booking.proofs.found.stands.Reads as stands-reads
+use mathlib.Core.Path.{sym, ap, ◌∙◌}
 use Rattle.booking.proofs.found.failing.Goals.{then-not-stands, else-not-stands}
 use Rattle.booking.proofs.found.failing.Goals as goal
 
@@ -24,12 +20,6 @@ stands-requires c = (c.requires.0, omega (arith, c.requires.1))
 
 pub overflow_add-n : goal.overflow_add-n
 overflow_add-n c = omega arith
-
-pub overflow_add-k : goal.overflow_add-k
-overflow_add-k c = omega arith
-
-pub loop-k-smaller : goal.loop-k-smaller
-loop-k-smaller c = omega arith
 
 pub loop-k-preserved : goal.loop-k-preserved
 loop-k-preserved c =

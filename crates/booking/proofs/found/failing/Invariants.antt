@@ -3,14 +3,8 @@ use Rattle.booking.specs.Moving.{fails_by}
 use Rattle.form_file.specs.First.{count_of}
 use Rattle.heads.specs.Form.{page_in}
 use Prim.Native.Nat.{◌+◌, ◌-◌, ◌≤◌}
-use mathlib.Core.Path.{◌≡◌, ◌∙◌}
-use Rattle.booking.proofs.found.failing.Reads as reads
-use Rattle.booking.proofs.found.failing.Lts as lts
-use Rattle.booking.proofs.found.stands.Reads as stands-reads
+use mathlib.Core.Path.{◌≡◌}
 use Rattle.booking.proofs.found.failing.Given as goal
 
 abbrev pub invariant-loop-k : goal.invariant-loop-k
 invariant-loop-k l = (l.n ≤ l.limit) × (l.n + count_of (fails_by l.rows l.count l.across l.down l.u l.v (page_in l.columns l.changes l.ends) l.places) (l.count - l.k) l.k ≡ count_of (fails_by l.rows l.count l.across l.down l.u l.v (page_in l.columns l.changes l.ends) l.places) l.count 0)
-
-abbrev pub decreases-loop-k : goal.decreases-loop-k
-decreases-loop-k l = l.count - l.k

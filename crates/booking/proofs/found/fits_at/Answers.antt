@@ -4,11 +4,6 @@ use Rattle.heads.proofs.RowsAt.{rows-length}
 use Rattle.heads.specs.Form.{page_in}
 use borrow.Author.Tests.{not-true}
 use mathlib.Core.Path.{sym, ◌∙◌}
-use Rattle.booking.proofs.found.fits_at.Reads as reads
-use Rattle.booking.proofs.found.fits_at.Lts as lts
-use Rattle.booking.proofs.found.failing.Reads as failing-reads
-use Rattle.booking.proofs.found.stands.Reads as stands-reads
-use Rattle.booking.proofs.moving.boxes_inside.Reads as boxes-inside-reads
 use Rattle.booking.proofs.found.fits_at.Goals as goal
 
 pub returns-then-not-stands : goal.returns-then-not-stands
@@ -23,8 +18,14 @@ returns-then-f-ne0 c =
     fits-some a.across a.down a.count a.boxes.now a.places.now (page_in a.columns a.changes.now a.ends.now) a.rows a.i
     (c.requires.rows_are ∙ sym (rows-length 0 a.changes.now a.ends.now)) c.failing-f.ensures c.if-f-ne0.true
 
+pub returns-then-not-boxes_inside : goal.returns-then-not-boxes_inside
+returns-then-not-boxes_inside c =
+    let a = c.args in
+    sym c.if-not-boxes_inside.true ∙ fits-none a.across a.down a.count a.boxes.now a.places.now (page_in a.columns a.changes.now a.ends.now) a.rows a.i
+    (c.requires.rows_are ∙ sym (rows-length 0 a.changes.now a.ends.now)) c.failing-f.ensures c.if-f-ne0.false c.boxes_inside.ensures
+
 pub returns : goal.returns
 returns c =
     let a = c.args in
-    fits-none a.across a.down a.count a.boxes.now a.places.now (page_in a.columns a.changes.now a.ends.now) a.rows a.i
-    (c.requires.rows_are ∙ sym (rows-length 0 a.changes.now a.ends.now)) c.failing-f.ensures c.if-f-ne0.false c.boxes_inside-hit.ensures
+    sym c.if-not-boxes_inside.false ∙ fits-none a.across a.down a.count a.boxes.now a.places.now (page_in a.columns a.changes.now a.ends.now) a.rows a.i
+    (c.requires.rows_are ∙ sym (rows-length 0 a.changes.now a.ends.now)) c.failing-f.ensures c.if-f-ne0.false c.boxes_inside.ensures

@@ -4,12 +4,7 @@ use Rattle.booking.specs.Found.{box_inside}
 use Rattle.form_file.specs.FormFile.{box_at}
 use borrow.Author.Tests.{not-true, not-false}
 use native.Mathlib.Omega.{arith}
-use Prim.Native.Nat.{◌-◌}
-use mathlib.Core.Path.{◌≡◌, refl, ◌∙◌}
-use Rattle.booking.proofs.moving.boxes_inside.Reads as reads
-use Rattle.booking.proofs.moving.boxes_inside.Lts as lts
-use Rattle.booking.proofs.moving.inside.Reads as inside-reads
-use Rattle.booking.proofs.tests.box_at.Reads as box-at-reads
+use mathlib.Core.Path.{refl, ◌∙◌}
 use Rattle.booking.proofs.moving.boxes_inside.Goals as goal
 
 pub loop-k-init : goal.loop-k-init
@@ -26,12 +21,6 @@ returns-then-not-inside c =
     let a = c.args in
     every_here (λ j. box_inside a.across a.down a.u a.v a.columns a.rows (box_at a.boxes.now j)) c.loop-k.k 20 c.loop-k-test.true
     (inside-told a.across a.down a.u a.v a.columns a.rows c.inside.ensures c.box_at.ensures (not-true _ c.if-not-inside.true-raw)) ∙ c.loop-k.invariant
-
-pub overflow_add-k : goal.overflow_add-k
-overflow_add-k c = omega arith
-
-pub loop-k-smaller : goal.loop-k-smaller
-loop-k-smaller c = omega arith
 
 pub loop-k-preserved : goal.loop-k-preserved
 loop-k-preserved c =

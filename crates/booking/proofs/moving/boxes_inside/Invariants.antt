@@ -3,15 +3,8 @@ use Rattle.booking.specs.Found.{box_inside, boxes_inside}
 use Rattle.form_file.specs.FormFile.{box_at}
 use Rattle.heads.specs.Form.{every}
 use Prim.Native.Nat.{◌-◌}
-use mathlib.Core.Path.{◌≡◌, ◌∙◌}
-use Rattle.booking.proofs.moving.boxes_inside.Reads as reads
-use Rattle.booking.proofs.moving.boxes_inside.Lts as lts
-use Rattle.booking.proofs.moving.inside.Reads as inside-reads
-use Rattle.booking.proofs.tests.box_at.Reads as box-at-reads
+use mathlib.Core.Path.{◌≡◌}
 use Rattle.booking.proofs.moving.boxes_inside.Given as goal
 
 abbrev pub invariant-loop-k : goal.invariant-loop-k
 invariant-loop-k l = every (λ j. box_inside l.across l.down l.u l.v l.columns l.rows (box_at l.boxes j)) (20 - l.k) l.k ≡ boxes_inside l.across l.down l.u l.v l.columns l.rows l.boxes
-
-abbrev pub decreases-loop-k : goal.decreases-loop-k
-decreases-loop-k l = 20 - l.k

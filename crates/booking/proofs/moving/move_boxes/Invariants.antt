@@ -2,16 +2,9 @@
 use Rattle.booking.specs.Found.{listed, moved_four}
 use Rattle.rules.specs.Pages.{overlaid}
 use lib.ListN.{length}
-use Prim.Native.Nat.{◌+◌, ◌-◌, ◌*◌, ◌≤◌}
-use mathlib.Core.Path.{◌≡◌, ◌∙◌}
-use Rattle.booking.proofs.moving.move_boxes.Reads as reads
-use Rattle.booking.proofs.moving.move_boxes.Lts as lts
-use Rattle.booking.proofs.moving.moved.Reads as moved-reads
-use Rattle.booking.proofs.tests.box_at.Reads as box-at-reads
+use Prim.Native.Nat.{◌≤◌}
+use mathlib.Core.Path.{◌≡◌}
 use Rattle.booking.proofs.moving.move_boxes.Given as goal
 
 abbrev pub invariant-loop-k : goal.invariant-loop-k
 invariant-loop-k l = (l.k ≤ 20) × (length l.out ≡ length l.initial.out) × (l.out ≡ overlaid (listed (moved_four l.across l.down l.u l.v l.boxes) l.k 0) l.initial.out)
-
-abbrev pub decreases-loop-k : goal.decreases-loop-k
-decreases-loop-k l = 20 - l.k

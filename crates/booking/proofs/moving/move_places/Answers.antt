@@ -4,12 +4,7 @@ use Rattle.booking.specs.Found.{listed, moved_places}
 use Rattle.rules.proofs.Store.{overlaid-nothing}
 use lib.ListN.{length-set}
 use native.Mathlib.Omega.{arith}
-use Prim.Native.Nat.{◌+◌, ◌-◌, ◌*◌, ◌≤◌}
-use mathlib.Core.Path.{◌≡◌, refl, sym, ◌∙◌}
-use Rattle.booking.proofs.moving.move_places.Reads as reads
-use Rattle.booking.proofs.moving.move_places.Lts as lts
-use Rattle.booking.proofs.moving.moved.Reads as moved-reads
-use Rattle.booking.proofs.tests.box_at.Reads as box-at-reads
+use mathlib.Core.Path.{◌≡◌, refl, sym}
 use Rattle.booking.proofs.moving.move_places.Goals as goal
 
 pub loop-k-init : goal.loop-k-init
@@ -141,12 +136,6 @@ offset_bounds-out-k-in-loop-k-6 c = omega (arith, c.requires.0.long, c.loop-k.in
 
 pub bounds-out-k-in-loop-k-6 : goal.bounds-out-k-in-loop-k-6
 bounds-out-k-in-loop-k-6 c = simp length-set (omega (arith, c.loop-k.invariant.1, c.requires.1))
-
-pub overflow_add-k-in-loop-k : goal.overflow_add-k-in-loop-k
-overflow_add-k-in-loop-k c = omega arith
-
-pub loop-k-smaller : goal.loop-k-smaller
-loop-k-smaller c = omega arith
 
 pub loop-k-preserved : goal.loop-k-preserved
 loop-k-preserved c =

@@ -2,16 +2,9 @@
 use Rattle.booking.specs.Found.{listed, moved_seven}
 use Rattle.rules.specs.Pages.{overlaid}
 use lib.ListN.{length}
-use Prim.Native.Nat.{◌+◌, ◌-◌, ◌*◌, ◌≤◌}
-use mathlib.Core.Path.{◌≡◌, ◌∙◌}
-use Rattle.booking.proofs.moving.move_places.Reads as reads
-use Rattle.booking.proofs.moving.move_places.Lts as lts
-use Rattle.booking.proofs.moving.moved.Reads as moved-reads
-use Rattle.booking.proofs.tests.box_at.Reads as box-at-reads
+use Prim.Native.Nat.{◌≤◌}
+use mathlib.Core.Path.{◌≡◌}
 use Rattle.booking.proofs.moving.move_places.Given as goal
 
 abbrev pub invariant-loop-k : goal.invariant-loop-k
 invariant-loop-k l = (l.k ≤ l.count) × (length l.out ≡ length l.initial.out) × (l.out ≡ overlaid (listed (moved_seven l.across l.down l.u l.v l.places) l.k 0) l.initial.out)
-
-abbrev pub decreases-loop-k : goal.decreases-loop-k
-decreases-loop-k l = l.count - l.k

@@ -1,6 +1,5 @@
 -- The invariant: the first of the rows that are left is that of all. Assumes nothing.
-use mathlib.Core.Path.{◌≡◌, ◌∙◌}
-use Prim.Native.Nat.{◌-◌, ◌≤◌}
+use mathlib.Core.Path.{◌∙◌}
 use native.Mathlib.Omega.{arith}
 use lib.ListN.{length}
 use Rattle.booking.specs.Testing.{unclean_above}
@@ -24,12 +23,6 @@ returns-then-marks-y-ne0 c =
     let a = c.args in
     first-here (unclean_above a.marks.now a.low) c.loop-y.y (length a.marks.now) c.loop-y-test.true
     (above-unclean a.marks.now a.low c.loop-y.y c.if-low-y.false c.if-marks-y-ne0.true) ∙ c.loop-y.invariant.1
-
-pub overflow_add-y : goal.overflow_add-y
-overflow_add-y c = omega arith
-
-pub loop-y-smaller : goal.loop-y-smaller
-loop-y-smaller c = omega arith
 
 pub loop-y-preserved : goal.loop-y-preserved
 loop-y-preserved c =

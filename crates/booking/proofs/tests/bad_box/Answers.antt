@@ -1,6 +1,5 @@
 -- The invariant: the first of those that are left is that of all. Assumes nothing.
 use mathlib.Core.Path.{◌≡◌, ◌∙◌}
-use Prim.Native.Nat.{◌-◌}
 use native.Mathlib.Omega.{arith}
 use Rattle.booking.specs.Testing.{box_touches}
 use Rattle.booking.proofs.Firsts.{first-start, first_past, first-here, first_next}
@@ -21,9 +20,6 @@ returns-then-not-clean_under c =
     first-here (box_touches a.columns a.marks.now a.boxes.now) c.loop-k.k 20 c.loop-k-test.true
     (rw (← c.box_at.ensures, ← c.clean_under.ensures) c.if-not-clean_under.true-raw) ∙ c.loop-k.invariant
 
-pub loop-k-smaller : goal.loop-k-smaller
-loop-k-smaller c = omega arith
-
 pub loop-k-preserved : goal.loop-k-preserved
 loop-k-preserved c =
     let a = c.args in
@@ -33,4 +29,5 @@ loop-k-preserved c =
 pub returns : goal.returns
 returns c =
     let a = c.args in
-    first_past (box_touches a.columns a.marks.now a.boxes.now) c.loop-k.k 20 c.loop-k-test.false ∙ c.loop-k.invariant
+    let e : 20 ≡ c.loop-k.k = omega arith in
+    e ∙ first_past (box_touches a.columns a.marks.now a.boxes.now) c.loop-k.k 20 c.loop-k-test.false ∙ c.loop-k.invariant

@@ -1,5 +1,5 @@
 -- The invariant: the first of those that are left is that of all. Assumes nothing.
-use mathlib.Core.Path.{◌≡◌, ◌∙◌}
+use mathlib.Core.Path.{◌≡◌}
 use Prim.Native.Nat.{◌-◌}
 use Rattle.form_file.specs.First.{first_of}
 use Rattle.booking.specs.Testing.{box_touches}
@@ -7,6 +7,3 @@ use Rattle.booking.proofs.tests.bad_box.Given as goal
 
 abbrev pub invariant-loop-k : goal.invariant-loop-k
 invariant-loop-k l = first_of (box_touches l.columns l.marks l.boxes) (20 - l.k) l.k ≡ first_of (box_touches l.columns l.marks l.boxes) 20 0
-
-abbrev pub decreases-loop-k : goal.decreases-loop-k
-decreases-loop-k l = 20 - l.k

@@ -1,6 +1,5 @@
 -- The invariant: the first of those that are left is that of all. Assumes nothing.
 use mathlib.Core.Path.{◌≡◌, ◌∙◌}
-use Prim.Native.Nat.{◌-◌}
 use native.Mathlib.Omega.{arith}
 use Rattle.booking.specs.Testing.{place_touches}
 use Rattle.booking.proofs.Firsts.{first-start, first_past, first-here, first_next}
@@ -24,9 +23,6 @@ returns-then-not-clean_under c =
     first-here (place_touches a.columns a.marks.now a.places.now) c.loop-k.k a.count c.loop-k-test.true
     (rw (← c.box_at.ensures, ← c.clean_under.ensures) c.if-not-clean_under.true-raw) ∙ c.loop-k.invariant
 
-pub loop-k-smaller : goal.loop-k-smaller
-loop-k-smaller c = omega arith
-
 pub loop-k-preserved : goal.loop-k-preserved
 loop-k-preserved c =
     let a = c.args in
@@ -36,4 +32,5 @@ loop-k-preserved c =
 pub returns : goal.returns
 returns c =
     let a = c.args in
-    first_past (place_touches a.columns a.marks.now a.places.now) c.loop-k.k a.count c.loop-k-test.false ∙ c.loop-k.invariant
+    let e : c.args.count ≡ c.loop-k.k = omega arith in
+    e ∙ first_past (place_touches a.columns a.marks.now a.places.now) c.loop-k.k a.count c.loop-k-test.false ∙ c.loop-k.invariant

@@ -1,5 +1,5 @@
 -- The invariant: the first of those that are left is that of all. Assumes nothing.
-use mathlib.Core.Path.{◌≡◌, ◌∙◌}
+use mathlib.Core.Path.{◌≡◌}
 use Prim.Native.Nat.{◌-◌}
 use Rattle.form_file.specs.First.{first_of}
 use Rattle.booking.specs.Testing.{place_touches}
@@ -7,6 +7,3 @@ use Rattle.booking.proofs.tests.bad_place.Given as goal
 
 abbrev pub invariant-loop-k : goal.invariant-loop-k
 invariant-loop-k l = first_of (place_touches l.columns l.marks l.places) (l.count - l.k) l.k ≡ first_of (place_touches l.columns l.marks l.places) l.count 0
-
-abbrev pub decreases-loop-k : goal.decreases-loop-k
-decreases-loop-k l = l.count - l.k

@@ -1,5 +1,5 @@
 -- The invariant: the first of the rows that are left is that of all. Assumes nothing.
-use mathlib.Core.Path.{◌≡◌, ◌∙◌}
+use mathlib.Core.Path.{◌≡◌}
 use Prim.Native.Nat.{◌-◌}
 use Rattle.form_file.specs.First.{first_of}
 use Rattle.booking.specs.Testing.{unclean_at}
@@ -7,6 +7,3 @@ use Rattle.booking.proofs.tests.bad_row.Given as goal
 
 abbrev pub invariant-loop-y : goal.invariant-loop-y
 invariant-loop-y l = first_of (unclean_at l.marks) (l.bottom - l.y) l.y ≡ first_of (unclean_at l.marks) (l.bottom - l.top) l.top
-
-abbrev pub decreases-loop-y : goal.decreases-loop-y
-decreases-loop-y l = l.bottom - l.y

@@ -1,6 +1,5 @@
 -- The invariant: the first of the boxes that are left is that of all. Assumes nothing.
 use mathlib.Core.Path.{◌≡◌, refl, ◌∙◌}
-use Prim.Native.Nat.{◌-◌}
 use native.Mathlib.Omega.{arith}
 use Rattle.heads.specs.Form.{page_in}
 use Rattle.booking.specs.Testing.{doubts_at}
@@ -25,12 +24,6 @@ returns-then-in_doubt c =
     first-here (doubts_at (page_in a.columns a.changes.now a.ends.now) a.doubt a.tick a.boxes.now) c.loop-k.k 20
     c.loop-k-test.true (rw (← c.box_at-b.ensures, ← c.in_doubt.ensures) c.if-in_doubt.true) ∙ c.loop-k.invariant
 
-pub overflow_add-k : goal.overflow_add-k
-overflow_add-k c = omega arith
-
-pub loop-k-smaller : goal.loop-k-smaller
-loop-k-smaller c = omega arith
-
 pub loop-k-preserved : goal.loop-k-preserved
 loop-k-preserved c =
     let a = c.args in
@@ -40,4 +33,5 @@ loop-k-preserved c =
 pub returns : goal.returns
 returns c =
     let a = c.args in
-    first_past (doubts_at (page_in a.columns a.changes.now a.ends.now) a.doubt a.tick a.boxes.now) c.loop-k.k 20 c.loop-k-test.false ∙ c.loop-k.invariant
+    let e : 20 ≡ c.loop-k.k = omega arith in
+    e ∙ first_past (doubts_at (page_in a.columns a.changes.now a.ends.now) a.doubt a.tick a.boxes.now) c.loop-k.k 20 c.loop-k-test.false ∙ c.loop-k.invariant

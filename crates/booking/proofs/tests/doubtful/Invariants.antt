@@ -1,5 +1,5 @@
 -- The invariant: the first of the boxes that are left is that of all. Assumes nothing.
-use mathlib.Core.Path.{◌≡◌, ◌∙◌}
+use mathlib.Core.Path.{◌≡◌}
 use Prim.Native.Nat.{◌-◌}
 use Rattle.heads.specs.Form.{page_in}
 use Rattle.form_file.specs.First.{first_of}
@@ -8,6 +8,3 @@ use Rattle.booking.proofs.tests.doubtful.Given as goal
 
 abbrev pub invariant-loop-k : goal.invariant-loop-k
 invariant-loop-k l = first_of (doubts_at (page_in l.columns l.changes l.ends) l.doubt l.tick l.boxes) (20 - l.k) l.k ≡ first_of (doubts_at (page_in l.columns l.changes l.ends) l.doubt l.tick l.boxes) 20 0
-
-abbrev pub decreases-loop-k : goal.decreases-loop-k
-decreases-loop-k l = 20 - l.k

@@ -1,6 +1,5 @@
 -- The invariant: the lowest of those that are left, and of those before, is that of all. Assumes nothing.
-use mathlib.Core.Path.{◌≡◌, ◌∙◌}
-use Prim.Native.Nat.{◌-◌}
+use mathlib.Core.Path.{◌∙◌}
 use native.Mathlib.Omega.{arith}
 use Rattle.form_file.specs.FormFile.{box_at}
 use Rattle.booking.proofs.Lowest.{lowest_start, lowest-past, lowest-lower, lowest-stays}
@@ -15,9 +14,6 @@ overflow_mul-k c = omega arith
 
 pub box_at-b-requires : goal.box_at-b-requires
 box_at-b-requires c = omega arith
-
-pub loop-k-smaller : goal.loop-k-smaller
-loop-k-smaller c = omega arith
 
 pub loop-k-preserved : goal.loop-k-preserved
 loop-k-preserved c =

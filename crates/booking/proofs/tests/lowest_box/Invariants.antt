@@ -1,5 +1,5 @@
 -- The invariant: the lowest of those that are left, and of those before, is that of all. Assumes nothing.
-use mathlib.Core.Path.{◌≡◌, ◌∙◌}
+use mathlib.Core.Path.{◌≡◌}
 use Prim.Native.Nat.{◌-◌}
 use Rattle.form_file.specs.FormFile.{box_at}
 use Rattle.booking.specs.Tests.{lowest}
@@ -7,6 +7,3 @@ use Rattle.booking.proofs.tests.lowest_box.Given as goal
 
 abbrev pub invariant-loop-k : goal.invariant-loop-k
 invariant-loop-k l = lowest (box_at l.boxes) (20 - l.k) l.k l.low ≡ lowest (box_at l.boxes) 20 0 0
-
-abbrev pub decreases-loop-k : goal.decreases-loop-k
-decreases-loop-k l = 20 - l.k

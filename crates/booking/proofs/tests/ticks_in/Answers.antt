@@ -1,6 +1,4 @@
 -- The invariant: the ticks that are counted, and those that are left, are all of them. Assumes nothing.
-use mathlib.Core.Path.{◌≡◌}
-use Prim.Native.Nat.{◌+◌, ◌-◌, ◌≤◌}
 use native.Mathlib.Omega.{arith}
 use Rattle.heads.specs.Form.{page_in}
 use Rattle.booking.specs.Testing.{ticked_at}
@@ -29,12 +27,6 @@ in_box-requires c = c.requires.0
 
 pub overflow_add-n : goal.overflow_add-n
 overflow_add-n c = omega arith
-
-pub overflow_add-d-in-loop-d : goal.overflow_add-d-in-loop-d
-overflow_add-d-in-loop-d c = omega arith
-
-pub loop-d-smaller : goal.loop-d-smaller
-loop-d-smaller c = omega arith
 
 pub loop-d-preserved : goal.loop-d-preserved
 loop-d-preserved c =

@@ -8,6 +8,3 @@ use Rattle.booking.proofs.tests.ticks_in.Given as goal
 
 abbrev pub invariant-loop-d : goal.invariant-loop-d
 invariant-loop-d l = (l.n ≤ l.d) × (l.n + count_of (ticked_at (page_in l.columns l.changes l.ends) l.boxes l.tick l.column) (10 - l.d) l.d ≡ ticks_of (page_in l.columns l.changes l.ends) l.boxes l.tick l.column)
-
-abbrev pub decreases-loop-d : goal.decreases-loop-d
-decreases-loop-d l = 10 - l.d

@@ -1,6 +1,5 @@
 -- The invariant: the first of the places that are left is that of all. Assumes nothing.
 use mathlib.Core.Path.{◌≡◌, ◌∙◌}
-use Prim.Native.Nat.{◌-◌}
 use native.Mathlib.Omega.{arith}
 use Rattle.heads.specs.Form.{page_in}
 use Rattle.booking.specs.Testing.{fails_at}
@@ -19,12 +18,6 @@ returns-then-not-place_holds c =
     first-here (fails_at (page_in a.columns a.changes.now a.ends.now) a.places.now) c.loop-k.k a.count c.loop-k-test.true
     (rw (← c.place_holds.ensures) c.if-not-place_holds.true-raw) ∙ c.loop-k.invariant
 
-pub overflow_add-k : goal.overflow_add-k
-overflow_add-k c = omega arith
-
-pub loop-k-smaller : goal.loop-k-smaller
-loop-k-smaller c = omega arith
-
 pub loop-k-preserved : goal.loop-k-preserved
 loop-k-preserved c =
     let a = c.args in
@@ -34,4 +27,5 @@ loop-k-preserved c =
 pub returns : goal.returns
 returns c =
     let a = c.args in
-    first_past (fails_at (page_in a.columns a.changes.now a.ends.now) a.places.now) c.loop-k.k a.count c.loop-k-test.false ∙ c.loop-k.invariant
+    let e : c.args.count ≡ c.loop-k.k = omega arith in
+    e ∙ first_past (fails_at (page_in a.columns a.changes.now a.ends.now) a.places.now) c.loop-k.k a.count c.loop-k-test.false ∙ c.loop-k.invariant
