@@ -1,14 +1,15 @@
 -- What a byte, a box, a place or a form that was found is said to be, case by case. Assumes nothing.
 use mathlib.Core.Path.{◌≡◌, refl, sym, ap, ap₂, ◌∙◌, subst}
-use mathlib.Core.Bool.{Bool, true, false, not}
-use mathlib.Core.List.{List, [], ◌∷◌, ◌++◌}
+use mathlib.Core.Bool.{Bool, true, false, not, cond}
+use mathlib.Core.List.{List, [], ◌∷◌}
 use Prim.Native.Nat.{ℕ, suc, ◌+◌, ◌-◌, ◌*◌, ◌/◌, ◌%◌, ◌≤◌, ◌<◌}
 use native.Mathlib.Omega.{arith}
 use lib.Dec.{eqb, leb, ltb}
 use lib.IntN.{ℤ}
-use lib.ListN.{length, get_or, drop, drop_of_length-le}
-use borrow.Author.Tests.{lt-ltb, le-ltb, le-leb, lt-leb, leb-true, leb-false, eq-eqb, ne_eqb}
-use Rattle.listing_text.proofs.Spelling.{split}
+use lib.ListN.{length}
+use Rattle.std.specs.Prelude.{count_by}
+use Rattle.std.proofs.lemmas.List.Recursion.{is_count_by}
+use borrow.Author.Tests.{lt-ltb, le-ltb, eq-eqb, ne_eqb}
 use Rattle.heads.specs.Form.{Page, black_in}
 use Rattle.heads.specs.declared.Box.{Box}
 use Rattle.ledger.specs.Books.{left, is_below, size}
@@ -16,17 +17,10 @@ use Rattle.ledger.specs.Balance.{opened}
 use Rattle.ledger.specs.Phrases.{one}
 use Rattle.ledger.specs.declared.Ledger.{Ledger}
 use Rattle.ledger.specs.declared.Verdict.{Verdict}
-use Rattle.look.specs.Escaped.{is_mark}
 use Rattle.look.specs.Pieces.{said, Tells, larger, licence, plot, bar, count_of, read_text, apart, is_there, found_at, found, sheet_numbers}
 use Rattle.look.specs.Pieces.{edges, state_of, box_text, holds, place_state, place_text}
 
 -- ---- A byte that is a mark of the file
-
-pub mark-is : (b m : ℕ) → is_mark m ≡ true → b ≡ m → true ≡ is_mark b
-mark-is b m t e = sym (ap (λ (x : ℕ). is_mark x) e ∙ t)
-
-pub mark-last : (b : ℕ) → (b ≡ 38 → ⊥) → (b ≡ 60 → ⊥) → (b ≡ 62 → ⊥) → (b ≡ 34 → ⊥) → eqb b 39 ≡ is_mark b
-mark-last b p q r s = sym (rw (ne_eqb b 38 p, ne_eqb b 60 q, ne_eqb b 62 r, ne_eqb b 34 s))
 
 -- ---- The larger of two
 
@@ -74,12 +68,6 @@ module _ (rows : ℕ) (b : Box) (kind black asked : ℕ) where
 
 -- ---- Where the form was found
 
-pub there-not : (a d : ℕ) → (a ≡ 0 → ⊥) → false ≡ is_there a d
-there-not a d e = sym (rw (is_there, ne_eqb a 0 e))
-
-pub there-if : (a d : ℕ) → a ≡ 0 → eqb d 0 ≡ is_there a d
-there-if a d e = sym (rw (is_there, eq-eqb a 0 e))
-
 abbrev by-there : Bool → Bool → Bool → ℕ
 by-there l u t = elim t [ true ↦ 20 | false ↦ 21 + 2 * one l + one u ]
 
@@ -89,50 +77,19 @@ found-there l u a d e = sym (ap (by-there l u) e)
 pub found-moved : (l u : Bool) (a d : ℕ) {x y : ℕ} → is_there a d ≡ false → x ≡ one l → y ≡ one u → 21 + 2 * x + y ≡ found_at l a u d
 found-moved l u a d e f g = ap₂ (λ (m n : ℕ). 21 + 2 * m + n) f g ∙ sym (ap (by-there l u) e)
 
--- ---- Rows with a mark, from the last to the first
+-- ---- Rows with a mark
 
-pub count-one : (m : ℕ) (xs : List ℕ) (i : ℕ) → i < length xs → get_or xs i 0 ≡ m → count_of m (drop i xs) ≡ count_of m (drop (i + 1) xs) + 1
+-- the library's count is that of the definition
+pub count-by : (m : ℕ) (xs : List ℕ) → count_by (λ x. eqb x m) xs ≡ count_of m xs
 unfolding count_of
-count-one m xs i h e = ap (count_of m) (split xs i h) ∙ rw (count_of, eq-eqb (get_or xs i 0) m e) (omega arith)
-
-pub count_none : (m : ℕ) (xs : List ℕ) (i : ℕ) → i < length xs → (get_or xs i 0 ≡ m → ⊥) → count_of m (drop i xs) ≡ count_of m (drop (i + 1) xs)
-unfolding count_of
-count_none m xs i h e = ap (count_of m) (split xs i h) ∙ rw (count_of, ne_eqb (get_or xs i 0) m e)
-
-pub count-end : (m : ℕ) (xs : List ℕ) → xs ≡ [] → count_of m xs ≡ 0
-unfolding count_of
-count-end m xs e = rw e
-
-pub count_most : (m : ℕ) (xs : List ℕ) → count_of m xs ≤ length xs
-unfolding count_of
-count_most m [] = omega arith
-count_most m (x ∷ xs) = by (eqb x m) (count_most m xs)
+count-by m xs = sym (is_count_by (count_of m) (λ x. eqb x m) refl step xs)
   where
-    by : (t : Bool) → count_of m xs ≤ length xs → elim t [ true ↦ suc (count_of m xs) | false ↦ count_of m xs ] ≤ suc (length xs)
-    by true h = omega arith
-    by false h = omega arith
+    by : (t : Bool) (n : ℕ) → elim t [ true ↦ suc n | false ↦ n ] ≡ cond t (1 + n) n
+    by true n = omega arith
+    by false n = refl
 
--- ---- Room for a piece, as it is tested
-
-pub room_moved : (n m : ℕ) → 24576 ≤ m → leb n ((m - 24576) / 6) ≡ leb (n * 6 + 24576) m
-room_moved n m h = by (leb n ((m - 24576) / 6)) refl
-  where
-    by : (t : Bool) → leb n ((m - 24576) / 6) ≡ t → t ≡ leb (n * 6 + 24576) m
-    by true e = sym (le-leb (n * 6 + 24576) m (omega (arith, leb-true n ((m - 24576) / 6) e)))
-    by false e = sym (lt-leb (n * 6 + 24576) m (omega (arith, leb-false n ((m - 24576) / 6) e)))
-
-pub count_next : (m : ℕ) (xs : List ℕ) (n i : ℕ) → 0 < i → i ≤ length xs → n ≡ count_of m (drop i xs) → get_or xs (i - 1) 0 ≡ m → n + 1 ≡ count_of m (drop (i - 1) xs)
-count_next m xs n i p h e g =
-    let z : i ≡ i - 1 + 1 = omega arith in
-    ap (λ (k : ℕ). k + 1) (e ∙ ap (λ (j : ℕ). count_of m (drop j xs)) z) ∙ sym (count-one m xs (i - 1) (omega arith) g)
-
-pub count-skip : (m : ℕ) (xs : List ℕ) (n i : ℕ) → 0 < i → i ≤ length xs → n ≡ count_of m (drop i xs) → (get_or xs (i - 1) 0 ≡ m → ⊥) → n ≡ count_of m (drop (i - 1) xs)
-count-skip m xs n i p h e g =
-    let z : i ≡ i - 1 + 1 = omega arith in
-    e ∙ ap (λ (j : ℕ). count_of m (drop j xs)) z ∙ sym (count_none m xs (i - 1) (omega arith) g)
-
-pub count-all : (m : ℕ) (xs : List ℕ) (n i : ℕ) → i ≡ 0 → n ≡ count_of m (drop i xs) → n ≡ count_of m xs
-count-all m xs n i z e = e ∙ ap (λ (j : ℕ). count_of m (drop j xs)) z
+    step : (x : ℕ) (ys : List ℕ) → count_of m (x ∷ ys) ≡ cond (eqb x m) (1 + count_of m ys) (count_of m ys)
+    step x ys = by (eqb x m) (count_of m ys)
 
 -- ---- Boxes and places by their edges
 
@@ -201,6 +158,3 @@ tells-can {can} {n} {out} {r} {after} {x} {y} e f t = subst (λ (b : Bool). Tell
 
 pub place_of : (p : Page) {b b' : Box} {k k' a a' l l' : ℕ} → b ≡ b' → k ≡ k' → a ≡ a' → l ≡ l' → place_text p b k a l ≡ place_text p b' k' a' l'
 place_of p {b' = b'} {k' = k'} {a = a} {l = l} e f g h = ap₂ (λ (x : Box) (y : ℕ). place_text p x y a l) e f ∙ ap₂ (λ (x y : ℕ). place_text p b' k' x y) g h
-
-pub count-start : (m : ℕ) (xs : List ℕ) (i : ℕ) → length xs ≤ i → 0 ≡ count_of m (drop i xs)
-count-start m xs i h = sym (count-end m (drop i xs) (drop_of_length-le xs h))

@@ -12,13 +12,13 @@ fn letter(d: u8) -> u8
     ensures { result ≡ Base64.letter d }
 {
     if d < 26 {
-        return 65 + d;
+        return b'A' + d;
     }
     if d < 52 {
-        return 71 + d;
+        return b'a' + (d - 26);
     }
     if d < 62 {
-        return d - 4;
+        return b'0' + (d - 52);
     }
     if d == 62 {
         return b'+';

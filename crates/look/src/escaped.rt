@@ -9,19 +9,7 @@ use listing_text::put::put_byte;
 fn is_mark(b: u8) -> bool
     ensures { result ≡ is_mark b }
 {
-    if b == b'&' {
-        return true;
-    }
-    if b == b'<' {
-        return true;
-    }
-    if b == b'>' {
-        return true;
-    }
-    if b == b'"' {
-        return true;
-    }
-    b == b'\''
+    matches!(b, b'&' | b'<' | b'>' | b'"' | b'\'')
 }
 
 // A byte by its number, as `&#38;`.
@@ -48,10 +36,8 @@ pub(crate) fn put_escaped(out: &mut [u8], at: usize, name: &[u8]) -> usize
     ensures { Puts out.old at (escaped name.now) result out.new }
 {
     let mut p = at;
-    let mut i = 0;
-    while i < name.len() {
-        p = put_escaped_byte(out, p, name[i]);
-        i += 1;
+    for b in name {
+        p = put_escaped_byte(out, p, *b);
     }
     p
 }

@@ -15,7 +15,7 @@ pub(crate) fn one(b: bool) -> usize
     ensures value { result ≡ Phrases.one b }
     ensures upper_bound { result ≤ 1 }
 {
-    if b { 1 } else { 0 }
+    usize::from(b)
 }
 
 // The ledger's numbers, the name of the form, and the head of the table. 0, here and below, where `out` has no room for 24,576 bytes
@@ -52,7 +52,7 @@ fn licence(quota: i32) -> u64
     ensures { result ≡ licence quota }
 {
     let empty = Ledger {
-        quota: quota,
+        quota,
         heads: 0,
         pages: 0,
         looked: 0,
@@ -66,7 +66,7 @@ fn licence(quota: i32) -> u64
 pub(crate) fn larger(a: u64, b: u64) -> u64
     ensures { result ≡ Pieces.larger a b }
 {
-    if a < b { b } else { a }
+    a.max(b)
 }
 
 // The head of the plot, or its end, by the books behind all pages.
@@ -93,5 +93,5 @@ pub fn put_bar(out: &mut [u8], v: Verdict, b: Ledger) -> usize
 pub(crate) fn less(a: u64, b: u64) -> u64
     ensures { result ≡ a - b }
 {
-    if a < b { 0 } else { a - b }
+    a.saturating_sub(b)
 }

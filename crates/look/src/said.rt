@@ -31,10 +31,7 @@ pub(crate) fn put_said(out: &mut [u8], k: usize, numbers: &[u64]) -> usize
 pub(crate) fn has_room(out: usize, name: usize) -> bool
     ensures { result ≡ room_for name out }
 {
-    if out < PIECE_ROOM {
-        return false;
-    }
-    name <= (out - PIECE_ROOM) / 6
+    PIECE_ROOM <= out && name <= (out - PIECE_ROOM) / 6
 }
 
 pub(crate) fn tell(out: &mut [u8], k: usize, numbers: &[u64]) -> usize

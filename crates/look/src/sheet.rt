@@ -12,15 +12,7 @@ use ledger::Verdict;
 fn count_of(mark: u8, marks: &[u8]) -> u64
     ensures { result ≡ count_of mark marks.now }
 {
-    let mut n: u64 = 0;
-    let mut i = marks.len();
-    while 0 < i {
-        i -= 1;
-        if marks[i] == mark {
-            n += 1;
-        }
-    }
-    n
+    marks.iter().filter(|m| **m == mark).count() as u64
 }
 
 // What was read: columns, rows, and those that were cut and recovered.
@@ -48,19 +40,13 @@ pub fn put_read(out: &mut [u8], columns: u32, marks: &[u8]) -> usize
 fn apart(a: u32, b: u32) -> u64
     ensures { result ≡ Pieces.apart a b }
 {
-    if a < b {
-        return (b - a) as u64;
-    }
-    (a - b) as u64
+    u64::from(a.abs_diff(b))
 }
 
 fn is_there(across: u64, down: u64) -> bool
     ensures { result ≡ is_there across down }
 {
-    if across != 0 {
-        return false;
-    }
-    down == 0
+    across == 0 && down == 0
 }
 
 fn found_at(leftward: bool, across: u64, upward: bool, down: u64) -> usize

@@ -7,26 +7,17 @@ use Prim.Native.Nat.{◌-◌, ◌+◌, ◌≤◌}
 use mathlib.Core.Path.{◌≡◌}
 use Rattle.look.proofs.escaped.put_escaped.Goals as goal
 
-pub loop-i-init : goal.loop-i-init
-loop-i-init c = (owes-all c.requires, omega arith)
-
-pub bounds-name-i : goal.bounds-name-i
-bounds-name-i c = omega arith
+pub loop-b-init : goal.loop-b-init
+loop-b-init c = (owes-all c.requires, omega arith)
 
 pub put_escaped_byte-p-requires : goal.put_escaped_byte-p-requires
-put_escaped_byte-p-requires c = owes-room c.loop-i.invariant.0 _ _ (escaped-split _ _ c.loop-i-test.true)
+put_escaped_byte-p-requires c = owes-room c.loop-b.invariant.0 _ _ (escaped-split _ _ c.loop-b-test.true)
 
-pub overflow_add-i : goal.overflow_add-i
-overflow_add-i c = omega arith
-
-pub loop-i-smaller : goal.loop-i-smaller
-loop-i-smaller c = omega arith
-
-pub loop-i-preserved : goal.loop-i-preserved
-loop-i-preserved c = (owes-some c.loop-i.invariant.0 _ _ (escaped-split _ _ c.loop-i-test.true) c.put_escaped_byte-p.ensures, omega arith)
+pub loop-b-preserved : goal.loop-b-preserved
+loop-b-preserved c = (owes-some c.loop-b.invariant.0 _ _ (escaped-split _ _ c.loop-b-test.true) c.put_escaped_byte-p.ensures, omega arith)
 
 pub shape_of-out : goal.shape_of-out
-shape_of-out c = c.loop-i.invariant.0.size
+shape_of-out c = c.loop-b.invariant.0.size
 
 pub returns : goal.returns
-returns c = owes-none c.loop-i.invariant.0 (escaped-none _ (drop_of_length-le _ c.loop-i-test.false))
+returns c = owes-none c.loop-b.invariant.0 (escaped-none _ (drop_of_length-le _ c.loop-b-test.false))

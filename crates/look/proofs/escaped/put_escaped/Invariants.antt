@@ -6,8 +6,5 @@ use Prim.Native.Nat.{◌-◌, ◌+◌, ◌≤◌}
 use mathlib.Core.Path.{◌≡◌}
 use Rattle.look.proofs.escaped.put_escaped.Given as goal
 
-abbrev pub invariant-loop-i : goal.invariant-loop-i
-invariant-loop-i l = Owes l.at (escaped l.name) l.initial.out l.p (escaped (drop l.i l.name)) l.out × (l.i ≤ length l.name)
-
-abbrev pub decreases-loop-i : goal.decreases-loop-i
-decreases-loop-i l = length l.name - l.i
+abbrev pub invariant-loop-b : goal.invariant-loop-b
+invariant-loop-b l = Owes l.at (escaped l.name) l.initial.out l.p (escaped (drop l.b-index l.name)) l.out × (l.b-index ≤ length l.name)
