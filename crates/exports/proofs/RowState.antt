@@ -36,13 +36,6 @@ from_place xs i (suc n) h = drop-cons xs i 0 (omega arith) ∙ ap (λ (l : List 
 ten : (xs : List ℕ) → length xs ≡ 10 → xs ≡ entries_from xs 0 10
 ten xs h = from_place xs 0 10 h
 
--- stored one after the other they are all there is
-pub stored : (xs vs : List ℕ) → length xs ≡ length vs → sets xs 0 vs ≡ vs
-stored xs vs h =
-    sets-eq vs xs 0 (omega arith)
-    ∙ ap (λ (l : List ℕ). vs ++ l) (drop_of_length-le xs {i = 0 + length vs} (omega arith))
-    ∙ append-nil vs
-
 -- ---- Which numbers a state has
 
 side-few : (s : Side) → side_number s ≤ 1
@@ -66,9 +59,6 @@ no-side xs h st e = omega (arith, side-few st.side, ap (λ (l : List ℕ). get_o
 
 pub no_flag : (xs : List ℕ) → 1 < get_or xs 5 0 → (st : RowState) → numbers_of st ≡ xs → ⊥
 no_flag xs h st e = omega (arith, flag-few st.eols, ap (λ (l : List ℕ). get_or l 5 0) e)
-
-pub no_end : (xs : List ℕ) → ((e : End) → end_numbers e ≡ ended_numbers (get_or xs 6 0) (get_or xs 7 0) (get_or xs 8 0) (get_or xs 9 0) → ⊥) → (st : RowState) → numbers_of st ≡ xs → ⊥
-no_end xs h st e = h st.end (ap (λ (l : List ℕ). ended_numbers (get_or l 6 0) (get_or l 7 0) (get_or l 8 0) (get_or l 9 0)) e)
 
 pub has-state : (xs : List ℕ) → length xs ≡ 10 → get_or xs 5 0 ≤ 1 → (side : Side) → side_number side ≡ get_or xs 0 0
     → (end : End) → end_numbers end ≡ ended_numbers (get_or xs 6 0) (get_or xs 7 0) (get_or xs 8 0) (get_or xs 9 0)

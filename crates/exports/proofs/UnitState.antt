@@ -3,7 +3,7 @@ use mathlib.Core.Path.{◌≡◌, refl, sym, ap, ◌∙◌, subst}
 use mathlib.Core.Logic.{inl, inr}
 use mathlib.Core.Bool.{Bool, true, false, cond, ◌&&◌, true≢false}
 use mathlib.Core.List.{List, [], ◌∷◌}
-use Prim.Native.Nat.{ℕ, zero, ◌≤◌, ◌<◌}
+use Prim.Native.Nat.{ℕ, ◌≤◌, ◌<◌}
 use native.Mathlib.Omega.{arith}
 use lib.Dec.{eqb, leb}
 use lib.ListN.{length, get_or}
@@ -12,10 +12,8 @@ use Rattle.rules.specs.InSteps.{says_only}
 use Rattle.rules.proofs.Bits.{both_true}
 use Rattle.settings.specs.declared.DecodeSettings.{DecodeSettings}
 use Rattle.by_unit.specs.declared.Phase.{Phase}
-use Rattle.by_unit.specs.declared.Phase.TheVariants as Phase
 use Rattle.by_unit.specs.declared.Saved.{Saved}
 use Rattle.by_unit.specs.declared.PageEnd.{PageEnd}
-use Rattle.by_unit.specs.declared.PageEnd.TheVariants as PageEnd
 use Rattle.by_unit.specs.declared.EndCounts.{EndCounts}
 use Rattle.by_unit.specs.declared.Reading.{Reading}
 use Rattle.by_unit.specs.declared.Reading.TheVariants.{Open, Ended}
@@ -127,9 +125,6 @@ module _ (xs : List ℕ) where
     ended-zeros a b c d h f = only-ended λ e n q.
         let (h1, h2, h3, h4) = h e n in
         true≢false (sym (and-true (eq-eqb _ _ (sym (ap (λ (l : List ℕ). get_or l a 0) q) ∙ h1)) (and-true (eq-eqb _ _ (sym (ap (λ (l : List ℕ). get_or l b 0) q) ∙ h2)) (and-true (eq-eqb _ _ (sym (ap (λ (l : List ℕ). get_or l c 0) q) ∙ h3)) (eq-eqb _ _ (sym (ap (λ (l : List ℕ). get_or l d 0) q) ∙ h4))))) ∙ f)
-
-    pub ended-no-end : ((e : PageEnd) → end_numbers e ≡ Row.ended_numbers (get_or xs 12 0) (get_or xs 15 0) (get_or xs 14 0) (get_or xs 6 0) → ⊥) → (r : Reading) → Wordy r → numbers_of r ≡ xs → ⊥
-    ended-no-end h = only-ended λ e n q. h e (ap (λ (l : List ℕ). Row.ended_numbers (get_or l 12 0) (get_or l 15 0) (get_or l 14 0) (get_or l 6 0)) q)
 
     module _ (long : length xs ≡ 16) (p : (eqb (get_or xs 0 0) 0 && (eqb (get_or xs 1 0) 0 && (eqb (get_or xs 2 0) 0 && eqb (get_or xs 4 0) 0))) ≡ true)
         (q : (eqb (get_or xs 5 0) 0 && (eqb (get_or xs 7 0) 0 && (eqb (get_or xs 8 0) 0 && eqb (get_or xs 9 0) 0))) ≡ true) (r : (eqb (get_or xs 10 0) 0 && (eqb (get_or xs 11 0) 0 && (eqb 0 0 && eqb 0 0))) ≡ true)

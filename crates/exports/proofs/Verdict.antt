@@ -1,16 +1,15 @@
 -- The verdict for C, by the encoding's number. Assumes nothing.
 use mathlib.Core.Path.{◌≡◌, refl, subst}
-use mathlib.Core.Bool.{Bool, true, false}
+use mathlib.Core.Bool.{Bool, false}
 use mathlib.Core.List.{List}
 use Prim.Native.Nat.{ℕ, ◌≤◌, ◌<◌}
-use lib.Dec.{leb}
 use borrow.Author.Tests.{le-leb, lt-leb}
 use Rattle.settings.specs.declared.EncodingMode.{EncodingMode}
 use Rattle.booking.specs.Booked.{Given, given, Finds}
 use Rattle.ledger.specs.declared.Verdict.{Verdict}
 use Rattle.exports.specs.Exports.{settings_for}
 use Rattle.exports.specs.RowState.{mode_of}
-use Rattle.exports.specs.Verdict.{no_encoding, Unread, FindsForC}
+use Rattle.exports.specs.Verdict.{no_encoding, FindsForC}
 
 module _ (encoding : ℕ) (text src : List ℕ) (how columns rows : ℕ) (block line aligned plain : Bool) (boxes places changes ends marks : List ℕ) where
   abbrev asked : EncodingMode → Given

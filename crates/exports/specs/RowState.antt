@@ -1,6 +1,6 @@
 -- The row form's state as the ten numbers that C lends: which array holds the row that was given last, and how many changes it has there; the next bit, the rows and
 -- their entries, whether EOLs are expected, and the end. All are zero at a page's start.
-use Rattle.std.specs.Prelude.{◌≡◌, ◌⊎◌, Bool, true, false, cond, List, [], ◌∷◌, ℕ, ◌≤◌, eqb, ltb, length}
+use Rattle.std.specs.Prelude.{◌≡◌, ◌⊎◌, Bool, true, false, cond, List, [], ◌∷◌, ℕ, ◌≤◌, eqb, ltb, length, Option, Some, None}
 use Rattle.rules.specs.Pages.{most_bytes, is_too_wide}
 use Rattle.rules.specs.InSteps.{says_only}
 use Rattle.answer.specs.declared.Answer.{Answer}
@@ -14,10 +14,6 @@ use Rattle.by_row.specs.declared.End.TheVariants.{Unended, Done, InvalidCode, Un
 use Rattle.by_row.specs.declared.RowState.{RowState}
 use Rattle.by_row.specs.declared.RowStep.{RowStep}
 use Rattle.by_row.specs.ByRow.{answer_of, ReadsRow}
-use Rattle.exports.specs.declared.row_state.EndIn.{EndIn}
-use Rattle.exports.specs.declared.row_state.EndIn.TheVariants as EndIn
-use Rattle.exports.specs.declared.row_state.StateIn.{StateIn}
-use Rattle.exports.specs.declared.row_state.StateIn.TheVariants as StateIn
 use Rattle.exports.specs.declared.row_state.EndNumbers.{EndNumbers}
 
 -- ---- The numbers
@@ -63,13 +59,13 @@ Same m n false = m ≡ n → ⊥
 
 -- Numbers are told to be those of a state, or those that none has. So an end that no page has is none: a number off the list, or one with a count that 01 never
 -- gives it, as 0 with a place or 1 with bytes.
-abbrev pub EndTold : ℕ → ℕ → ℕ → ℕ → EndIn → Type 0
-EndTold number place bytes loose (EndIn.End e) = end_numbers e ≡ ended_numbers number place bytes loose
-EndTold number place bytes loose EndIn.NoEnd = (e : End) → end_numbers e ≡ ended_numbers number place bytes loose → ⊥
+abbrev pub EndTold : ℕ → ℕ → ℕ → ℕ → Option End → Type 0
+EndTold number place bytes loose (Some e) = end_numbers e ≡ ended_numbers number place bytes loose
+EndTold number place bytes loose None = (e : End) → end_numbers e ≡ ended_numbers number place bytes loose → ⊥
 
-abbrev pub StateTold : List ℕ → StateIn → Type 0
-StateTold numbers (StateIn.State st) = numbers_of st ≡ numbers
-StateTold numbers StateIn.NoState = (st : RowState) → numbers_of st ≡ numbers → ⊥
+abbrev pub StateTold : List ℕ → Option RowState → Type 0
+StateTold numbers (Some st) = numbers_of st ≡ numbers
+StateTold numbers None = (st : RowState) → numbers_of st ≡ numbers → ⊥
 
 -- ---- The call
 

@@ -2,14 +2,12 @@
 -- and second run), the next bit, the EOLs before the next line, the rows kept, the line's position, colour, changes and cut flag, the run's sum and its first bit, the
 -- mode code's bit, whether the first run moved nothing, and four zeros. Of one that has ended: its rows and loose entries at their places, and in the place of the four
 -- zeros one more than the number it ended with, its entries, bytes and place; the others are zero. All are zero at a page's start.
-use Rattle.std.specs.Prelude.{◌≡◌, ◌⊎◌, cond, List, [], ◌∷◌, ℕ, ◌+◌, ◌≤◌, eqb, length}
+use Rattle.std.specs.Prelude.{◌≡◌, ◌⊎◌, cond, List, [], ◌∷◌, ℕ, ◌+◌, ◌≤◌, eqb, length, Option, Some, None}
 use Rattle.rules.specs.InSteps.{says_only}
 use Rattle.settings.specs.declared.DecodeSettings.{DecodeSettings}
 use Rattle.by_unit.specs.declared.Phase.{Phase}
-use Rattle.by_unit.specs.declared.Phase.TheVariants as Phase
 use Rattle.by_unit.specs.declared.Saved.{Saved}
 use Rattle.by_unit.specs.declared.PageEnd.{PageEnd}
-use Rattle.by_unit.specs.declared.PageEnd.TheVariants as PageEnd
 use Rattle.by_unit.specs.declared.EndCounts.{EndCounts}
 use Rattle.by_unit.specs.declared.Reading.{Reading}
 use Rattle.by_unit.specs.declared.Reading.TheVariants.{Open, Ended}
@@ -17,10 +15,6 @@ use Rattle.by_unit.specs.declared.Turn.{Turn}
 use Rattle.by_unit.specs.Standing.{answer_of}
 use Rattle.by_unit.specs.Reading.{said_of, ReadsUnits}
 use Rattle.exports.specs.declared.UnitAnswer.{UnitAnswer}
-use Rattle.exports.specs.declared.unit_state.PageEndIn.{PageEndIn}
-use Rattle.exports.specs.declared.unit_state.PageEndIn.TheVariants as PageEndIn
-use Rattle.exports.specs.declared.unit_state.ReadingIn.{ReadingIn}
-use Rattle.exports.specs.declared.unit_state.ReadingIn.TheVariants as ReadingIn
 use Rattle.exports.specs.declared.row_state.EndNumbers.{EndNumbers}
 use Rattle.exports.specs.RowState as Row
 use Rattle.exports.specs.RowState.{flag_number, unfit}
@@ -68,13 +62,13 @@ Wordy (Ended e c) = Unit {0}
 
 -- Numbers are told to be those of a reading, or those that none has. So an end that no page has is none: a number off the list, or one with a count that 01 never
 -- gives it, as 0 with a place or 1 with bytes.
-abbrev pub EndTold : ℕ → ℕ → ℕ → ℕ → PageEndIn → Type 0
-EndTold number place bytes loose (PageEndIn.End e) = end_numbers e ≡ Row.ended_numbers number place bytes loose
-EndTold number place bytes loose PageEndIn.NoEnd = (e : PageEnd) → end_numbers e ≡ Row.ended_numbers number place bytes loose → ⊥
+abbrev pub EndTold : ℕ → ℕ → ℕ → ℕ → Option PageEnd → Type 0
+EndTold number place bytes loose (Some e) = end_numbers e ≡ Row.ended_numbers number place bytes loose
+EndTold number place bytes loose None = (e : PageEnd) → end_numbers e ≡ Row.ended_numbers number place bytes loose → ⊥
 
-abbrev pub ReadingTold : List ℕ → ReadingIn → Type 0
-ReadingTold numbers (ReadingIn.Held r) = Wordy r × (numbers_of r ≡ numbers)
-ReadingTold numbers ReadingIn.NoReading = (r : Reading) → Wordy r → numbers_of r ≡ numbers → ⊥
+abbrev pub ReadingTold : List ℕ → Option Reading → Type 0
+ReadingTold numbers (Some r) = Wordy r × (numbers_of r ≡ numbers)
+ReadingTold numbers None = (r : Reading) → Wordy r → numbers_of r ≡ numbers → ⊥
 
 -- ---- The call
 

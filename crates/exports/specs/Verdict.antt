@@ -1,5 +1,5 @@
 -- The verdict on a faxed form, for C: an encoding off the list of three is refused with 10, and leaves every array as it was.
-use Rattle.std.specs.Prelude.{◌≡◌, Bool, true, false, List, ℕ, leb}
+use Rattle.std.specs.Prelude.{◌≡◌, true, false, List, ℕ, leb}
 use Rattle.rules.specs.Answers.{bad_number}
 use Rattle.booking.specs.Booked.{Given, Finds}
 use Rattle.ledger.specs.declared.Verdict.{Verdict}

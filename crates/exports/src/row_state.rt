@@ -5,20 +5,6 @@ ghost use Rattle.exports.specs.RowState.{end_from, numbers_of, Same, EndTold, St
 
 use by_row::{End, RowState, Side};
 
-// The end that numbers are, or that no end has them.
-#[derive(Clone, Copy)]
-enum EndIn {
-    End(End),
-    NoEnd,
-}
-
-// The state that numbers are, or that no state has them.
-#[derive(Clone, Copy)]
-pub(crate) enum StateIn {
-    State(RowState),
-    NoState,
-}
-
 // An end's numbers: 0 while the page goes on, and else one more than the number it ended with; its place, bytes and loose entries.
 #[derive(Clone, Copy)]
 pub(crate) struct EndNumbers {
@@ -42,19 +28,7 @@ pub(crate) fn ended(number: u64, place: u64, bytes: u64, loose: u64) -> EndNumbe
 pub(crate) fn are_same(own: EndNumbers, number: u64, place: u64, bytes: u64, loose: u64) -> bool
     ensures { Same own (ended_numbers number place bytes loose) result }
 {
-    if own.number != number {
-        return false;
-    }
-    if own.place != place {
-        return false;
-    }
-    if own.bytes != bytes {
-        return false;
-    }
-    if own.loose != loose {
-        return false;
-    }
-    true
+    own.number == number && own.place == place && own.bytes == bytes && own.loose == loose
 }
 
 fn end_numbers(end: End) -> EndNumbers
@@ -86,16 +60,16 @@ fn end_from(number: u64, place: u64, bytes: u64, loose: u64) -> End
     }
 }
 
-// They are an end's if that end has them: a number off the list, or one with a count that it never has, is none.
-fn end_in(number: u64, place: u64, bytes: u64, loose: u64) -> EndIn
+// The end that numbers are, if that end has them: a number off the list, or one with a count that it never has, is none.
+fn end_in(number: u64, place: u64, bytes: u64, loose: u64) -> Option<End>
     ensures { EndTold number place bytes loose result }
 {
     let end = end_from(number, place, bytes, loose);
     let own = end_numbers(end);
     if !are_same(own, number, place, bytes, loose) {
-        return EndIn::NoEnd;
+        return None;
     }
-    EndIn::End(end)
+    Some(end)
 }
 
 fn side_in(number: u64) -> Side
@@ -108,30 +82,29 @@ fn side_in(number: u64) -> Side
     Side::First
 }
 
-pub(crate) fn state_in(state: &[u64]) -> StateIn
+// The state that numbers are, where a state has them.
+pub(crate) fn state_in(state: &[u64]) -> Option<RowState>
     ensures { StateTold state.now result }
 {
     if state.len() != 10 {
-        return StateIn::NoState;
+        return None;
     }
     if 1 < state[0] {
-        return StateIn::NoState;
+        return None;
     }
     if 1 < state[5] {
-        return StateIn::NoState;
+        return None;
     }
-    match end_in(state[6], state[7], state[8], state[9]) {
-        EndIn::NoEnd => StateIn::NoState,
-        EndIn::End(end) => StateIn::State(RowState {
-            at: state[2] as usize,
-            rows: state[3] as usize,
-            entries: state[4] as usize,
-            eols: state[5] == 1,
-            side: side_in(state[0]),
-            held: state[1] as usize,
-            end,
-        }),
-    }
+    let end = end_in(state[6], state[7], state[8], state[9])?;
+    Some(RowState {
+        at: state[2] as usize,
+        rows: state[3] as usize,
+        entries: state[4] as usize,
+        eols: state[5] == 1,
+        side: side_in(state[0]),
+        held: state[1] as usize,
+        end,
+    })
 }
 
 fn side_number(side: Side) -> u64
@@ -143,27 +116,21 @@ fn side_number(side: Side) -> u64
     }
 }
 
-fn flag_number(flag: bool) -> u64
-    ensures { result ≡ flag_number flag }
-{
-    if flag { 1 } else { 0 }
-}
-
 pub(crate) fn put(state: &mut [u64], left: RowState)
     requires { length state.old ≡ 10 }
     ensures { state.new ≡ numbers_of left }
 {
-    let side = left.side;
-    let end = left.end;
-    let last = end_numbers(end);
-    state[0] = side_number(side);
-    state[1] = left.held as u64;
-    state[2] = left.at as u64;
-    state[3] = left.rows as u64;
-    state[4] = left.entries as u64;
-    state[5] = flag_number(left.eols);
-    state[6] = last.number;
-    state[7] = last.place;
-    state[8] = last.bytes;
-    state[9] = last.loose;
+    let last = end_numbers(left.end);
+    state.copy_from_slice(&[
+        side_number(left.side),
+        left.held as u64,
+        left.at as u64,
+        left.rows as u64,
+        left.entries as u64,
+        u64::from(left.eols),
+        last.number,
+        last.place,
+        last.bytes,
+        last.loose,
+    ]);
 }

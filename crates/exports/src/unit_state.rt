@@ -12,47 +12,22 @@ use by_unit::{EndCounts, PageEnd, Phase, Reading, Saved};
 // What 32 bits hold.
 const MOST_WORD: u64 = answer::MOST_PIXELS as u64;
 
-// The reading that numbers are, or that none has them.
-#[derive(Clone, Copy)]
-pub(crate) enum ReadingIn {
-    Held(Reading),
-    NoReading,
-}
-
 fn zeros(a: u64, b: u64, c: u64, d: u64) -> bool
     ensures { result ≡ eqb a 0 && (eqb b 0 && (eqb c 0 && eqb d 0)) }
 {
-    if a != 0 {
-        return false;
-    }
-    if b != 0 {
-        return false;
-    }
-    if c != 0 {
-        return false;
-    }
-    d == 0
+    a == 0 && b == 0 && c == 0 && d == 0
 }
 
 fn flags(a: u64, b: u64, c: u64) -> bool
     ensures { result ≡ leb a 1 && (leb b 1 && leb c 1) }
 {
-    if 1 < a {
-        return false;
-    }
-    if 1 < b {
-        return false;
-    }
-    c <= 1
+    a <= 1 && b <= 1 && c <= 1
 }
 
 fn words(a: u64, b: u64) -> bool
     ensures { result ≡ leb a 4294967295 && leb b 4294967295 }
 {
-    if MOST_WORD < a {
-        return false;
-    }
-    b <= MOST_WORD
+    a <= MOST_WORD && b <= MOST_WORD
 }
 
 fn phase_in(number: u64) -> Phase
@@ -68,24 +43,24 @@ fn phase_in(number: u64) -> Phase
 }
 
 // An open page's: the numbers of an end are zero.
-fn open_in(state: &[u64]) -> ReadingIn
+fn open_in(state: &[u64]) -> Option<Reading>
     requires { (length state.now ≡ 16) × (get_or state.now 12 0 ≡ 0) }
     ensures { ReadingTold state.now result }
 {
     if !zeros(state[13], state[14], state[15], 0) {
-        return ReadingIn::NoReading;
+        return None;
     }
     if !flags(state[5], state[7], state[11]) {
-        return ReadingIn::NoReading;
+        return None;
     }
     if !words(state[4], state[8]) {
-        return ReadingIn::NoReading;
+        return None;
     }
     if 3 < state[0] {
-        return ReadingIn::NoReading;
+        return None;
     }
     let phase = phase_in(state[0]);
-    ReadingIn::Held(Reading::Open(Saved {
+    Some(Reading::Open(Saved {
         phase,
         at: state[1] as usize,
         eols: state[2] as usize,
@@ -99,13 +74,6 @@ fn open_in(state: &[u64]) -> ReadingIn
         mode_at: state[10] as usize,
         blank: state[11] == 1,
     }))
-}
-
-// The end that numbers are, or that no end has them.
-#[derive(Clone, Copy)]
-enum PageEndIn {
-    End(PageEnd),
-    NoEnd,
 }
 
 fn end_numbers(end: PageEnd) -> EndNumbers
@@ -137,49 +105,46 @@ fn end_from(number: u64, place: u64, bytes: u64, loose: u64) -> PageEnd
     }
 }
 
-// They are an end's if that end has them: a number off the list, or one with a count that it never has, is none.
-fn end_in(number: u64, place: u64, bytes: u64, loose: u64) -> PageEndIn
+// The end that numbers are, if that end has them: a number off the list, or one with a count that it never has, is none.
+fn end_in(number: u64, place: u64, bytes: u64, loose: u64) -> Option<PageEnd>
     ensures { EndTold number place bytes loose result }
 {
     let end = end_from(number, place, bytes, loose);
     let own = end_numbers(end);
     if !row_state::are_same(own, number, place, bytes, loose) {
-        return PageEndIn::NoEnd;
+        return None;
     }
-    PageEndIn::End(end)
+    Some(end)
 }
 
 // An ended page's: what is open about one is zero.
-fn ended_in(state: &[u64]) -> ReadingIn
+fn ended_in(state: &[u64]) -> Option<Reading>
     requires { (length state.now ≡ 16) × (get_or state.now 12 0 ≡ 0 → ⊥) }
     ensures { ReadingTold state.now result }
 {
     if !zeros(state[0], state[1], state[2], state[4]) {
-        return ReadingIn::NoReading;
+        return None;
     }
     if !zeros(state[5], state[7], state[8], state[9]) {
-        return ReadingIn::NoReading;
+        return None;
     }
     if !zeros(state[10], state[11], 0, 0) {
-        return ReadingIn::NoReading;
+        return None;
     }
-    match end_in(state[12], state[15], state[14], state[6]) {
-        PageEndIn::NoEnd => ReadingIn::NoReading,
-        PageEndIn::End(end) => {
-            let counts = EndCounts {
-                rows: state[3],
-                entries: state[13],
-            };
-            ReadingIn::Held(Reading::Ended(end, counts))
-        }
-    }
+    let end = end_in(state[12], state[15], state[14], state[6])?;
+    let counts = EndCounts {
+        rows: state[3],
+        entries: state[13],
+    };
+    Some(Reading::Ended(end, counts))
 }
 
-pub(crate) fn reading_in(state: &[u64]) -> ReadingIn
+// The reading that numbers are, where one has them.
+pub(crate) fn reading_in(state: &[u64]) -> Option<Reading>
     ensures { ReadingTold state.now result }
 {
     if state.len() != 16 {
-        return ReadingIn::NoReading;
+        return None;
     }
     if state[12] == 0 {
         return open_in(state);
@@ -198,33 +163,28 @@ fn phase_number(phase: Phase) -> u64
     }
 }
 
-fn flag_number(flag: bool) -> u64
-    ensures { result ≡ flag_number flag }
-{
-    if flag { 1 } else { 0 }
-}
-
 fn put_open(state: &mut [u64], saved: Saved)
     requires { length state.old ≡ 16 }
     ensures { state.new ≡ open_numbers saved }
 {
-    let phase = saved.phase;
-    state[0] = phase_number(phase);
-    state[1] = saved.at as u64;
-    state[2] = saved.eols as u64;
-    state[3] = saved.rows as u64;
-    state[4] = saved.position as u64;
-    state[5] = flag_number(saved.black);
-    state[6] = saved.loose as u64;
-    state[7] = flag_number(saved.cut);
-    state[8] = saved.run as u64;
-    state[9] = saved.run_at as u64;
-    state[10] = saved.mode_at as u64;
-    state[11] = flag_number(saved.blank);
-    state[12] = 0;
-    state[13] = 0;
-    state[14] = 0;
-    state[15] = 0;
+    state.copy_from_slice(&[
+        phase_number(saved.phase),
+        saved.at as u64,
+        saved.eols as u64,
+        saved.rows as u64,
+        u64::from(saved.position),
+        u64::from(saved.black),
+        saved.loose as u64,
+        u64::from(saved.cut),
+        u64::from(saved.run),
+        saved.run_at as u64,
+        saved.mode_at as u64,
+        u64::from(saved.blank),
+        0,
+        0,
+        0,
+        0,
+    ]);
 }
 
 fn put_ended(state: &mut [u64], end: PageEnd, counts: EndCounts)
@@ -232,22 +192,24 @@ fn put_ended(state: &mut [u64], end: PageEnd, counts: EndCounts)
     ensures { state.new ≡ ended_numbers end counts }
 {
     let last = end_numbers(end);
-    state[0] = 0;
-    state[1] = 0;
-    state[2] = 0;
-    state[3] = counts.rows;
-    state[4] = 0;
-    state[5] = 0;
-    state[6] = last.loose;
-    state[7] = 0;
-    state[8] = 0;
-    state[9] = 0;
-    state[10] = 0;
-    state[11] = 0;
-    state[12] = last.number;
-    state[13] = counts.entries;
-    state[14] = last.bytes;
-    state[15] = last.place;
+    state.copy_from_slice(&[
+        0,
+        0,
+        0,
+        counts.rows,
+        0,
+        0,
+        last.loose,
+        0,
+        0,
+        0,
+        0,
+        0,
+        last.number,
+        counts.entries,
+        last.bytes,
+        last.place,
+    ]);
 }
 
 pub(crate) fn put(state: &mut [u64], reading: Reading)

@@ -13,21 +13,21 @@ pub returns-then-not-has_ended : goal.returns-then-not-has_ended
 returns-then-not-has_ended c =
     let a = c.args in
     no-encoding a.src.now (settings_for a.columns a.rows a.end_of_block a.end_of_line a.rows_are_byte_aligned (mode_of a.encoding) a.strict a.exact a.plain) a.encoding a.state.now a.first.now a.second.now
-    c.in-State.held (subst (StateTold a.state.now) c.in-State.is c.state_in.ensures) c.if-encoding-gt2.true (subst (Ended c.in-State.held) (not-true c.has_ended.result c.if-not-has_ended.true-raw) c.has_ended.ensures) _ c.refused-then-not-has_ended.ensures
+    c.in-Some.held (subst (StateTold a.state.now) c.in-Some.is c.state_in.ensures) c.if-encoding-gt2.true (subst (Ended c.in-Some.held) (not-true c.has_ended.result c.if-not-has_ended.true-raw) c.has_ended.ensures) _ c.refused-then-not-has_ended.ensures
 
 pub put-requires : goal.put-requires
-put-requires c = sym (ap length (subst (StateTold c.args.state.now) c.in-State.is c.state_in.ensures))
+put-requires c = sym (ap length (subst (StateTold c.args.state.now) c.in-Some.is c.state_in.ensures))
 
-pub returns-in-NoState : goal.returns-in-NoState
-returns-in-NoState c =
+pub returns-in-None : goal.returns-in-None
+returns-in-None c =
     let a = c.args in
     no-state a.src.now (settings_for a.columns a.rows a.end_of_block a.end_of_line a.rows_are_byte_aligned (mode_of a.encoding) a.strict a.exact a.plain) a.encoding a.state.now a.first.now a.second.now
-    (subst (StateTold a.state.now) c.in-NoState.is c.state_in.ensures) _ c.refused.ensures
+    (subst (StateTold a.state.now) c.in-None.is c.state_in.ensures) _ c.refused.ensures
 
 pub returns-after-encoding-gt2 : goal.returns-after-encoding-gt2
 returns-after-encoding-gt2 c =
     let a = c.args in
     called a.src.now (settings_for a.columns a.rows a.end_of_block a.end_of_line a.rows_are_byte_aligned (mode_of a.encoding) a.strict a.exact a.plain) a.encoding a.state.now a.first.now a.second.now
-    c.in-State.held (subst (StateTold a.state.now) c.in-State.is c.state_in.ensures)
-    (elim c.if-encoding-gt2.branch [ then-encoding-gt2+else-not-has_ended w ↦ inr (subst (Ended c.in-State.held) (not-false w.has_ended.result w.if-not-has_ended.false-raw) w.has_ended.ensures) | else-encoding-gt2 w ↦ inl w.if-encoding-gt2.false ])
+    c.in-Some.held (subst (StateTold a.state.now) c.in-Some.is c.state_in.ensures)
+    (elim c.if-encoding-gt2.branch [ then-encoding-gt2+else-not-has_ended w ↦ inr (subst (Ended c.in-Some.held) (not-false w.has_ended.result w.if-not-has_ended.false-raw) w.has_ended.ensures) | else-encoding-gt2 w ↦ inl w.if-encoding-gt2.false ])
     c.read_row-step.result _ _ (rw c.mode.ensures at c.read_row-step.ensures) _ c.put.ensures

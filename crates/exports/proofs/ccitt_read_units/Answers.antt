@@ -10,17 +10,17 @@ use Rattle.exports.proofs.ccitt_read_units.Goals as goal
 
 pub put-requires : goal.put-requires
 put-requires c =
-    sym (ap length (subst (ReadingTold c.args.state.now) c.in-Held.is c.reading_in.ensures).1) ∙ sixteen c.in-Held.reading
+    sym (ap length (subst (ReadingTold c.args.state.now) c.in-Some.is c.reading_in.ensures).1) ∙ sixteen c.in-Some.reading
 
-pub returns-in-NoReading : goal.returns-in-NoReading
-returns-in-NoReading c =
+pub returns-in-None : goal.returns-in-None
+returns-in-None c =
     let a = c.args in
     no-reading a.src.now (settings_for a.columns a.rows a.end_of_block false a.rows_are_byte_aligned Group4 a.strict a.exact a.plain) a.changes.now a.ends.now a.marks.now a.state.now a.n
-    (subst (ReadingTold a.state.now) c.in-NoReading.is c.reading_in.ensures) _ c.no_reading.ensures.0 c.no_reading.ensures.1
+    (subst (ReadingTold a.state.now) c.in-None.is c.reading_in.ensures) _ c.no_reading.ensures.0 c.no_reading.ensures.1
 
-pub returns-in-Held : goal.returns-in-Held
-returns-in-Held c =
+pub returns-in-Some : goal.returns-in-Some
+returns-in-Some c =
     let a = c.args in
-    let told = subst (ReadingTold a.state.now) c.in-Held.is c.reading_in.ensures in
+    let told = subst (ReadingTold a.state.now) c.in-Some.is c.reading_in.ensures in
     called a.src.now (settings_for a.columns a.rows a.end_of_block false a.rows_are_byte_aligned Group4 a.strict a.exact a.plain) a.changes.now a.ends.now a.marks.now a.state.now a.n
-    c.in-Held.reading told.0 told.1 c.read_units-turn.result _ _ _ c.read_units-turn.ensures _ c.put.ensures
+    c.in-Some.reading told.0 told.1 c.read_units-turn.result _ _ _ c.read_units-turn.ensures _ c.put.ensures
