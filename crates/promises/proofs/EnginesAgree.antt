@@ -3,6 +3,7 @@ use mathlib.Core.Path.{◌≡◌, refl, sym, ap, ◌∙◌}
 use mathlib.Core.Bool.{Bool, false}
 use mathlib.Core.List.{List}
 use mathlib.Core.Option.{Option, none, some}
+use Rattle.std.specs.Prelude.{Result}
 use Prim.Native.Nat.{ℕ, ◌+◌, ◌≤◌}
 use native.Mathlib.Omega.{arith}
 use lib.ListN.{length, drop, length-drop}
@@ -17,7 +18,8 @@ use Rattle.rules.proofs.Lookup.{lookup-valid}
 use Rattle.rules.proofs.Plain.{plain-is-lookup}
 use Rattle.answer.specs.Answer.{number_of}
 use Rattle.codes.specs.Plain.{found_of}
-use Rattle.codes.specs.declared.plain.Found.{Found}
+use Rattle.codes.specs.declared.plain.Code as Found
+use Rattle.codes.specs.declared.plain.LostCode.{LostCode}
 use Rattle.promises.specs.EnginesAgree.{BothAt, CodesAgree, RunsAgree, FailingCodesAgree, by_engine, PagesAgree}
 use Rattle.promises.specs.Places.{CodeFails, no_code, cut_code, cut_short, passes}
 use Rattle.promises.proofs.Pinned.{decode-pinned}
@@ -27,7 +29,7 @@ use Rattle.promises.proofs.Places.{run-faults}
 -- ---- One code
 
 -- what either engine says is what the rule of the lookup says
-module _ {colour : Colour} {bytes : List ℕ} {at : ℕ} {r s : Found} (t : BothAt colour bytes at r s) where
+module _ {colour : Colour} {bytes : List ℕ} {at : ℕ} {r s : Result Found.Code LostCode} (t : BothAt colour bytes at r s) where
   plainly : found_of r ≡ by_lookup colour (drop at (bits_of bytes))
   plainly = t.compared ∙ plain-is-lookup colour (drop at (bits_of bytes))
 
@@ -66,8 +68,8 @@ fails_by colour bs sum place n (cut_short {size} e h) k = (
 fails_by colour bs sum place n (passes e h j) k = absurd (k refl)
 
 pub failing-codes-agree : FailingCodesAgree
-failing-codes-agree colour bytes at e place g k r s t =
-    let (taken, q) = fails_by colour (bits_of bytes) _ place (number_of e) (run-faults colour bytes at _ g (number_of e) place refl).fails k in
+failing-codes-agree colour bytes at e g k r s t =
+    let (taken, q) = fails_by colour (bits_of bytes) _ e.at (number_of e.error) (run-faults colour bytes at _ g (number_of e.error) e.at refl).fails k in
     (taken, plainly t ∙ q, t.looked_up ∙ q)
 
 -- ---- A page

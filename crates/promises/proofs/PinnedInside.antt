@@ -2,7 +2,8 @@
 use mathlib.Core.Path.{◌≡◌, refl, sym, ◌∙◌, ap}
 use mathlib.Core.Bool.{Bool, true, false}
 use mathlib.Core.List.{List}
-use mathlib.Core.Option.{Option, none, some}
+use mathlib.Core.Option as Numbered
+use Rattle.std.specs.Prelude.{Option, Some, None, Result, Ok, Err}
 use Prim.Native.Nat.{ℕ, zero, suc, ◌+◌, ◌*◌, ◌<◌}
 use native.Mathlib.Omega.{arith}
 use lib.Dec.{ltb}
@@ -20,22 +21,17 @@ use Rattle.answer.specs.declared.DecodeError.{DecodeError}
 use Rattle.answer.specs.declared.DecodeError.TheVariants.{UnexpectedEof, InvalidCode, Overflow}
 use Rattle.bit_reader.specs.Loaded.{Loaded, LoadedAt}
 use Rattle.bit_reader.specs.declared.buffer.Buffer.{Buffer}
-use Rattle.bit_reader.specs.declared.buffer.Fed.TheVariants.{On, End}
 use Rattle.codes.specs.Eols.{eols_of, skip_of}
 use Rattle.codes.specs.Modes.{mode_of}
 use Rattle.codes.specs.Plain.{found_of}
 use Rattle.codes.specs.Runs.{run_of, code_of, LoadedAfter}
-use Rattle.codes.specs.declared.eol.Skip.{Skip}
-use Rattle.codes.specs.declared.eol.Skip.TheVariants.{To, Nowhere}
+use Rattle.codes.specs.declared.fault.Fault.{Fault}
 use Rattle.codes.specs.declared.mode.Mode.{Mode}
-use Rattle.codes.specs.declared.mode.Mode.TheVariants as Code
 use Rattle.codes.specs.declared.mode.Mode.TheVariants.{Pass, Horizontal, Vertical}
-use Rattle.codes.specs.declared.plain.Found.{Found}
-use Rattle.codes.specs.declared.plain.Found.TheVariants as Found
+use Rattle.codes.specs.declared.plain.Code.{Code}
+use Rattle.codes.specs.declared.plain.LostCode.{LostCode}
 use Rattle.codes.specs.declared.run.RunCode.{RunCode}
 use Rattle.codes.specs.declared.run.RunCode.TheVariants as OfRun
-use Rattle.codes.specs.declared.run.Run.{Run}
-use Rattle.codes.specs.declared.run.Run.TheVariants.{Length, Bad}
 use Rattle.context.specs.Places.{B1At}
 use Rattle.one_line.specs.declared.one_code.OneCode.TheVariants.{Runs, Did}
 use Rattle.promises.specs.PinnedInside as Pinned
@@ -71,10 +67,10 @@ not_behind : {A : Type 0} (bytes : List ℕ) (at next : ℕ) (b : Buffer) → Lo
 not_behind bytes at next b g e h = absurd (omega arith)
 
 pub feed-pinned : Pinned.FeedPinned
-feed-pinned bytes b c n (On x) (On y) e g h = alike bytes x y g.loaded h.loaded (g.place ∙ ap (λ (at : ℕ). at + n) e ∙ sym h.place)
-feed-pinned bytes b c n (On x) End e g h = not_behind bytes (b.at + n) (c.at + n) x g (ap (λ (at : ℕ). at + n) e) h
-feed-pinned bytes b c n End (On y) e g h = not_behind bytes (c.at + n) (b.at + n) y h (ap (λ (at : ℕ). at + n) (sym e)) g
-feed-pinned bytes b c n End End e g h = tt
+feed-pinned bytes b c n (Some x) (Some y) e g h = alike bytes x y g.loaded h.loaded (g.place ∙ ap (λ (at : ℕ). at + n) e ∙ sym h.place)
+feed-pinned bytes b c n (Some x) None e g h = not_behind bytes (b.at + n) (c.at + n) x g (ap (λ (at : ℕ). at + n) e) h
+feed-pinned bytes b c n None (Some y) e g h = not_behind bytes (c.at + n) (b.at + n) y h (ap (λ (at : ℕ). at + n) (sym e)) g
+feed-pinned bytes b c n None None e g h = tt
 
 -- ---- codes
 
@@ -90,12 +86,16 @@ error-back InvalidCode = refl
 error-back UnexpectedEof = refl
 error-back Overflow = refl
 
-runs-alike : (bytes : List ℕ) (r s : Run) → LoadedAfter bytes r → LoadedAfter bytes s → run_of r ≡ run_of s → AlikeRuns r s
-runs-alike bytes (Length n b) (Length m c) l k e = let q : sum b.at n ≡ sum c.at m = cc in (ap (λ (t : Sum). t.total) q, alike bytes b c l k (ap (λ (t : Sum). t.at) q))
-runs-alike bytes (Length n b) (Bad f place) l k e = let z : ◌≡◌ {A = ℕ} 0 1 = cc in omega arith
-runs-alike bytes (Bad f place) (Length m c) l k e = let z : ◌≡◌ {A = ℕ} 0 1 = cc in omega arith
-runs-alike bytes (Bad f place) (Bad g other) l k e =
-    let q : number_of f ≡ number_of g = cc in (sym (error-back f) ∙ ap error_from q ∙ error-back g, cc)
+-- the answer with an error at a bit
+abbrev faulted : {A : Type 0} → ℕ → DecodeError → Result A Fault
+faulted place e = Err (record { error = e; at = place })
+
+runs-alike : (bytes : List ℕ) (r s : Result (ℕ × Buffer) Fault) → LoadedAfter bytes r → LoadedAfter bytes s → run_of r ≡ run_of s → AlikeRuns r s
+runs-alike bytes (Ok (n, b)) (Ok (m, c)) l k e = let q : sum b.at n ≡ sum c.at m = cc in (ap (λ (t : Sum). t.total) q, alike bytes b c l k (ap (λ (t : Sum). t.at) q))
+runs-alike bytes (Ok (n, b)) (Err f) l k e = let z : ◌≡◌ {A = ℕ} 0 1 = cc in omega arith
+runs-alike bytes (Err f) (Ok (m, c)) l k e = let z : ◌≡◌ {A = ℕ} 0 1 = cc in omega arith
+runs-alike bytes (Err f) (Err g) l k e =
+    let q : number_of f.error ≡ number_of g.error = cc in (sym (error-back f.error) ∙ ap error_from q ∙ error-back g.error, cc)
 
 pub read-run-pinned : Pinned.ReadRunPinned
 read-run-pinned colour bytes b c r s e g h = runs-alike bytes r s g.loaded h.loaded (g.same ∙ ap (read_run colour (bits_of bytes)) e ∙ sym h.same)
@@ -106,13 +106,16 @@ read-run-plain-pinned colour bytes at r s g h = runs-alike bytes r s g.loaded h.
 pub front-run-pinned : Pinned.FrontRunPinned
 front-run-pinned table first bits = settled (λ r g. g.is)
 
-abbrev found_from : Plain.Found → Found
-found_from (Plain.found run taken) = Found.Code run taken
-found_from (Plain.lost n taken) = Found.Lost (error_from n) taken
+abbrev lost_by : ℕ → DecodeError → Result Code LostCode
+lost_by taken e = Err (record { error = e; taken = taken })
 
-found_back : (r : Found) → found_from (found_of r) ≡ r
-found_back (Found.Code run taken) = refl
-found_back (Found.Lost e taken) = ap (λ (e : DecodeError). Found.Lost e taken) (error-back e)
+abbrev found_from : Plain.Found → Result Code LostCode
+found_from (Plain.found run taken) = Ok (record { run = run; taken = taken })
+found_from (Plain.lost n taken) = lost_by taken (error_from n)
+
+found_back : (r : Result Code LostCode) → found_from (found_of r) ≡ r
+found_back (Ok c) = refl
+found_back (Err l) = ap (lost_by l.taken) (error-back l.error)
 
 pub read-code-pinned : Pinned.ReadCodePinned
 read-code-pinned colour bytes at = settled-by found_of found_from found_back _
@@ -120,37 +123,37 @@ read-code-pinned colour bytes at = settled-by found_of found_from found_back _
 pub look-up-pinned : Pinned.LookUpPinned
 look-up-pinned colour bytes at = settled-by found_of found_from found_back _
 
-abbrev code_from : Out Sum (Res Sum) → RunCode
-code_from (more s) = OfRun.More s.total s.at
-code_from (done (ok s)) = OfRun.Last s.total s.at
-code_from (done (fault n place)) = OfRun.Bad (error_from n) place
+abbrev code_from : Out Sum (Res Sum) → Result RunCode Fault
+code_from (more s) = Ok (OfRun.More s.total s.at)
+code_from (done (ok s)) = Ok (OfRun.Last s.total s.at)
+code_from (done (fault n place)) = faulted place (error_from n)
 
-code-back : (r : RunCode) → code_from (code_of r) ≡ r
-code-back (OfRun.Last total at) = refl
-code-back (OfRun.More total at) = refl
-code-back (OfRun.Bad e place) = ap (λ (e : DecodeError). OfRun.Bad e place) (error-back e)
+code-back : (r : Result RunCode Fault) → code_from (code_of r) ≡ r
+code-back (Ok (OfRun.Last total at)) = refl
+code-back (Ok (OfRun.More total at)) = refl
+code-back (Err e) = ap (faulted e.at) (error-back e.error)
 
 pub one-run-code-pinned : Pinned.OneRunCodePinned
 one-run-code-pinned colour bytes at total = settled-by code_of code_from code-back _
 
--- the answer that has a mode as its meaning; none has 0 to the left
-abbrev mode_stands : ℕ → Rule.Mode → Mode
-mode_stands next pass = Pass next
-mode_stands next horizontal = Horizontal next
-mode_stands next (VR k) = Vertical (pos k) next
-mode_stands next (VL zero) = Pass next
-mode_stands next (VL (suc k)) = Vertical (negsuc k) next
+-- the mode that has one of the rules as its meaning; none has 0 to the left
+abbrev mode_stands : Rule.Mode → Mode
+mode_stands pass = Pass
+mode_stands horizontal = Horizontal
+mode_stands (VR k) = Vertical (pos k)
+mode_stands (VL zero) = Pass
+mode_stands (VL (suc k)) = Vertical (negsuc k)
 
-abbrev mode_from : Res Moded → Mode
-mode_from (ok m) = mode_stands m.at m.mode
-mode_from (fault n place) = Code.Bad (error_from n) place
+abbrev mode_from : Res Moded → Result (Mode × ℕ) Fault
+mode_from (ok m) = Ok (mode_stands m.mode, m.at)
+mode_from (fault n place) = faulted place (error_from n)
 
-mode-back : (r : Mode) → mode_from (mode_of r) ≡ r
-mode-back (Pass next) = refl
-mode-back (Horizontal next) = refl
-mode-back (Vertical (pos k) next) = refl
-mode-back (Vertical (negsuc k) next) = refl
-mode-back (Code.Bad e place) = ap (λ (e : DecodeError). Code.Bad e place) (error-back e)
+mode-back : (r : Result (Mode × ℕ) Fault) → mode_from (mode_of r) ≡ r
+mode-back (Ok (Pass, next)) = refl
+mode-back (Ok (Horizontal, next)) = refl
+mode-back (Ok (Vertical (pos k), next)) = refl
+mode-back (Ok (Vertical (negsuc k), next)) = refl
+mode-back (Err e) = ap (faulted e.at) (error-back e.error)
 
 pub read-mode-pinned : Pinned.ReadModePinned
 read-mode-pinned bytes at = settled-by mode_of mode_from mode-back _
@@ -158,13 +161,13 @@ read-mode-pinned bytes at = settled-by mode_of mode_from mode-back _
 pub read-eols-pinned : Pinned.ReadEolsPinned
 read-eols-pinned bytes from most = settled-by eols_of (λ e. record { count = e.count; at = e.at }) (λ r. refl) _
 
-abbrev skip_from : Option ℕ → Skip
-skip_from (some at) = To at
-skip_from none = Nowhere
+abbrev skip_from : Numbered.Option ℕ → Option ℕ
+skip_from (Numbered.some at) = Some at
+skip_from Numbered.none = None
 
-skip-back : (r : Skip) → skip_from (skip_of r) ≡ r
-skip-back (To at) = refl
-skip-back Nowhere = refl
+skip-back : (r : Option ℕ) → skip_from (skip_of r) ≡ r
+skip-back (Some at) = refl
+skip-back None = refl
 
 pub skip-to-eol-pinned : Pinned.SkipToEolPinned
 skip-to-eol-pinned bytes from = settled-by skip_of skip_from skip-back _

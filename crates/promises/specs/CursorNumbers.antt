@@ -1,37 +1,33 @@
--- "For an answer that is an enum, a definition gives this paper's number and values for each of its cases" (01): those of the bit reader, `Moved`, which `consume`
--- answers, and `Fed`, which `feed` answers; the public reader's `TakenBits` has its own (`number_of`). "Consuming past it moves to the end and answers 2."
-use Rattle.std.specs.Prelude.{◌≡◌, ◌⊎◌, ◌↔◌, List, ℕ, ◌+◌, ◌*◌, ◌≤◌, ◌<◌, min, length}
+-- "For an answer that is an enum, a definition gives this paper's number and values for each of its cases" (01): those of the bit reader, the Options that `consume`
+-- and `feed` answer; the public reader's `TakenBits` has its own (`number_of`). "Consuming past it moves to the end and answers 2."
+use Rattle.std.specs.Prelude.{◌≡◌, ◌⊎◌, ◌↔◌, List, ℕ, ◌+◌, ◌*◌, ◌≤◌, ◌<◌, min, length, Option, Some, None}
 use Rattle.rules.specs.Answers.{complete, unexpected_eof, too_long}
 use Rattle.rules.specs.Pages.{most_bytes}
 use Rattle.bit_reader.specs.Cursor.{moved_by}
 use Rattle.bit_reader.specs.Loaded.{fed_at}
-use Rattle.bit_reader.specs.declared.Moved.{Moved}
-use Rattle.bit_reader.specs.declared.Moved.TheVariants as Moved
 use Rattle.bit_reader.specs.declared.buffer.Buffer.{Buffer}
-use Rattle.bit_reader.specs.declared.buffer.Fed.{Fed}
-use Rattle.bit_reader.specs.declared.buffer.Fed.TheVariants as Fed
 use Rattle.reader.specs.Read.{number_of, went_by}
 use Rattle.reader.specs.declared.cursor.Went.{Went}
 
 -- ---- The numbers, and the bit at which the reader then stands
 
 -- 2: `UnexpectedEof`
-abbrev pub moved_number : Moved → ℕ
-moved_number (Moved.To at) = complete
-moved_number Moved.End = unexpected_eof
+abbrev pub moved_number : Option ℕ → ℕ
+moved_number (Some at) = complete
+moved_number None = unexpected_eof
 
 -- in data of `len` bytes
-abbrev pub moved_bit : ℕ → Moved → ℕ
-moved_bit len (Moved.To at) = at
-moved_bit len Moved.End = 8 * len
+abbrev pub moved_bit : ℕ → Option ℕ → ℕ
+moved_bit len (Some at) = at
+moved_bit len None = 8 * len
 
-abbrev pub fed_number : Fed → ℕ
-fed_number (Fed.On b) = complete
-fed_number Fed.End = unexpected_eof
+abbrev pub fed_number : Option Buffer → ℕ
+fed_number (Some b) = complete
+fed_number None = unexpected_eof
 
-abbrev pub fed_bit : List ℕ → Fed → ℕ
-fed_bit bytes (Fed.On b) = b.at
-fed_bit bytes Fed.End = 8 * length bytes
+abbrev pub fed_bit : List ℕ → Option Buffer → ℕ
+fed_bit bytes (Some b) = b.at
+fed_bit bytes None = 8 * length bytes
 
 -- ---- What they answer
 
@@ -43,11 +39,11 @@ pub record Moves (bits to number bit : ℕ) : Type 0 where
 
 -- consume, from a bit, n bits on in data of `len` bytes
 abbrev pub ConsumeNumbers : Type 0
-ConsumeNumbers = (len at n : ℕ) (r : Moved) → r ≡ moved_by len at n → Moves (8 * len) (at + n) (moved_number r) (moved_bit len r)
+ConsumeNumbers = (len at n : ℕ) (r : Option ℕ) → r ≡ moved_by len at n → Moves (8 * len) (at + n) (moved_number r) (moved_bit len r)
 
 -- feed, from a buffer, n bits on
 abbrev pub FeedNumbers : Type 0
-FeedNumbers = (bytes : List ℕ) (b : Buffer) (n : ℕ) (r : Fed) → fed_at bytes (b.at + n) r → Moves (8 * length bytes) (b.at + n) (fed_number r) (fed_bit bytes r)
+FeedNumbers = (bytes : List ℕ) (b : Buffer) (n : ℕ) (r : Option Buffer) → fed_at bytes (b.at + n) r → Moves (8 * length bytes) (b.at + n) (fed_number r) (fed_bit bytes r)
 
 -- The public reader's `consume`, which is `cursor::take` from where it stands: the same in data that is not too long; in data that is, 7, and it stays.
 abbrev pub TakeNumbers : Type 0

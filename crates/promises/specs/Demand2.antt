@@ -1,5 +1,5 @@
 -- Demand 2: the codes, the modes and the changing elements that are read and written are those of the standard.
-use Rattle.std.specs.Prelude.{◌≡◌, Bool, List, ◌++◌, ℕ, ◌+◌, ◌≤◌, length, drop}
+use Rattle.std.specs.Prelude.{◌≡◌, Bool, List, ◌++◌, ℕ, ◌+◌, ◌≤◌, length, drop, Result}
 use Rattle.rules.specs.Answers.{most_pixels}
 use Rattle.rules.specs.Bits.{bits_of}
 use Rattle.rules.specs.Codes.{Colour, black, Code}
@@ -10,7 +10,8 @@ use Rattle.rules.specs.Lines.{head_or, tail, b1, b2}
 use Rattle.rules.specs.Pixels.{A0, on, pixels_of, right_of, a1_on, a2_on, b1_on, b2_on, a0_at}
 use Rattle.rules.specs.Rising.{Rising}
 use Rattle.codes.specs.Runs.{run_of, RunRead}
-use Rattle.codes.specs.declared.run.Run.{Run}
+use Rattle.bit_reader.specs.declared.buffer.Buffer.{Buffer}
+use Rattle.codes.specs.declared.fault.Fault.{Fault}
 use Rattle.codes.specs.Modes.{mode_of}
 use Rattle.codes.specs.declared.mode.Mode.{Mode}
 use Rattle.context.specs.Reference.{Finds}
@@ -20,7 +21,7 @@ use Rattle.context.specs.declared.reference.FoundChanges.{FoundChanges}
 -- bit more is taken; and where a run is read, such codes make it
 abbrev pub RunsAreTheStandards : Type 0
 RunsAreTheStandards =
-    (colour : Colour) (bytes : List ℕ) (at : ℕ) (r : Run) → RunRead colour bytes at r
+    (colour : Colour) (bytes : List ℕ) (at : ℕ) (r : Result (ℕ × Buffer) Fault) → RunRead colour bytes at r
     → ((n : ℕ) (cs : List Code) (rest : List Bool) → Made colour n cs → drop at (bits_of bytes) ≡ codes_bits cs ++ rest → n ≤ most_pixels
     → run_of r ≡ ok (sum (at + length (codes_bits cs)) n))
     × ((end n : ℕ) → run_of r ≡ ok (sum end n) → (cs : List Code) × Made colour n cs × (drop at (bits_of bytes) ≡ codes_bits cs ++ drop end (bits_of bytes)))
@@ -28,7 +29,7 @@ RunsAreTheStandards =
 -- what `read_mode` answers is the standard's table (T.4 table 4), of which its contract speaks, and 01's count of leading zeros alike
 abbrev pub ModesAreTheStandards : Type 0
 ModesAreTheStandards =
-    (bytes : List ℕ) (at : ℕ) (r : Mode) → mode_of r ≡ read_mode (bits_of bytes) at
+    (bytes : List ℕ) (at : ℕ) (r : Result (Mode × ℕ) Fault) → mode_of r ≡ read_mode (bits_of bytes) at
     → mode_of r ≡ mode_take (length (bits_of bytes)) at (mode_by_zeros (drop at (bits_of bytes)))
 
 -- what the reader's search finds on a list of changes is what T.4 4.2.1.1 says of the reference line's pixels

@@ -1,6 +1,6 @@
 -- Pinning the answers down, of the functions that `decode`, `read_line` and the writers are made of, crate by crate. Where a contract leaves a part of its answer open
 -- (what a buffer holds far ahead, from where the next search starts), the statement has the rest; docs/PROMISES.md says why. Equations are pinned by EquationsPinned.
-use Rattle.std.specs.Prelude.{◌≡◌, Bool, List, ℕ, ◌+◌, drop}
+use Rattle.std.specs.Prelude.{◌≡◌, Bool, List, ℕ, ◌+◌, drop, Option, Some, None, Result, Ok, Err}
 use Rattle.rules.specs.Bits.{bits_of}
 use Rattle.rules.specs.Codes as Rule
 use Rattle.rules.specs.Codes.{Colour}
@@ -16,20 +16,17 @@ use Rattle.tables.specs.declared.Code.{Code}
 use Rattle.bit_reader.specs.Cursor.{Thirteen}
 use Rattle.bit_reader.specs.Loaded.{Ahead, Loaded, LoadedAt, fed_at, Top}
 use Rattle.bit_reader.specs.declared.buffer.Buffer.{Buffer}
-use Rattle.bit_reader.specs.declared.buffer.Fed.{Fed}
-use Rattle.bit_reader.specs.declared.buffer.Fed.TheVariants.{On, End}
 use Rattle.codes.specs.Eols.{eols_of, skip_of}
 use Rattle.codes.specs.Fronts.{Fronted}
 use Rattle.codes.specs.Modes.{mode_of}
 use Rattle.codes.specs.Plain.{found_of}
 use Rattle.codes.specs.Runs.{RunRead, code_of}
 use Rattle.codes.specs.declared.eol.Eols.{Eols}
-use Rattle.codes.specs.declared.eol.Skip.{Skip}
+use Rattle.codes.specs.declared.fault.Fault.{Fault}
 use Rattle.codes.specs.declared.mode.Mode.{Mode}
-use Rattle.codes.specs.declared.plain.Found.{Found}
+use Rattle.codes.specs.declared.plain.Code as Found
+use Rattle.codes.specs.declared.plain.LostCode.{LostCode}
 use Rattle.codes.specs.declared.run.RunCode.{RunCode}
-use Rattle.codes.specs.declared.run.Run.{Run}
-use Rattle.codes.specs.declared.run.Run.TheVariants.{Length, Bad}
 use Rattle.context.specs.State.{Pushes}
 use Rattle.context.specs.Outcome.{Steps}
 use Rattle.context.specs.Places.{B1At}
@@ -70,16 +67,16 @@ abbrev pub LoadPinned : Type 0
 LoadPinned = (bytes : List ℕ) (at : ℕ) (b c : Buffer) → LoadedAt bytes at b → LoadedAt bytes at c → Alike b c
 
 -- both go on alike, or both say the end
-abbrev pub AlikeFed : Fed → Fed → Type 0
-AlikeFed (On b) (On c) = Alike b c
-AlikeFed (On b) End = ⊥
-AlikeFed End (On c) = ⊥
-AlikeFed End End = Unit {0}
+abbrev pub AlikeFed : Option Buffer → Option Buffer → Type 0
+AlikeFed (Some b) (Some c) = Alike b c
+AlikeFed (Some b) None = ⊥
+AlikeFed None (Some c) = ⊥
+AlikeFed None None = Unit {0}
 
 -- feed, from any two buffers at one bit: what differs in alike buffers is never seen
 abbrev pub FeedPinned : Type 0
 FeedPinned =
-    (bytes : List ℕ) (b c : Buffer) (n : ℕ) (r s : Fed) → b.at ≡ c.at
+    (bytes : List ℕ) (b c : Buffer) (n : ℕ) (r s : Option Buffer) → b.at ≡ c.at
     → fed_at bytes (b.at + n) r
     → fed_at bytes (c.at + n) s
     → AlikeFed r s
@@ -87,16 +84,16 @@ FeedPinned =
 -- ---- codes
 
 -- one run, with alike buffers behind it; or one error at one place
-abbrev pub AlikeRuns : Run → Run → Type 0
-AlikeRuns (Length n b) (Length m c) = (n ≡ m) × Alike b c
-AlikeRuns (Length n b) (Bad e place) = ⊥
-AlikeRuns (Bad e place) (Length m c) = ⊥
-AlikeRuns (Bad e place) (Bad f other) = (e ≡ f) × (place ≡ other)
+abbrev pub AlikeRuns : Result (ℕ × Buffer) Fault → Result (ℕ × Buffer) Fault → Type 0
+AlikeRuns (Ok r) (Ok s) = (r.0 ≡ s.0) × Alike r.1 s.1
+AlikeRuns (Ok r) (Err f) = ⊥
+AlikeRuns (Err e) (Ok s) = ⊥
+AlikeRuns (Err e) (Err f) = (e.error ≡ f.error) × (e.at ≡ f.at)
 
 -- read_run, from any two buffers at one bit
 abbrev pub ReadRunPinned : Type 0
 ReadRunPinned =
-    (colour : Colour) (bytes : List ℕ) (b c : Buffer) (r s : Run) → b.at ≡ c.at
+    (colour : Colour) (bytes : List ℕ) (b c : Buffer) (r s : Result (ℕ × Buffer) Fault) → b.at ≡ c.at
     → RunRead colour bytes b.at r
     → RunRead colour bytes c.at s
     → AlikeRuns r s
@@ -107,34 +104,34 @@ FrontRunPinned = (table : List ℕ) (first bits : ℕ) → OneAnswer (Fronted ta
 
 -- plain::read_code: the run, or the error, and how many bits were taken
 abbrev pub ReadCodePinned : Type 0
-ReadCodePinned = (colour : Colour) (bytes : List ℕ) (at : ℕ) → OneAnswer (λ (r : Found). found_of r ≡ plain colour (drop at (bits_of bytes)))
+ReadCodePinned = (colour : Colour) (bytes : List ℕ) (at : ℕ) → OneAnswer (λ (r : Result Found.Code LostCode). found_of r ≡ plain colour (drop at (bits_of bytes)))
 
 -- run::look_up: the same
 abbrev pub LookUpPinned : Type 0
-LookUpPinned = (colour : Colour) (bytes : List ℕ) (at : ℕ) → OneAnswer (λ (r : Found). found_of r ≡ by_lookup colour (drop at (bits_of bytes)))
+LookUpPinned = (colour : Colour) (bytes : List ℕ) (at : ℕ) → OneAnswer (λ (r : Result Found.Code LostCode). found_of r ≡ by_lookup colour (drop at (bits_of bytes)))
 
 -- plain::read_run, from a bit
 abbrev pub ReadRunPlainPinned : Type 0
 ReadRunPlainPinned =
-    (colour : Colour) (bytes : List ℕ) (at : ℕ) (r s : Run)
+    (colour : Colour) (bytes : List ℕ) (at : ℕ) (r s : Result (ℕ × Buffer) Fault)
     → RunRead colour bytes at r
     → RunRead colour bytes at s
     → AlikeRuns r s
 
 -- run::read_code, plain::next_code and once::run_code: one code of a run, from a bit, with the sum so far
 abbrev pub OneRunCodePinned : Type 0
-OneRunCodePinned = (colour : Colour) (bytes : List ℕ) (at total : ℕ) → OneAnswer (λ (r : RunCode). code_of r ≡ run_step colour (bits_of bytes) (sum at total))
+OneRunCodePinned = (colour : Colour) (bytes : List ℕ) (at total : ℕ) → OneAnswer (λ (r : Result RunCode Fault). code_of r ≡ run_step colour (bits_of bytes) (sum at total))
 
--- read_mode and mode_at
+-- read_mode, alone too
 abbrev pub ReadModePinned : Type 0
-ReadModePinned = (bytes : List ℕ) (at : ℕ) → OneAnswer (λ (r : Mode). mode_of r ≡ read_mode (bits_of bytes) at)
+ReadModePinned = (bytes : List ℕ) (at : ℕ) → OneAnswer (λ (r : Result (Mode × ℕ) Fault). mode_of r ≡ read_mode (bits_of bytes) at)
 
 -- read_eols; and read_all_eols, whose most is the count of bits
 abbrev pub ReadEolsPinned : Type 0
 ReadEolsPinned = (bytes : List ℕ) (from most : ℕ) → OneAnswer (λ (r : Eols). eols_of r ≡ read_eols most (bits_of bytes) from)
 
 abbrev pub SkipToEolPinned : Type 0
-SkipToEolPinned = (bytes : List ℕ) (from : ℕ) → OneAnswer (λ (r : Skip). skip_of r ≡ skip_to_eol (bits_of bytes) from)
+SkipToEolPinned = (bytes : List ℕ) (from : ℕ) → OneAnswer (λ (r : Option ℕ). skip_of r ≡ skip_to_eol (bits_of bytes) from)
 
 -- ---- context
 

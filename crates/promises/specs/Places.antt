@@ -1,6 +1,6 @@
 -- A7, "Where the fault was". For 1, 2 and 3 an answer names the bit at which the failing code began; "for other answers it is 0". Which bit that is stands here
 -- clause by clause, for the run reader, the mode reader, the line form and the page form, whatever their contracts permit.
-use Rattle.std.specs.Prelude.{◌≡◌, Bool, true, false, List, [], ◌∷◌, ◌++◌, ℕ, suc, ◌+◌, ◌-◌, ◌*◌, ◌≤◌, ◌<◌, eqb, length, drop}
+use Rattle.std.specs.Prelude.{◌≡◌, Bool, true, false, List, [], ◌∷◌, ◌++◌, ℕ, suc, ◌+◌, ◌-◌, ◌*◌, ◌≤◌, ◌<◌, eqb, length, drop, Result}
 use Rattle.rules.specs.Answers.{complete, invalid_code, unexpected_eof, overflow, most_pixels}
 use Rattle.rules.specs.Machine.{more, run}
 use Rattle.rules.specs.Bits.{bits_of, window, front_bit}
@@ -19,7 +19,8 @@ use Rattle.rules.specs.Eols.{EolAt}
 use Rattle.rules.specs.Counts.{Vertical}
 use Rattle.answer.specs.declared.Answer.{Answer}
 use Rattle.codes.specs.Runs.{run_of, RunRead}
-use Rattle.codes.specs.declared.run.Run.{Run}
+use Rattle.bit_reader.specs.declared.buffer.Buffer.{Buffer}
+use Rattle.codes.specs.declared.fault.Fault.{Fault}
 use Rattle.codes.specs.Modes.{mode_of}
 use Rattle.codes.specs.declared.mode.Mode.{Mode}
 use Rattle.settings.specs.declared.DecodeSettings.{DecodeSettings}
@@ -83,7 +84,7 @@ pub record RunFault (colour : Colour) (bs : List Bool) (at n place : ℕ) : Type
 
 abbrev pub RunFaults : Type 0
 RunFaults =
-    (colour : Colour) (bytes : List ℕ) (at : ℕ) (r : Run) → RunRead colour bytes at r
+    (colour : Colour) (bytes : List ℕ) (at : ℕ) (r : Result (ℕ × Buffer) Fault) → RunRead colour bytes at r
     → (n place : ℕ) → run_of r ≡ fault n place
     → RunFault colour (bits_of bytes) at n place
 
@@ -96,7 +97,7 @@ pub data ModeFault (bs : List Bool) (at : ℕ) : ℕ → Type 0 where
 
 abbrev pub ModeFaults : Type 0
 ModeFaults =
-    (bytes : List ℕ) (at : ℕ) (r : Mode) → mode_of r ≡ read_mode (bits_of bytes) at
+    (bytes : List ℕ) (at : ℕ) (r : Result (Mode × ℕ) Fault) → mode_of r ≡ read_mode (bits_of bytes) at
     → (n place : ℕ) → mode_of r ≡ fault n place
     → (place ≡ at) × ModeFault (bits_of bytes) at n
 

@@ -5,8 +5,6 @@ ghost use Rattle.rules.specs.Rows.{bytes_to};
 ghost use Rattle.bit_reader.specs.Cursor.{Thirteen, Taking, moved_by, most_bits};
 ghost use Rattle.bit_reader.specs.Loaded.{Ahead};
 
-use bit_reader::Moved;
-
 pub fn bit(src: &[u8], at: usize) -> u8
     requires { at < 8 * length src.now }
     ensures { result ≡ peek 1 (drop at (bits_of src.now)) }
@@ -35,7 +33,7 @@ pub fn peek13(src: &[u8], at: usize) -> usize
     bit_reader::peek13(src, at)
 }
 
-pub fn consume(len: usize, at: usize, n: usize) -> Moved
+pub fn consume(len: usize, at: usize, n: usize) -> Option<usize>
     requires { Taking len at n }
     ensures { result ≡ moved_by len at n }
 {

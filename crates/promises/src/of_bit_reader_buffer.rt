@@ -2,7 +2,7 @@
 ghost use Rattle.std.specs.Prelude.{◌+◌};
 ghost use Rattle.bit_reader.specs.Loaded.{LoadedAt, Loading, Feeding, fed_at, Top};
 
-use bit_reader::buffer::{Buffer, Fed};
+use bit_reader::buffer::Buffer;
 
 pub fn load(src: &[u8], at: usize) -> Buffer
     requires { Loading src.now at }
@@ -11,7 +11,7 @@ pub fn load(src: &[u8], at: usize) -> Buffer
     bit_reader::buffer::load(src, at)
 }
 
-pub fn feed(src: &[u8], b: Buffer, n: usize) -> Fed
+pub fn feed(src: &[u8], b: Buffer, n: usize) -> Option<Buffer>
     requires { Feeding src.now b n }
     ensures { fed_at src.now (b.at + n) result }
 {

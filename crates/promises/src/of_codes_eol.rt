@@ -5,7 +5,7 @@ ghost use Rattle.rules.specs.Eols.{read_eols, all_eols, skip_to_eol};
 ghost use Rattle.bit_reader.specs.Loaded.{Loading};
 ghost use Rattle.codes.specs.Eols.{eols_of, skip_of};
 
-use codes::eol::{Eols, Skip};
+use codes::eol::Eols;
 
 pub fn read_eols(src: &[u8], from: usize, max: usize) -> Eols
     requires { Loading src.now from }
@@ -21,7 +21,7 @@ pub fn read_all_eols(src: &[u8], from: usize) -> Eols
     codes::eol::read_all_eols(src, from)
 }
 
-pub fn skip_to_eol(src: &[u8], from: usize) -> Skip
+pub fn skip_to_eol(src: &[u8], from: usize) -> Option<usize>
     requires { Loading src.now from }
     ensures { skip_of result ≡ skip_to_eol (bits_of src.now) from }
 {

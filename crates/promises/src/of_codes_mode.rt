@@ -5,25 +5,19 @@ ghost use Rattle.rules.specs.Modes.{read_mode};
 ghost use Rattle.bit_reader.specs.Loaded.{Loading};
 ghost use Rattle.codes.specs.Modes.{mode_of};
 
+use codes::Fault;
 use codes::mode::Mode;
 
-pub fn by_zeros(src: &[u8], at: usize, bits: u32) -> Mode
+pub fn by_zeros(src: &[u8], at: usize, bits: u32) -> Result<(Mode, usize), Fault>
     requires { (Loading src.now at) × (bits ≡ peek 32 (drop at (bits_of src.now))) }
     ensures { mode_of result ≡ read_mode (bits_of src.now) at }
 {
     codes::mode::by_zeros(src, at, bits)
 }
 
-pub fn read_mode(src: &[u8], at: usize) -> Mode
+pub fn read_mode<const ALONE: bool>(src: &[u8], at: usize) -> Result<(Mode, usize), Fault>
     requires { Loading src.now at }
     ensures { mode_of result ≡ read_mode (bits_of src.now) at }
 {
-    codes::mode::read_mode(src, at)
-}
-
-pub fn mode_at(src: &[u8], at: usize) -> Mode
-    requires { Loading src.now at }
-    ensures { mode_of result ≡ read_mode (bits_of src.now) at }
-{
-    codes::mode::mode_at(src, at)
+    codes::mode::read_mode::<ALONE>(src, at)
 }

@@ -8,24 +8,26 @@ ghost use Rattle.bit_reader.specs.Loaded.{Loading};
 ghost use Rattle.codes.specs.Plain.{found_of};
 ghost use Rattle.codes.specs.Runs.{RunRead, code_of};
 
-use codes::plain::Found;
-use codes::run::{Run, RunCode};
+use bit_reader::buffer::Buffer;
+use codes::Fault;
+use codes::plain::{Code, LostCode};
+use codes::run::RunCode;
 
-pub fn read_code(colour: usize, src: &[u8], at: usize) -> Found
+pub fn read_code<const ALONE: bool>(colour: usize, src: &[u8], at: usize) -> Result<Code, LostCode>
     requires { Loading src.now at }
     ensures { found_of result ≡ plain (colour_of colour) (drop at (bits_of src.now)) }
 {
-    codes::plain::read_code(colour, src, at)
+    codes::plain::read_code::<ALONE>(colour, src, at)
 }
 
-pub fn read_run(colour: usize, src: &[u8], start: usize) -> Run
+pub fn read_run(colour: usize, src: &[u8], start: usize) -> Result<(u32, Buffer), Fault>
     requires { Loading src.now start }
     ensures { RunRead (colour_of colour) src.now start result }
 {
     codes::plain::read_run(colour, src, start)
 }
 
-pub fn next_code(colour: usize, src: &[u8], at: usize, total: u32) -> RunCode
+pub fn next_code(colour: usize, src: &[u8], at: usize, total: u32) -> Result<RunCode, Fault>
     requires { Loading src.now at }
     ensures { code_of result ≡ run_step (colour_of colour) (bits_of src.now) (sum at total) }
 {

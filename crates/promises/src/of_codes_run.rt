@@ -9,24 +9,25 @@ ghost use Rattle.codes.specs.Plain.{found_of};
 ghost use Rattle.codes.specs.Runs.{Reading, RunRead, code_of};
 
 use bit_reader::buffer::Buffer;
-use codes::plain::Found;
-use codes::run::{Run, RunCode};
+use codes::Fault;
+use codes::plain::{Code, LostCode};
+use codes::run::RunCode;
 
-pub fn read_run(colour: usize, src: &[u8], start: Buffer) -> Run
+pub fn read_run(colour: usize, src: &[u8], start: Buffer) -> Result<(u32, Buffer), Fault>
     requires { Reading src.now start }
     ensures { RunRead (colour_of colour) src.now start.at result }
 {
     codes::run::read_run(colour, src, start)
 }
 
-pub fn read_code(colour: usize, src: &[u8], at: usize, total: u32) -> RunCode
+pub fn read_code(colour: usize, src: &[u8], at: usize, total: u32) -> Result<RunCode, Fault>
     requires { Loading src.now at }
     ensures { code_of result ≡ run_step (colour_of colour) (bits_of src.now) (sum at total) }
 {
     codes::run::read_code(colour, src, at, total)
 }
 
-pub fn look_up(colour: usize, src: &[u8], at: usize) -> Found
+pub fn look_up(colour: usize, src: &[u8], at: usize) -> Result<Code, LostCode>
     requires { Loading src.now at }
     ensures { found_of result ≡ by_lookup (colour_of colour) (drop at (bits_of src.now)) }
 {

@@ -3,9 +3,7 @@ ghost use Rattle.std.specs.Prelude.{◌≡◌};
 ghost use Rattle.codes.specs.Modes.{offset_mode};
 ghost use Rattle.context.specs.Offset.{Offset, move_by};
 
-use context::offset::Move;
-
-pub fn moved(b1: u32, offset: i64, position: u32) -> Move
+pub fn moved(b1: u32, offset: i64, position: u32) -> Option<u32>
     requires { Offset offset }
     ensures { result ≡ move_by b1 (offset_mode offset) position }
 {

@@ -3,7 +3,7 @@ ghost use Rattle.listing_text.specs.Line.{Says};
 
 use listing_text::settings_line::Parsed;
 
-pub fn parse(bytes: &[u8]) -> Parsed
+pub fn parse(bytes: &[u8]) -> Option<Parsed>
     ensures { Says bytes.now result }
 {
     listing_text::settings_line::parse(bytes)

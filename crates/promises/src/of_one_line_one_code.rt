@@ -9,6 +9,7 @@ ghost use Rattle.context.specs.State.{Holds};
 ghost use Rattle.context.specs.Coding.{unless_idle_for};
 ghost use Rattle.one_line.specs.OneCode.{OneCoding, OneCoded, RunEnded};
 
+use codes::Fault;
 use codes::run::RunCode;
 use context::line::Line;
 use context::step::{Rules, Step};
@@ -29,7 +30,13 @@ pub fn mode_code(
     one_line::one_code::mode_code(src, changes, line, at, b1, b2, rules)
 }
 
-pub fn run_code(colour: usize, src: &[u8], at: usize, total: u32, plain: bool) -> RunCode
+pub fn run_code(
+    colour: usize,
+    src: &[u8],
+    at: usize,
+    total: u32,
+    plain: bool,
+) -> Result<RunCode, Fault>
     requires { Loading src.now at }
     ensures { code_of result ≡ run_step (colour_of colour) (bits_of src.now) (sum at total) }
 {

@@ -11,7 +11,7 @@ ghost use Rattle.swift_loops.specs.Pairs.{halt_line, start_at, Ran, Filled, Pair
 ghost use Rattle.swift_loops.specs.Swift.{Noted, Walks, WalkedIn};
 
 use context::line::Line;
-use swift_loops::fast_1d::{AfterPair, BetweenRuns};
+use swift_loops::fast_1d::{BeforePair, BetweenRuns};
 use swift_loops::fast_2d::BetweenCodes;
 
 pub fn line_of(width: u32, s: BetweenRuns) -> Line
@@ -45,7 +45,7 @@ pub fn whole_run(
     at: usize,
     room: usize,
     plain: bool,
-) -> AfterPair
+) -> Option<BeforePair>
     requires { Loading src.now at × (lent ≡ true → white.now ≡ lookup_table Colour.white) }
     ensures { Filled src.now room width at result }
 {

@@ -2,7 +2,7 @@
 ghost use Rattle.bit_reader.specs.Loaded.{Loading};
 ghost use Rattle.swift_loops.specs.Pairs.{Filled};
 
-use swift_loops::fast_1d::AfterPair;
+use swift_loops::fast_1d::BeforePair;
 
 pub fn whole_run(
     white: &[u16],
@@ -11,7 +11,7 @@ pub fn whole_run(
     at: usize,
     room: usize,
     plain: bool,
-) -> AfterPair
+) -> Option<BeforePair>
     requires { Loading src.now at }
     ensures { Filled src.now room width at result }
 {
