@@ -15,7 +15,8 @@ use Rattle.ccitt.specs.Decode.{Gives}
 use Rattle.listing_text.specs.Line.{Says}
 use Rattle.listing_text.specs.Sheet.{bad_input, listing_text}
 use Rattle.listing_text.specs.Listed.{Listing, listing_of, Prints}
-use Rattle.listing_text.specs.declared.settings_line.Parsed.TheVariants.{Settings as found, Bad}
+use Rattle.listing_text.specs.declared.settings_line.Parsed.{Parsed}
+use Rattle.std.specs.Prelude.{Some, None}
 use Rattle.listing_text.proofs.Standing.{begins-once, begins-short}
 use Rattle.rules.proofs.Stored.{Holds, decode-held, rows-stored, marks-kept}
 use Rattle.listing_text.proofs.Stored.{can-list}
@@ -61,20 +62,20 @@ pub lent-rest : (input : List ℕ) (at : ℕ) → take (length input - at) (drop
 lent-rest input at = take_all (length input - at) (drop at input) (omega (arith, length-drop at input))
 
 module _ {input text : List ℕ} where
-  pub bad_line : Says input Bad → text ≡ bad_input → Answers input text
+  pub bad_line : Says input None → text ≡ bad_input → Answers input text
   bad_line f e = record { page = λ S src a. absurd (f S a.plain src a.begins); bad = λ n. e }
 
-  module _ (s : DecodeSettings) (at : ℕ) (h : Says input (found s at)) where
-    pub too_long : most_data < length (drop at input) → text ≡ bad_input → Answers input text
+  module _ (p : Parsed) (h : Says input (Some p)) where
+    pub too_long : most_data < length (drop p.at input) → text ≡ bad_input → Answers input text
     too_long l e = record {
-      page = λ S src a. absurd (omega (arith, a.few, ap length (begins-once input S (settings_of s) a.plain s.plain src (drop at input) a.begins h.0).2));
+      page = λ S src a. absurd (omega (arith, a.few, ap length (begins-once input S (settings_of p.settings) a.plain p.settings.plain src (drop p.at input) a.begins h.0).2));
       bad = λ n. e;
     }
 
-    pub a-page : length (drop at input) ≤ most_data → text ≡ page_text (settings_of s) (drop at input) → Answers input text
+    pub a-page : length (drop p.at input) ≤ most_data → text ≡ page_text (settings_of p.settings) (drop p.at input) → Answers input text
     a-page l e = record {
-      page = λ S src a. let o = begins-once input S (settings_of s) a.plain s.plain src (drop at input) a.begins h.0 in e ∙ sym (ap₂ page_text o.0 o.2);
-      bad = λ n. absurd (n (settings_of s) (drop at input) (record { plain = s.plain; begins = h.0; few = l }));
+      page = λ S src a. let o = begins-once input S (settings_of p.settings) a.plain p.settings.plain src (drop p.at input) a.begins h.0 in e ∙ sym (ap₂ page_text o.0 o.2);
+      bad = λ n. absurd (n (settings_of p.settings) (drop p.at input) (record { plain = p.settings.plain; begins = h.0; few = l }));
     }
 
 -- ---- The program reads no more of its input than it needs

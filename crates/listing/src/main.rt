@@ -6,7 +6,6 @@ ghost use Rattle.settings.specs.Settings.{settings_of};
 ghost use Rattle.listing_text.specs.Listed.{Prints};
 ghost use Rattle.listing.specs.Program.{IsPrefixLen, room, most_input, page_text, Answers, AnswersRead};
 
-use listing_text::settings_line::Parsed;
 use settings::DecodeSettings;
 use std::io;
 use std::io::Read;
@@ -28,14 +27,14 @@ fn text(input: &[u8], out: &mut [u8]) -> usize
     ensures prefix_len { IsPrefixLen result out.new }
     ensures answers { Answers input.now (take result out.new) }
 {
-    let Parsed::Settings(settings, at) = listing_text::settings_line::parse(input) else {
+    let Some(parsed) = listing_text::settings_line::parse(input) else {
         return listing_text::bad_input(out);
     };
-    let src = &input[at..];
+    let src = &input[parsed.at..];
     if src.len() > 16384 {
         return listing_text::bad_input(out);
     }
-    page(src, settings, out)
+    page(src, parsed.settings, out)
 }
 
 // What the program prints, once it has asked for as many bytes as `input` has and got the first `got` of them.

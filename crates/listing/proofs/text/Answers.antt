@@ -8,7 +8,7 @@ use Rattle.settings.specs.Settings.{settings_of}
 use Rattle.listing_text.specs.Sheet.{bad_input}
 use Rattle.listing_text.specs.Text.{ascii}
 use Rattle.listing_text.specs.Line.{Says}
-use Rattle.listing_text.specs.declared.settings_line.Parsed.TheVariants.{Settings as found}
+use Rattle.std.specs.Prelude.{Some}
 use Rattle.listing.proofs.text.Goals as goal
 
 pub bad_input-requires : goal.bad_input-requires
@@ -21,10 +21,10 @@ returns-in_default c =
     record { prefix_len = p.0; answers = bad_line (subst (Says c.args.input.now) c.in_default.is c.parse.ensures) p.1 }
 
 pub slice_bounds-src-count : goal.slice_bounds-src-count
-slice_bounds-src-count c = ((let h-said : Says c.args.input.now (found c.in-Settings.settings c.in-Settings.at) = subst (Says c.args.input.now) c.in-Settings.is c.parse.ensures in h-said)).1
+slice_bounds-src-count c = ((let h-said : Says c.args.input.now (Some c.in-Some.parsed) = subst (Says c.args.input.now) c.in-Some.is c.parse.ensures in h-said)).1
 
 pub slice_bounds-src-start : goal.slice_bounds-src-start
-slice_bounds-src-start c = omega (arith, ((let h-said : Says c.args.input.now (found c.in-Settings.settings c.in-Settings.at) = subst (Says c.args.input.now) c.in-Settings.is c.parse.ensures in h-said)).1)
+slice_bounds-src-start c = omega (arith, ((let h-said : Says c.args.input.now (Some c.in-Some.parsed) = subst (Says c.args.input.now) c.in-Some.is c.parse.ensures in h-said)).1)
 
 pub bad_input-requires-then-src-gt16384 : goal.bad_input-requires-then-src-gt16384
 unfolding bad_input ascii
@@ -32,14 +32,14 @@ bad_input-requires-then-src-gt16384 c = record { fits = omega (arith, c.requires
 
 pub returns-then-src-gt16384 : goal.returns-then-src-gt16384
 returns-then-src-gt16384 c =
-    let at = c.in-Settings.at in
+    let at = c.in-Some.parsed.at in
     let p = printed c.bad_input-then-src-gt16384.ensures in
-    record { prefix_len = p.0; answers = too_long c.in-Settings.settings at ((let h-said : Says c.args.input.now (found c.in-Settings.settings c.in-Settings.at) = subst (Says c.args.input.now) c.in-Settings.is c.parse.ensures in h-said)) (omega (arith, c.if-src-gt16384.true, length-drop at c.args.input.now)) p.1 }
+    record { prefix_len = p.0; answers = too_long c.in-Some.parsed ((let h-said : Says c.args.input.now (Some c.in-Some.parsed) = subst (Says c.args.input.now) c.in-Some.is c.parse.ensures in h-said)) (omega (arith, c.if-src-gt16384.true, length-drop at c.args.input.now)) p.1 }
 
 pub returns : goal.returns
 returns c =
     let input = c.args.input.now in
-    let s = c.in-Settings.settings in
-    let at = c.in-Settings.at in
+    let s = c.in-Some.parsed.settings in
+    let at = c.in-Some.parsed.at in
     let p = printed c.page.ensures in
-    record { prefix_len = p.0; answers = a-page s at ((let h-said : Says c.args.input.now (found c.in-Settings.settings c.in-Settings.at) = subst (Says c.args.input.now) c.in-Settings.is c.parse.ensures in h-said)) (omega (arith, c.if-src-gt16384.false, length-drop at input)) (p.1 ∙ ap (page_text (settings_of s)) (lent-rest input at)) }
+    record { prefix_len = p.0; answers = a-page c.in-Some.parsed ((let h-said : Says c.args.input.now (Some c.in-Some.parsed) = subst (Says c.args.input.now) c.in-Some.is c.parse.ensures in h-said)) (omega (arith, c.if-src-gt16384.false, length-drop at input)) (p.1 ∙ ap (page_text (settings_of s)) (lent-rest input at)) }
