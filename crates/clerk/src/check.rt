@@ -1,45 +1,20 @@
 // Whether the readings of a page agree, and how its rows were read.
+use crate::say::{Failed, Status};
 use crate::walk::Counts;
 use crate::{lines, reading, room, say, walk};
 use answer::Answer;
-use by_row::RowState;
+use by_row::RowStep;
 use ledger::Verdict;
 use proper::Checked;
 use settings::DecodeSettings;
+use std::io;
 
-// Two readings after one call each: whether they said the same and go on, or said the same and ended, or parted.
-#[derive(Clone, Copy)]
-struct Both {
-    go_on: bool,
-    same: bool,
-    one: RowState,
-    two: RowState,
-}
-
-fn call_both(
-    src: &[u8],
-    settings: DecodeSettings,
-    others: DecodeSettings,
-    one: RowState,
-    two: RowState,
-    first: &mut [u32],
-    second: &mut [u32],
-    third: &mut [u32],
-    fourth: &mut [u32],
-) -> Both {
-    let a = by_row::read_row(src, settings, one, first, second);
-    let b = by_row::read_row(src, others, two, third, fourth);
-    let same = lines::agree(a, first, second, b, third, fourth);
-    let answer = a.answer;
-    let gave = walk::gave(answer);
-    let one = a.state;
-    let two = b.state;
-    Both {
-        go_on: if same { gave } else { false },
-        same,
-        one,
-        two,
-    }
+// Whether two calls say the same, but for the bytes and the place.
+fn agree_on(a: RowStep, row: &[u32], b: RowStep, other: &[u32]) -> bool {
+    a.answer.number == b.answer.number
+        && a.answer.mark == b.answer.mark
+        && a.count == b.count
+        && row == other
 }
 
 // Whether two readings give the same rows and marks, and stop with the same answer.
@@ -55,77 +30,63 @@ fn agree(
     let mut one = by_row::row_start();
     let mut two = by_row::row_start();
     for _ in 0..walk::calls(src.len()) {
-        let both = call_both(
-            src, settings, others, one, two, first, second, third, fourth,
-        );
-        if !both.go_on {
-            return both.same;
+        let a = by_row::read_row(src, settings, one, first, second);
+        let b = by_row::read_row(src, others, two, third, fourth);
+        let row = lines::changes(a, first, second);
+        if !agree_on(a, row, b, lines::changes(b, third, fourth)) {
+            return false;
         }
-        let a = both.one;
-        one = a;
-        let b = both.two;
-        two = b;
+        if !walk::gave(a.answer) {
+            return true;
+        }
+        one = a.state;
+        two = b.state;
     }
     false
 }
 
-fn counted(rt: &HostRuntime, good: bool, name: &[u8], n: u64) -> bool {
-    let good = say::text(rt, good, b"\t");
-    let good = say::text(rt, good, name);
-    say::field(rt, good, n)
+fn counted(rt: &HostRuntime, name: &[u8], n: u64) -> io::Result<()> {
+    rt.write_all(b"\t")?;
+    rt.write_all(name)?;
+    say::field(rt, n)
 }
 
-// The row behind so many; a page of 16 MiB has fewer than 134,217,730.
-fn row_behind(rows: u64) -> u64 {
-    if rows < 4294967296 { rows + 1 } else { rows }
-}
-
-fn reason(rt: &HostRuntime, good: bool, v: Verdict) -> bool {
+fn reason(rt: &HostRuntime, v: Verdict) -> io::Result<()> {
     let mut words = room::text();
     let n = ledger::put_reason(&mut words, v);
-    say::bytes(rt, good, &words, n)
+    say::bytes(rt, &words, n)
 }
 
 // How a reading ended, in the words that a page's line has for it.
-fn ended(rt: &HostRuntime, good: bool, answer: Answer) -> bool {
-    let mut v: Verdict = ledger::unread(answer.number);
-    v.place = answer.place;
-    v.row = row_behind(answer.rows);
-    reason(rt, good, v)
+fn ended(rt: &HostRuntime, answer: Answer) -> io::Result<()> {
+    let v = Verdict {
+        place: answer.place,
+        row: answer.rows.saturating_add(1),
+        ..ledger::unread(answer.number)
+    };
+    reason(rt, v)
 }
 
-// A part of the answer: whether it could be written, whether all is well so far, and how the reading ended.
+// What another reading comes to: how it ends, and whether it agrees with the first.
 #[derive(Clone, Copy)]
-struct Part {
-    good: bool,
-    well: bool,
+struct Other {
     end: Answer,
+    agrees: bool,
 }
 
-// How another reading ends, and whether it agrees with the first.
 fn other_reading(
-    rt: &HostRuntime,
-    before: Part,
-    name: &[u8],
     src: &[u8],
     settings: DecodeSettings,
     others: DecodeSettings,
+    rt: &HostRuntime,
     out: &mut [u8],
-) -> Part {
+) -> Other {
     let mut first = room::line();
     let mut second = room::line();
     let mut third = room::line();
     let mut fourth = room::line();
-    let read = walk::page(
-        rt,
-        src,
-        others,
-        walk::Show::Nothing,
-        &mut third,
-        &mut fourth,
-        out,
-    );
-    let end = read.end;
+    let nothing = walk::Show::Nothing;
+    let (read, _) = walk::page(rt, src, others, nothing, &mut third, &mut fourth, out);
     let agrees = agree(
         src,
         settings,
@@ -135,183 +96,143 @@ fn other_reading(
         &mut third,
         &mut fourth,
     );
-    let good = told(rt, before.good, name, agrees, end);
-    Part {
-        good,
-        well: if agrees { before.well } else { false },
-        end,
+    Other {
+        end: read.end,
+        agrees,
     }
 }
 
-fn told(rt: &HostRuntime, good: bool, name: &[u8], agrees: bool, end: Answer) -> bool {
-    let good = say::text(rt, good, name);
-    let good = if agrees {
-        say::text(rt, good, b"\tagrees\t")
+fn other_told(rt: &HostRuntime, name: &[u8], other: Other) -> io::Result<()> {
+    rt.write_all(name)?;
+    let words: &[u8] = if other.agrees {
+        b"\tagrees\t"
     } else {
-        say::text(rt, good, b"\tdiffers\t")
+        b"\tdiffers\t"
     };
-    ended(rt, good, end)
+    rt.write_all(words)?;
+    ended(rt, other.end)
 }
 
 // The strict reading says where the first fault is.
-fn fault(rt: &HostRuntime, before: Part, strict: Answer) -> Part {
-    let good = say::text(rt, before.good, b"fault\t");
-    let end = before.end;
+fn fault_told(rt: &HostRuntime, strict: Answer) -> io::Result<()> {
+    rt.write_all(b"fault\t")?;
     if strict.number == answer::COMPLETE {
-        return Part {
-            good: say::text(rt, good, b"none\n"),
-            well: before.well,
-            end,
-        };
+        return rt.write_all(b"none\n");
     }
-    Part {
-        good: ended(rt, good, strict),
-        well: false,
-        end,
-    }
+    ended(rt, strict)
 }
 
 // Whether a page is proper, or the bit at which it parts from what would be written, in the words of a page's line; of a page that is not
 // read to its end neither is known. That it is not proper is no fault: not all that write pages write them alike.
-fn proper_told(rt: &HostRuntime, good: bool, checked: Checked) -> bool {
-    let end = checked.answer;
-    if end.number != answer::COMPLETE {
-        return say::text(rt, good, b"proper\t-\n");
+fn proper_told(rt: &HostRuntime, checked: Checked) -> io::Result<()> {
+    if checked.answer.number != answer::COMPLETE {
+        return rt.write_all(b"proper\t-\n");
     }
     if checked.proper {
-        return say::text(rt, good, b"proper\tyes\n");
+        return rt.write_all(b"proper\tyes\n");
     }
-    let good = say::text(rt, good, b"proper\tno\t");
-    let mut v: Verdict = ledger::unread(ledger::NOT_PROPER);
-    v.count = checked.parts;
-    reason(rt, good, v)
+    rt.write_all(b"proper\tno\t")?;
+    let v = Verdict {
+        count: checked.parts,
+        ..ledger::unread(ledger::NOT_PROPER)
+    };
+    reason(rt, v)
 }
 
 // EOLs that were given up are told, and then the page is to be looked at.
-fn checked(
-    rt: &HostRuntime,
-    before: Part,
-    src: &[u8],
-    settings: DecodeSettings,
-    changes: &mut [u32],
-) -> Part {
+fn checked_told(rt: &HostRuntime, checked: Checked) -> io::Result<()> {
+    proper_told(rt, checked)?;
+    if checked.gave_up {
+        rt.write_all(b"marks\t")?;
+        reason(rt, ledger::unread(ledger::GAVE_UP))?;
+    }
+    Ok(())
+}
+
+fn checked(src: &[u8], settings: DecodeSettings, changes: &mut [u32]) -> Checked {
     let mut ends = room::ends();
     let mut marks = room::marks();
-    let read = proper::check(src, settings, changes, &mut ends, &mut marks);
-    let good = proper_told(rt, before.good, read);
-    let end = before.end;
-    if !read.gave_up {
-        return Part {
-            good,
-            well: before.well,
-            end,
-        };
-    }
-    let good = say::text(rt, good, b"marks\t");
-    Part {
-        good: reason(rt, good, ledger::unread(ledger::GAVE_UP)),
-        well: false,
-        end,
-    }
+    proper::check(src, settings, changes, &mut ends, &mut marks)
 }
 
-// The settings of a page, read in another way.
-fn read_as(settings: DecodeSettings, strict: bool, exact: bool, plain: bool) -> DecodeSettings {
-    let mut other = settings;
-    other.strict = strict;
-    other.exact = exact;
-    other.plain = plain;
-    other
-}
-
-fn rows_told(rt: &HostRuntime, read: Counts) -> bool {
-    let end = read.end;
-    let good = say::text(rt, true, b"rows");
-    let good = say::field(rt, good, end.rows);
-    let good = counted(rt, good, b"clean", read.clean);
-    let good = counted(rt, good, b"cut", read.cut);
-    let good = counted(rt, good, b"recovered", read.recovered);
-    say::text(rt, good, b"\n")
+fn rows_told(rt: &HostRuntime, read: Counts) -> io::Result<()> {
+    rt.write_all(b"rows")?;
+    say::field(rt, read.end.rows)?;
+    counted(rt, b"clean", read.clean)?;
+    counted(rt, b"cut", read.cut)?;
+    counted(rt, b"recovered", read.recovered)?;
+    rt.write_all(b"\n")
 }
 
 // How many bytes the page has, and how many are left behind it; of a page that is not read to its end neither is known.
-fn bytes_told(rt: &HostRuntime, good: bool, end: Answer, behind: u64) -> bool {
+fn bytes_told(rt: &HostRuntime, end: Answer, behind: u64) -> io::Result<()> {
     if end.number != answer::COMPLETE {
-        return say::text(rt, good, b"bytes\t-\tbehind\t-\n");
+        return rt.write_all(b"bytes\t-\tbehind\t-\n");
     }
-    let good = say::text(rt, good, b"bytes");
-    let good = say::field(rt, good, end.bytes);
-    let good = counted(rt, good, b"behind", behind);
-    say::text(rt, good, b"\n")
-}
-
-fn left_behind(size: usize, bytes: u64) -> u64 {
-    let all = size as u64;
-    if all < bytes { 0 } else { all - bytes }
+    rt.write_all(b"bytes")?;
+    say::field(rt, end.bytes)?;
+    counted(rt, b"behind", behind)?;
+    rt.write_all(b"\n")
 }
 
 // Whether a page is all that it should be: read to its end, each row clean, and no byte left behind.
 fn is_well(read: Counts, behind: u64) -> bool {
-    let end = read.end;
-    if end.number != answer::COMPLETE {
-        return false;
-    }
-    if read.clean != end.rows {
-        return false;
-    }
-    behind == 0
+    read.end.number == answer::COMPLETE && read.clean == read.end.rows && behind == 0
+}
+
+fn lenient(rt: &HostRuntime, src: &[u8], settings: DecodeSettings, out: &mut [u8]) -> Counts {
+    let mut first = room::line();
+    let mut second = room::line();
+    let nothing = walk::Show::Nothing;
+    let (read, _) = walk::page(rt, src, settings, nothing, &mut first, &mut second, out);
+    read
 }
 
 // How many rows are clean, cut and recovered where the page is read leniently, how many bytes it has, and how that ends.
-fn lenient(rt: &HostRuntime, src: &[u8], settings: DecodeSettings, out: &mut [u8]) -> Part {
-    let mut first = room::line();
-    let mut second = room::line();
-    let read = walk::page(
-        rt,
-        src,
-        settings,
-        walk::Show::Nothing,
-        &mut first,
-        &mut second,
-        out,
-    );
-    let end = read.end;
-    let behind = left_behind(src.len(), end.bytes);
-    let good = rows_told(rt, read);
-    let good = bytes_told(rt, good, end, behind);
-    let good = say::text(rt, good, b"lenient\tread\t");
-    Part {
-        good: ended(rt, good, end),
-        well: is_well(read, behind),
-        end,
-    }
+fn lenient_told(rt: &HostRuntime, read: Counts, behind: u64) -> io::Result<()> {
+    rows_told(rt, read)?;
+    bytes_told(rt, read.end, behind)?;
+    rt.write_all(b"lenient\tread\t")?;
+    ended(rt, read.end)
 }
 
-fn exact_and_plain(
-    rt: &HostRuntime,
-    before: Part,
-    src: &[u8],
-    settings: DecodeSettings,
-    out: &mut [u8],
-) -> Part {
-    let exact = read_as(settings, true, true, false);
-    let plain = read_as(settings, false, false, true);
-    let part = other_reading(rt, before, b"exact", src, settings, exact, out);
-    other_reading(rt, part, b"plain", src, settings, plain, out)
+// Whether the three other readings agree with the first, and the strict one finds no fault.
+fn others(rt: &HostRuntime, src: &[u8], base: DecodeSettings, out: &mut [u8]) -> io::Result<bool> {
+    let as_strict = DecodeSettings {
+        strict: true,
+        ..base
+    };
+    let as_exact = DecodeSettings {
+        exact: true,
+        ..as_strict
+    };
+    let as_plain = DecodeSettings {
+        plain: true,
+        ..base
+    };
+    let strict = other_reading(src, base, as_strict, rt, out);
+    other_told(rt, b"strict", strict)?;
+    let exact = other_reading(src, base, as_exact, rt, out);
+    other_told(rt, b"exact", exact)?;
+    let plain = other_reading(src, base, as_plain, rt, out);
+    other_told(rt, b"plain", plain)?;
+    fault_told(rt, strict.end)?;
+    let agree = strict.agrees && exact.agrees && plain.agrees;
+    Ok(agree && strict.end.number == answer::COMPLETE)
 }
 
-fn others(
+// What is told behind the lenient reading; whether all is well.
+fn behind_lenient(
     rt: &HostRuntime,
-    before: Part,
     src: &[u8],
-    settings: DecodeSettings,
+    base: DecodeSettings,
+    changes: &mut [u32],
     out: &mut [u8],
-) -> Part {
-    let strict = read_as(settings, true, false, false);
-    let part = other_reading(rt, before, b"strict", src, settings, strict, out);
-    let end = part.end;
-    let rest = exact_and_plain(rt, part, src, settings, out);
-    fault(rt, rest, end)
+) -> io::Result<bool> {
+    let agree = others(rt, src, base, out)?;
+    let checked = checked(src, base, changes);
+    checked_told(rt, checked)?;
+    Ok(agree && !checked.gave_up)
 }
 
 pub(crate) fn page(
@@ -321,15 +242,22 @@ pub(crate) fn page(
     name: &[u8],
     changes: &mut [u32],
     out: &mut [u8],
-) -> u32 {
-    let base = read_as(settings, false, false, false);
+) -> Result<Status, Failed> {
+    let base = DecodeSettings {
+        strict: false,
+        exact: false,
+        plain: false,
+        ..settings
+    };
     let read = lenient(rt, src, base, out);
-    let end = read.end;
-    reading::hint(rt, src, settings, end.number, end.place, name);
-    let rest = others(rt, read, src, base, out);
-    let all = checked(rt, rest, src, base, changes);
-    if all.well {
-        return say::status_of(rt, all.good, say::WELL);
+    let behind = (src.len() as u64).saturating_sub(read.end.bytes);
+    let begun = lenient_told(rt, read, behind);
+    // A page whose lines cannot be written is hinted at all the same.
+    reading::hint(rt, src, settings, read.end.number, read.end.place, name);
+    let told = begun.and_then(|()| behind_lenient(rt, src, base, changes, out));
+    match told {
+        Ok(others) if others && is_well(read, behind) => Ok(Status::Well),
+        Ok(_) => Ok(Status::Look),
+        Err(_) => Err(say::unwritten(rt)),
     }
-    say::status_of(rt, all.good, say::LOOK)
 }

@@ -2,139 +2,158 @@
 use crate::done::Run;
 use crate::files::Source;
 use crate::names::Names;
-use crate::options::Options;
-use crate::{done, feed, files, lines, names, options, reading, room, say};
+use crate::options::{Options, Words};
+use crate::say::{Failed, Status};
+use crate::{done, files, lines, names, options, reading, room, say};
 use ledger::{Entered, Ledger, Verdict};
+use settings::{DecodeSettings, EncodingMode};
 use std::io::IsTerminal;
 
-// How the form's pages are read: as the desk does, or as the options ask.
+// How the form's pages are read: as the desk does, or as the options ask; crate `booking` has the numbers.
 pub(crate) fn how(o: Options) -> u32 {
     if o.lenient {
-        return booking::reading::LENIENTLY;
+        booking::reading::LENIENTLY
+    } else if o.exact {
+        EXACTLY
+    } else if o.strict {
+        booking::reading::STRICTLY
+    } else {
+        booking::reading::AS_THE_DESK
     }
-    if o.exact {
-        return EXACTLY;
-    }
-    if o.strict {
-        return booking::reading::STRICTLY;
-    }
-    booking::reading::AS_THE_DESK
 }
 
 const EXACTLY: u32 = 3;
+
+// What every page of a call is read with: the options and the form. The room for a page's bytes and its changes is lent beside it: the
+// check does not cover a call that lends a field of a struct and reads another.
+#[derive(Clone, Copy)]
+struct Desk<'a> {
+    rt: &'a HostRuntime,
+    o: Options,
+    form: &'a [u8],
+}
 
 // A page that cannot be read is entered too, and takes nothing off.
 fn unread(number: u32, name: &[u8], b: Ledger, line: &mut [u8]) -> Entered {
     ledger::enter(line, name, ledger::unread(number), b)
 }
 
-// The verdict on a page whose bytes are at hand.
-fn judged(
-    rt: &HostRuntime,
-    o: Options,
-    form: &[u8],
-    name: &[u8],
-    src: &[u8],
-    b: Ledger,
-    changes: &mut [u32],
-    line: &mut [u8],
-) -> Entered {
-    let settled = reading::settle(o, name, 0);
-    let settings = settled.settings;
-    let mut boxes = [0u32; 80];
-    let mut places = room::places();
-    let mut ends = room::ends();
-    let mut marks = room::marks();
-    let booked = booking::book_page(
-        form,
-        src,
-        how(o),
-        settings,
-        name,
-        b,
-        &mut boxes,
-        &mut places,
-        changes,
-        &mut ends,
-        &mut marks,
-        line,
-    );
-    let verdict = booked.verdict;
-    reading::hint(rt, src, settings, verdict.number, verdict.place, name);
-    let after = booked.ledger;
-    Entered {
-        ledger: after,
-        text: booked.text,
+impl Desk<'_> {
+    // The verdict on a page whose bytes are at hand.
+    fn judged(
+        self,
+        settings: DecodeSettings,
+        src: &[u8],
+        name: &[u8],
+        b: Ledger,
+        changes: &mut [u32],
+        line: &mut [u8],
+    ) -> Entered {
+        let mut boxes = [0u32; 80];
+        let mut places = room::places();
+        let mut ends = room::ends();
+        let mut marks = room::marks();
+        let booked = booking::book_page(
+            self.form,
+            src,
+            how(self.o),
+            settings,
+            name,
+            b,
+            &mut boxes,
+            &mut places,
+            changes,
+            &mut ends,
+            &mut marks,
+            line,
+        );
+        let verdict = booked.verdict;
+        reading::hint(self.rt, src, settings, verdict.number, verdict.place, name);
+        Entered {
+            ledger: booked.ledger,
+            text: booked.text,
+        }
     }
-}
 
-// Whether the standard input is the list of the pages, and this page too.
-fn is_taken(name: &[u8], list: &Option<Source>) -> bool {
-    match list {
-        Some(Source::Input(_)) => files::is_input(name),
-        _ => false,
+    // `taken` says that the page is the standard input, which is the list of the pages too.
+    fn page(
+        self,
+        taken: bool,
+        name: &[u8],
+        b: Ledger,
+        input: &mut [u8],
+        changes: &mut [u32],
+        line: &mut [u8],
+    ) -> Entered {
+        let Some(settings) = reading::settle(self.o, name, 0) else {
+            return unread(ledger::NO_ENCODING, name, b, line);
+        };
+        if taken {
+            return unread(ledger::UNREADABLE_FILE, name, b, line);
+        }
+        match files::read(self.rt, name, input, 0) {
+            Ok(bytes) => {
+                let src = lines::front(input, bytes);
+                self.judged(settings, src, name, b, changes, line)
+            }
+            Err(fault) => unread(fault, name, b, line),
+        }
     }
-}
 
-fn page(
-    rt: &HostRuntime,
-    o: Options,
-    form: &[u8],
-    list: &Option<Source>,
-    name: &[u8],
-    b: Ledger,
-    input: &mut [u8],
-    changes: &mut [u32],
-    line: &mut [u8],
-) -> Entered {
-    let settled = reading::settle(o, name, 0);
-    if !settled.known {
-        return unread(ledger::NO_ENCODING, name, b, line);
+    // The next page, if there is one: the run behind it.
+    fn turn(
+        self,
+        names: &mut Names<'_>,
+        run: Run,
+        input: &mut [u8],
+        changes: &mut [u32],
+        line: &mut [u8],
+    ) -> Result<Option<Run>, Failed> {
+        let Ok(next) = names.next(self.rt) else {
+            let words = b"the list of the pages cannot be read";
+            return Err(say::complain(self.rt, words));
+        };
+        let Some(bytes) = next else {
+            return Ok(None);
+        };
+        let name = names.named(bytes);
+        let taken = names.is_input() && files::is_input(name);
+        let entered = self.page(taken, name, run.ledger, input, changes, line);
+        let told = told(self.rt, entered, line);
+        progress(self.rt, entered.ledger, line);
+        told?;
+        Ok(Some(run.with(entered.ledger)))
     }
-    if is_taken(name, list) {
-        return unread(ledger::UNREADABLE_FILE, name, b, line);
+
+    // The pages, behind those that a stopped run has done.
+    fn turns(
+        self,
+        quota: i32,
+        names: &mut Names<'_>,
+        ledger: Option<Source>,
+        input: &mut [u8],
+        changes: &mut [u32],
+        line: &mut [u8],
+    ) -> Result<Run, Failed> {
+        let mut run = done::skipped(self.rt, ledger, names, done::begun(quota), line)?;
+        for _ in 0..4294967296u64 {
+            match self.turn(names, run, input, changes, line)? {
+                Some(next) => run = next,
+                None => break,
+            }
+        }
+        Ok(run)
     }
-    let bytes = match files::read(rt, name, input, 0) {
-        Ok(bytes) => bytes,
-        Err(fault) => return unread(fault, name, b, line),
-    };
-    judged(
-        rt,
-        o,
-        form,
-        name,
-        lines::front(input, bytes),
-        b,
-        changes,
-        line,
-    )
 }
 
 // A page's line is written, or the run ends here.
-#[derive(Clone, Copy)]
-struct Outcome {
-    good: bool,
-    ledger: Ledger,
-}
-
-fn told(rt: &HostRuntime, entered: Entered, line: &[u8]) -> Outcome {
-    let after = entered.ledger;
+fn told(rt: &HostRuntime, entered: Entered, line: &[u8]) -> Result<(), Failed> {
     if entered.text == 0 {
-        say::complain(rt, b"the books have no room for a page more");
-        return Outcome {
-            good: false,
-            ledger: after,
-        };
+        let words = b"the books have no room for a page more";
+        return Err(say::complain(rt, words));
     }
     cleared(rt);
-    let good = say::bytes(rt, true, line, entered.text);
-    if !good {
-        say::complain(rt, b"the output cannot be written");
-    }
-    Outcome {
-        good,
-        ledger: after,
-    }
+    say::told(rt, say::bytes(rt, line, entered.text))
 }
 
 fn is_watched(rt: &HostRuntime) -> bool {
@@ -161,202 +180,20 @@ fn progress(rt: &HostRuntime, b: Ledger, line: &mut [u8]) {
     say::message(rt, b"\r");
 }
 
-fn stopped(run: Run, names: Names, good: bool) -> Run {
-    let b = run.ledger;
-    Run {
-        names,
-        ledger: b,
-        pages: run.pages,
-        more: false,
-        good,
-    }
-}
-
-// A page that has a name.
-fn next_page(
-    rt: &HostRuntime,
-    o: Options,
-    form: &[u8],
-    list: &Option<Source>,
-    run: Run,
-    names: Names,
-    name: &[u8],
-    input: &mut [u8],
-    changes: &mut [u32],
-    line: &mut [u8],
-) -> Run {
-    let b = run.ledger;
-    let entered = page(rt, o, form, list, name, b, input, changes, line);
-    let told = told(rt, entered, line);
-    let after = told.ledger;
-    progress(rt, after, line);
-    Run {
-        names,
-        ledger: after,
-        pages: done::one_more(run.pages),
-        more: told.good,
-        good: told.good,
-    }
-}
-
-// What a name, or that there is none, makes of the run.
-fn named_page(
-    rt: &HostRuntime,
-    o: Options,
-    form: &[u8],
-    list: &Option<Source>,
-    run: Run,
-    names: Names,
-    what: u32,
-    name: &[u8],
-    input: &mut [u8],
-    changes: &mut [u32],
-    line: &mut [u8],
-) -> Run {
-    if what == feed::NOTHING {
-        return stopped(run, names, true);
-    }
-    if what == feed::FAILED {
-        say::complain(rt, b"the list of the pages cannot be read");
-        return stopped(run, names, false);
-    }
-    next_page(rt, o, form, list, run, names, name, input, changes, line)
-}
-
-// The next page, if there is one.
-fn turn(
-    rt: &HostRuntime,
-    o: Options,
-    form: &[u8],
-    list: &mut Option<Source>,
-    count: usize,
-    run: Run,
-    input: &mut [u8],
-    changes: &mut [u32],
-    line: &mut [u8],
-    name: &mut [u8],
-    memory: &mut [u8],
-) -> Run {
-    let names = run.names;
-    let named = names::next(rt, names, count, list, names::mark(o.null), memory, name);
-    let next = named.names;
-    named_page(
-        rt,
-        o,
-        form,
-        list,
-        run,
-        next,
-        named.what,
-        lines::front(name, named.bytes),
-        input,
-        changes,
-        line,
-    )
-}
-
-// Page after page; a call has fewer than 4,294,967,296 of them, which the books hold.
-fn turns(
-    rt: &HostRuntime,
-    o: Options,
-    form: &[u8],
-    list: &mut Option<Source>,
-    count: usize,
-    begun: Run,
-    input: &mut [u8],
-    changes: &mut [u32],
-    line: &mut [u8],
-    name: &mut [u8],
-    memory: &mut [u8],
-) -> Run {
-    let mut run = begun;
-    for _ in 0..4294967296u64 {
-        if !run.more {
-            break;
-        }
-        let next = turn(
-            rt, o, form, list, count, run, input, changes, line, name, memory,
-        );
-        run = next;
-    }
-    run
-}
-
 // The total's line, once every page has its own.
-fn ended(rt: &HostRuntime, run: Run, line: &mut [u8]) -> u32 {
-    cleared(rt);
-    if !run.good {
-        return say::FAILED;
-    }
+fn ended(rt: &HostRuntime, run: Run, line: &mut [u8]) -> Result<Status, Failed> {
     let b = run.ledger;
-    if b.pages as u64 != run.pages {
-        say::complain(rt, b"there are not as many lines as pages");
-        return say::FAILED;
+    if u64::from(b.pages) != run.pages {
+        return Err(say::complain(rt, b"there are not as many lines as pages"));
     }
     let n = ledger::put_total(line, b);
-    let good = say::bytes(rt, 0 < n, line, n);
-    say::status_of(rt, good, ledger::status(b))
-}
-
-// The pages, behind those that a stopped run has done.
-fn all_pages(
-    rt: &HostRuntime,
-    o: Options,
-    form: &[u8],
-    list: &mut Option<Source>,
-    ledger: Option<Source>,
-    count: usize,
-    begun: Run,
-    input: &mut [u8],
-    changes: &mut [u32],
-    line: &mut [u8],
-    name: &mut [u8],
-    memory: &mut [u8],
-) -> u32 {
-    let run = done::skipped(rt, o.null, ledger, count, list, begun, line, name, memory);
-    let run = turns(
-        rt, o, form, list, count, run, input, changes, line, name, memory,
-    );
-    ended(rt, run, line)
-}
-
-fn pages(
-    rt: &HostRuntime,
-    o: Options,
-    form: &[u8],
-    list: &mut Option<Source>,
-    ledger: Option<Source>,
-    count: usize,
-    first: usize,
-    input: &mut [u8],
-    changes: &mut [u32],
-) -> u32 {
-    let mut line = room::text();
-    let mut name = room::word();
-    let mut memory = room::memory();
-    let begun = done::begun(o.quota, first);
-    all_pages(
-        rt,
-        o,
-        form,
-        list,
-        ledger,
-        count,
-        begun,
-        input,
-        changes,
-        &mut line,
-        &mut name,
-        &mut memory,
-    )
+    say::told(rt, say::piece(rt, line, n))?;
+    Ok(say::status_of_books(b))
 }
 
 // Whether a verdict is on the form itself, whatever the page.
 fn is_of_form(number: u32) -> bool {
-    if number < ledger::NO_FORM_LINE {
-        return false;
-    }
-    number <= ledger::LONG_FORM
+    ledger::NO_FORM_LINE <= number && number <= ledger::LONG_FORM
 }
 
 // The verdict on no bytes at all is that on the form, where this has a fault.
@@ -366,8 +203,7 @@ fn on_form(o: Options, text: &[u8]) -> Verdict {
     let mut changes = [0u32; 1];
     let mut ends = [0u64; 1];
     let mut marks = [0u8; 1];
-    let settled = reading::settle(o, b"", 0);
-    let settings = settled.settings;
+    let settings = reading::settings(o, EncodingMode::Group4, true, true, 0);
     booking::verdict_on(
         text,
         b"",
@@ -382,51 +218,27 @@ fn on_form(o: Options, text: &[u8]) -> Verdict {
 }
 
 // What is wrong with a form is told, and no page is read.
-fn is_form(rt: &HostRuntime, o: Options, name: &[u8], text: &[u8]) -> bool {
+fn check_form(rt: &HostRuntime, o: Options, name: &[u8], text: &[u8]) -> Result<(), Failed> {
     let verdict = on_form(o, text);
     if !is_of_form(verdict.number) {
-        return true;
+        return Ok(());
     }
     let mut words = room::text();
     let n = ledger::put_reason(&mut words, verdict);
-    say::reason(rt, name, &words, n);
-    false
+    Err(say::reason(rt, name, &words, n))
 }
 
-// The list that a word names, which may be none; one that cannot be opened is told.
-fn opened(rt: &HostRuntime, at: usize) -> Result<Option<Source>, u32> {
-    if at == 0 {
+// The list that a word names, if there is such a word; one that cannot be opened is told.
+fn opened(rt: &HostRuntime, at: Option<usize>) -> Result<Option<Source>, Failed> {
+    let Some(at) = at else {
         return Ok(None);
-    }
+    };
     let mut name = room::word();
     let n = options::copy_word(rt, at, &mut name);
     match files::open(rt, &name[..n]) {
         Ok(list) => Ok(Some(list)),
-        Err(fault) => {
-            say::complain_of_file(rt, &name[..n], fault);
-            Err(say::FAILED)
-        }
+        Err(fault) => Err(say::complain_of_file(rt, &name[..n], fault)),
     }
-}
-
-fn with_lists(
-    rt: &HostRuntime,
-    o: Options,
-    form: &[u8],
-    count: usize,
-    first: usize,
-    input: &mut [u8],
-    changes: &mut [u32],
-) -> u32 {
-    let mut list = match opened(rt, o.from) {
-        Ok(list) => list,
-        Err(status) => return status,
-    };
-    let ledger = match opened(rt, o.done) {
-        Ok(ledger) => ledger,
-        Err(status) => return status,
-    };
-    pages(rt, o, form, &mut list, ledger, count, first, input, changes)
 }
 
 // A file that is too long for a page is too long for a form.
@@ -438,98 +250,90 @@ fn as_form(fault: u32) -> u32 {
     }
 }
 
-// The bytes of the form's text, or a message and 0.
-pub(crate) fn read_form(rt: &HostRuntime, o: Options, name: &[u8], form: &mut [u8]) -> usize {
-    let bytes = match files::read(rt, name, form, 0) {
-        Ok(bytes) => bytes,
-        Err(fault) => {
-            say::complain_of_file(rt, name, as_form(fault));
-            return 0;
-        }
-    };
-    if is_form(rt, o, name, lines::front(form, bytes)) {
-        bytes
-    } else {
-        0
-    }
+// How many bytes the form's text has.
+pub(crate) fn read_form(
+    rt: &HostRuntime,
+    o: Options,
+    name: &[u8],
+    form: &mut [u8],
+) -> Result<usize, Failed> {
+    let bytes = files::read(rt, name, form, 0).map_err(|fault| say::complain_of_file(
+        rt,
+        name,
+        as_form(fault),
+    ))?;
+    check_form(rt, o, name, lines::front(form, bytes))?;
+    Ok(bytes)
 }
 
 fn with_form(
     rt: &HostRuntime,
     o: Options,
-    count: usize,
-    first: usize,
+    quota: i32,
+    words: Words,
+    form: &[u8],
     input: &mut [u8],
     changes: &mut [u32],
-) -> u32 {
+) -> Result<Status, Failed> {
+    let list = opened(rt, o.from)?;
+    let ledger = opened(rt, o.done)?;
+    let mut line = room::text();
     let mut name = room::word();
-    let n = options::copy_word(rt, o.form, &mut name);
-    let mut form = room::form();
-    let bytes = read_form(rt, o, &name[..n], &mut form);
-    if bytes == 0 {
-        return say::FAILED;
-    }
-    with_lists(
-        rt,
-        o,
-        lines::front(&form, bytes),
-        count,
-        first,
-        input,
-        changes,
-    )
+    let mut memory = room::memory();
+    let mut names = names::begun(words, list, o.null, &mut memory, &mut name);
+    let desk = Desk { rt, o, form };
+    let read = desk.turns(quota, &mut names, ledger, input, changes, &mut line);
+    cleared(rt);
+    ended(rt, read?, &mut line)
 }
 
-// The options that a call needs, and those that do not go together.
-fn is_whole(rt: &HostRuntime, o: Options) -> bool {
-    if o.form == 0 {
-        say::complain(rt, b"--form is missing");
-        return false;
-    }
-    if !o.has_quota {
-        say::complain(rt, b"--quota is missing");
-        return false;
-    }
-    if o.files == 0 {
-        if o.from == 0 {
-            say::complain(rt, b"heads needs a page: ./fax help heads");
-            return false;
-        }
-    }
-    if o.null {
-        if o.from == 0 {
-            say::complain(rt, b"--null is for the names of --from");
-            return false;
-        }
-    }
-    is_one_reading(rt, o)
+// The form's place and the quota, which a call needs.
+pub(crate) fn needed(rt: &HostRuntime, o: Options) -> Result<(usize, i32), Failed> {
+    let Some(form) = o.form else {
+        return Err(say::complain(rt, b"--form is missing"));
+    };
+    let Some(quota) = o.quota else {
+        return Err(say::complain(rt, b"--quota is missing"));
+    };
+    Ok((form, quota))
 }
 
-pub(crate) fn is_one_reading(rt: &HostRuntime, o: Options) -> bool {
-    if !o.lenient {
-        return true;
+// The options that do not go together.
+fn check(rt: &HostRuntime, o: Options) -> Result<(), Failed> {
+    if o.file.is_none() && o.from.is_none() {
+        return Err(say::complain(rt, b"heads needs a page: ./fax help heads"));
     }
-    if o.strict {
-        say::complain(rt, b"--lenient and --strict are two readings");
-        return false;
+    if o.null && o.from.is_none() {
+        return Err(say::complain(rt, b"--null is for the names of --from"));
     }
-    if o.exact {
-        say::complain(rt, b"--lenient and --exact are two readings");
-        return false;
+    check_reading(rt, o)
+}
+
+pub(crate) fn check_reading(rt: &HostRuntime, o: Options) -> Result<(), Failed> {
+    if o.lenient && o.strict {
+        let words = b"--lenient and --strict are two readings";
+        return Err(say::complain(rt, words));
     }
-    true
+    if o.lenient && o.exact {
+        let words = b"--lenient and --exact are two readings";
+        return Err(say::complain(rt, words));
+    }
+    Ok(())
 }
 
 pub(crate) fn command(
     rt: &HostRuntime,
     o: Options,
-    count: usize,
-    first: usize,
+    words: Words,
     input: &mut [u8],
     changes: &mut [u32],
-) -> u32 {
-    if !is_whole(rt, o) {
-        return say::FAILED;
-    }
-    with_form(rt, o, count, first, input, changes)
+) -> Result<Status, Failed> {
+    let (at, quota) = needed(rt, o)?;
+    check(rt, o)?;
+    let mut name = room::word();
+    let n = options::copy_word(rt, at, &mut name);
+    let mut form = room::form();
+    let bytes = read_form(rt, o, &name[..n], &mut form)?;
+    let text = lines::front(&form, bytes);
+    with_form(rt, o, quota, words, text, input, changes)
 }

@@ -1,50 +1,24 @@
-// A page that is to be looked at, as the HTML file shows it: its words, its picture, and what is drawn over that.
-use crate::view::{part, written};
-use crate::{files, lines, room, say};
+// A page that is to be looked at, as the HTML file shows it behind its words: its picture, and what is drawn over that.
+use crate::view::part;
+use crate::{lines, room, say};
 use booking::Lies;
 use form_file::Form;
-use ledger::{Ledger, Verdict};
+use ledger::Verdict;
+use std::io;
 
 // So many bytes of a picture are coded at a time; three divides it, so that the parts one behind the other are the code of the whole.
 const PART: usize = 12288;
 
-pub(crate) fn words(
-    rt: &HostRuntime,
-    name: &[u8],
-    v: Verdict,
-    b: Ledger,
-    piece: &mut [u8],
-) -> bool {
-    let n = look::put_page(piece, name, v, b);
-    written(rt, piece, n)
-}
-
-fn read(rt: &HostRuntime, columns: u32, marks: &[u8], piece: &mut [u8]) -> bool {
-    let n = look::put_read(piece, columns, marks);
-    written(rt, piece, n)
-}
-
-fn has_shift(form: Form) -> bool {
-    if form.across != 0 {
-        return true;
-    }
-    form.down != 0
-}
-
-fn is_lost(form: Form, lies: Lies) -> bool {
-    if lies.fits {
-        return false;
-    }
-    has_shift(form)
-}
-
-// Where the form lies, or that it fits nowhere.
-fn found(rt: &HostRuntime, form: Form, lies: Lies, piece: &mut [u8]) -> bool {
-    if is_lost(form, lies) {
-        return part(rt, look::NOT_FOUND, piece);
-    }
-    let n = look::put_found(piece, lies.across, lies.down, form.across, form.down);
-    written(rt, piece, n)
+// A page that was read: its width, the form and its numbers, and the store of its rows with their marks.
+#[derive(Clone, Copy)]
+pub(crate) struct Sheet<'a> {
+    pub(crate) columns: u32,
+    pub(crate) form: Form,
+    pub(crate) boxes: &'a [u32],
+    pub(crate) places: &'a [u32],
+    pub(crate) changes: &'a [u32],
+    pub(crate) ends: &'a [u64],
+    pub(crate) marks: &'a [u8],
 }
 
 // The rows that a verdict's reading kept, of which the program holds 65,536.
@@ -52,304 +26,180 @@ fn rows_of(rows: u64) -> u32 {
     if rows < 65536 { rows as u32 } else { 65536 }
 }
 
-// The bytes of a picture of whole words of 32 pixels; 0 where there is none.
-fn painted(columns: u32, changes: &[u32], ends: &[u64], picture: &mut [u8]) -> usize {
-    let stride = look::stride(columns);
-    let answer = bitmap::paint(columns, changes, ends, true, stride, picture);
-    if answer.number != answer::COMPLETE {
-        return 0;
-    }
-    if 4294967296 < answer.bytes {
-        return 0;
-    }
-    ((answer.bytes + 3) / 4 * 4) as usize
-}
-
-fn coded_part(rt: &HostRuntime, bytes: &[u8], piece: &mut [u8]) -> bool {
+fn coded_part(rt: &HostRuntime, bytes: &[u8], piece: &mut [u8]) -> io::Result<()> {
     let n = look::put_base64(piece, bytes);
-    written(rt, piece, n)
+    say::piece(rt, piece, n)
 }
 
-fn head(rt: &HostRuntime, columns: u32, rows: u32, piece: &mut [u8]) -> bool {
-    let bytes = look::bitmap_head(columns, rows);
-    coded_part(rt, &bytes, piece)
+fn coded(rt: &HostRuntime, bytes: &[u8], piece: &mut [u8]) -> io::Result<()> {
+    for part in bytes.chunks(PART) {
+        coded_part(rt, part, piece)?;
+    }
+    Ok(())
 }
 
-fn coded(rt: &HostRuntime, bytes: &[u8], piece: &mut [u8]) -> bool {
-    let mut at = 0;
-    for _ in 0..4294967296u64 {
-        if bytes.len() <= at {
-            return true;
+impl Sheet<'_> {
+    fn read(&self, rt: &HostRuntime, piece: &mut [u8]) -> io::Result<()> {
+        let n = look::put_read(piece, self.columns, self.marks);
+        say::piece(rt, piece, n)
+    }
+
+    // Where the form lies, or that it fits nowhere.
+    fn found(&self, rt: &HostRuntime, lies: Lies, piece: &mut [u8]) -> io::Result<()> {
+        let form = self.form;
+        if !lies.fits && (form.across != 0 || form.down != 0) {
+            return part(rt, look::NOT_FOUND, piece);
         }
-        if !coded_part(rt, lines::front(lines::rest(bytes, at), PART), piece) {
-            return false;
+        let n = look::put_found(piece, lies.across, lies.down, form.across, form.down);
+        say::piece(rt, piece, n)
+    }
+
+    // The bytes of a picture of whole words of 32 pixels; 0 where there is none.
+    fn painted(&self, picture: &mut [u8]) -> usize {
+        let stride = look::stride(self.columns);
+        let answer = bitmap::paint(self.columns, self.changes, self.ends, true, stride, picture);
+        if answer.number != answer::COMPLETE || 4294967296 < answer.bytes {
+            return 0;
         }
-        at = files::sum(at, PART, bytes.len());
+        ((answer.bytes + 3) / 4 * 4) as usize
     }
-    false
-}
 
-fn over_picture(rt: &HostRuntime, columns: u32, rows: u32, most: u32, piece: &mut [u8]) -> bool {
-    let n = look::put_drawing(piece, columns, rows, most);
-    written(rt, piece, n)
-}
-
-fn opened(
-    rt: &HostRuntime,
-    pictured: bool,
-    columns: u32,
-    rows: u32,
-    most: u32,
-    piece: &mut [u8],
-) -> bool {
-    let n = look::put_sheet(piece, pictured, columns, rows, most);
-    written(rt, piece, n)
-}
-
-fn sheet(
-    rt: &HostRuntime,
-    columns: u32,
-    rows: u32,
-    most: u32,
-    bytes: &[u8],
-    piece: &mut [u8],
-) -> bool {
-    if !opened(rt, bytes.len() != 0, columns, rows, most, piece) {
-        return false;
-    }
-    if bytes.len() == 0 {
-        return true;
-    }
-    if !head(rt, columns, rows, piece) {
-        return false;
-    }
-    if !coded(rt, bytes, piece) {
-        return false;
-    }
-    over_picture(rt, columns, rows, most, piece)
-}
-
-// A row that is clean has no band, and nothing is written.
-fn band(rt: &HostRuntime, columns: u32, marks: &[u8], y: u32, piece: &mut [u8]) -> bool {
-    let n = look::put_band(piece, columns, marks, y);
-    say::bytes(rt, true, piece, n)
-}
-
-fn bands(rt: &HostRuntime, columns: u32, marks: &[u8], rows: u32, piece: &mut [u8]) -> bool {
-    let mut y: u32 = 0;
-    while y < rows {
-        if !band(rt, columns, marks, y, piece) {
-            return false;
+    // The picture's bytes, and what stands before and behind them.
+    fn picture(
+        &self,
+        rt: &HostRuntime,
+        rows: u32,
+        bytes: &[u8],
+        piece: &mut [u8],
+    ) -> io::Result<()> {
+        let columns = self.columns;
+        let most = self.form.most;
+        let n = look::put_sheet(piece, !bytes.is_empty(), columns, rows, most);
+        say::piece(rt, piece, n)?;
+        if bytes.is_empty() {
+            return Ok(());
         }
-        y += 1;
+        coded_part(rt, &look::bitmap_head(columns, rows), piece)?;
+        coded(rt, bytes, piece)?;
+        let n = look::put_drawing(piece, columns, rows, most);
+        say::piece(rt, piece, n)
     }
-    true
-}
 
-fn place(
-    rt: &HostRuntime,
-    columns: u32,
-    changes: &[u32],
-    ends: &[u64],
-    places: &[u32],
-    k: u32,
-    piece: &mut [u8],
-) -> bool {
-    let n = look::put_place(piece, columns, changes, ends, places, k);
-    written(rt, piece, n)
-}
+    // A row that is clean has no band, and nothing is written.
+    fn band(&self, rt: &HostRuntime, y: u32, piece: &mut [u8]) -> io::Result<()> {
+        let n = look::put_band(piece, self.columns, self.marks, y);
+        say::bytes(rt, piece, n)
+    }
 
-fn all_places(
-    rt: &HostRuntime,
-    columns: u32,
-    changes: &[u32],
-    ends: &[u64],
-    places: &[u32],
-    count: u32,
-    piece: &mut [u8],
-) -> bool {
-    let mut k: u32 = 0;
-    while k < count {
-        if !place(rt, columns, changes, ends, places, k, piece) {
-            return false;
-        }
-        k += 1;
+    fn place(&self, rt: &HostRuntime, k: u32, piece: &mut [u8]) -> io::Result<()> {
+        let n = look::put_place(piece, self.columns, self.changes, self.ends, self.places, k);
+        say::piece(rt, piece, n)
     }
-    true
-}
 
-fn one_box(
-    rt: &HostRuntime,
-    columns: u32,
-    changes: &[u32],
-    ends: &[u64],
-    boxes: &[u32],
-    k: u32,
-    doubt: u32,
-    tick: u32,
-    piece: &mut [u8],
-) -> bool {
-    let n = look::put_box(piece, columns, changes, ends, boxes, k, doubt, tick);
-    written(rt, piece, n)
-}
-
-fn all_boxes(
-    rt: &HostRuntime,
-    columns: u32,
-    changes: &[u32],
-    ends: &[u64],
-    boxes: &[u32],
-    doubt: u32,
-    tick: u32,
-    piece: &mut [u8],
-) -> bool {
-    let mut k: u32 = 0;
-    while k < 20 {
-        if !one_box(rt, columns, changes, ends, boxes, k, doubt, tick, piece) {
-            return false;
-        }
-        k += 1;
-    }
-    true
-}
-
-// A verdict that is about no row has no such line.
-fn row_mark(rt: &HostRuntime, columns: u32, v: Verdict, piece: &mut [u8]) -> bool {
-    let n = look::put_row_mark(piece, columns, v);
-    say::bytes(rt, true, piece, n)
-}
-
-fn drawn(
-    rt: &HostRuntime,
-    columns: u32,
-    form: Form,
-    boxes: &[u32],
-    places: &[u32],
-    v: Verdict,
-    changes: &[u32],
-    ends: &[u64],
-    piece: &mut [u8],
-) -> bool {
-    if !all_places(rt, columns, changes, ends, places, form.places, piece) {
-        return false;
-    }
-    if !all_boxes(
-        rt, columns, changes, ends, boxes, form.doubt, form.tick, piece,
-    ) {
-        return false;
-    }
-    if !row_mark(rt, columns, v, piece) {
-        return false;
-    }
-    part(rt, look::PICTURE_END, piece)
-}
-
-fn shown(
-    rt: &HostRuntime,
-    columns: u32,
-    rows: u32,
-    form: Form,
-    lies: Lies,
-    changes: &[u32],
-    ends: &[u64],
-    marks: &[u8],
-    picture: &mut [u8],
-    piece: &mut [u8],
-) -> bool {
-    if !read(rt, columns, marks, piece) {
-        return false;
-    }
-    if !found(rt, form, lies, piece) {
-        return false;
-    }
-    let bytes = painted(columns, changes, ends, picture);
-    if !sheet(
-        rt,
-        columns,
-        rows,
-        form.most,
-        lines::front(picture, bytes),
-        piece,
-    ) {
-        return false;
-    }
-    bands(rt, columns, marks, rows, piece)
-}
-
-// The form is drawn where it lies; where it cannot be moved there, at its own place.
-fn drawn_at(
-    rt: &HostRuntime,
-    columns: u32,
-    rows: u32,
-    form: Form,
-    lies: Lies,
-    boxes: &[u32],
-    places: &[u32],
-    v: Verdict,
-    changes: &[u32],
-    ends: &[u64],
-    piece: &mut [u8],
-) -> bool {
-    let mut moved_boxes = [0u32; 80];
-    let mut moved_places = room::places();
-    let moved = booking::move_form(
-        form,
-        rows,
-        lies.across,
-        lies.down,
-        boxes,
-        places,
-        &mut moved_boxes,
-        &mut moved_places,
-    );
-    if moved {
-        return drawn(
-            rt,
-            columns,
-            form,
-            &moved_boxes,
-            &moved_places,
-            v,
-            changes,
-            ends,
+    fn one_box(&self, rt: &HostRuntime, k: u32, piece: &mut [u8]) -> io::Result<()> {
+        let n = look::put_box(
             piece,
+            self.columns,
+            self.changes,
+            self.ends,
+            self.boxes,
+            k,
+            self.form.doubt,
+            self.form.tick,
         );
+        say::piece(rt, piece, n)
     }
-    drawn(rt, columns, form, boxes, places, v, changes, ends, piece)
+
+    // A verdict that is about no row has no such line.
+    fn row_mark(&self, rt: &HostRuntime, v: Verdict, piece: &mut [u8]) -> io::Result<()> {
+        let n = look::put_row_mark(piece, self.columns, v);
+        say::bytes(rt, piece, n)
+    }
+
+    fn drawn(&self, rt: &HostRuntime, v: Verdict, piece: &mut [u8]) -> io::Result<()> {
+        for k in 0..self.form.places {
+            self.place(rt, k, piece)?;
+        }
+        for k in 0..20 {
+            self.one_box(rt, k, piece)?;
+        }
+        self.row_mark(rt, v, piece)?;
+        part(rt, look::PICTURE_END, piece)
+    }
+
+    fn shown(
+        &self,
+        rt: &HostRuntime,
+        rows: u32,
+        lies: Lies,
+        picture: &mut [u8],
+        piece: &mut [u8],
+    ) -> io::Result<()> {
+        self.read(rt, piece)?;
+        self.found(rt, lies, piece)?;
+        let bytes = self.painted(picture);
+        self.picture(rt, rows, lines::front(picture, bytes), piece)?;
+        for y in 0..rows {
+            self.band(rt, y, piece)?;
+        }
+        Ok(())
+    }
+
+    // The form is drawn where it lies; where it cannot be moved there, at its own place.
+    fn drawn_at(
+        &self,
+        rt: &HostRuntime,
+        rows: u32,
+        lies: Lies,
+        v: Verdict,
+        piece: &mut [u8],
+    ) -> io::Result<()> {
+        let mut boxes = [0u32; 80];
+        let mut places = room::places();
+        let moved = booking::move_form(
+            self.form,
+            rows,
+            lies.across,
+            lies.down,
+            self.boxes,
+            self.places,
+            &mut boxes,
+            &mut places,
+        );
+        if !moved {
+            return self.drawn(rt, v, piece);
+        }
+        let there = Sheet {
+            boxes: &boxes,
+            places: &places,
+            ..*self
+        };
+        there.drawn(rt, v, piece)
+    }
 }
 
 // What is behind the words of a page that was read.
 pub(crate) fn page(
     rt: &HostRuntime,
-    columns: u32,
-    form: Form,
-    boxes: &[u32],
-    places: &[u32],
+    sheet: Sheet<'_>,
     v: Verdict,
-    changes: &[u32],
-    ends: &[u64],
-    marks: &[u8],
     picture: &mut [u8],
     piece: &mut [u8],
-) -> bool {
+) -> io::Result<()> {
     let rows = rows_of(v.rows);
-    let kept = lines::front_ends(ends, rows as usize);
-    let lies = booking::lies_at(columns, changes, kept, form, boxes, places);
-    if !shown(
-        rt,
-        columns,
-        rows,
-        form,
-        lies,
-        changes,
-        kept,
-        lines::front(marks, rows as usize),
-        picture,
-        piece,
-    ) {
-        return false;
-    }
-    drawn_at(
-        rt, columns, rows, form, lies, boxes, places, v, changes, kept, piece,
-    )
+    let sheet = Sheet {
+        ends: lines::front(sheet.ends, rows as usize),
+        marks: lines::front(sheet.marks, rows as usize),
+        ..sheet
+    };
+    let lies = booking::lies_at(
+        sheet.columns,
+        sheet.changes,
+        sheet.ends,
+        sheet.form,
+        sheet.boxes,
+        sheet.places,
+    );
+    sheet.shown(rt, rows, lies, picture, piece)?;
+    sheet.drawn_at(rt, rows, lies, v, piece)
 }

@@ -1,5 +1,5 @@
 // A file into lent memory: to its end, or why not, in the numbers of the verdicts.
-use crate::{say, text};
+use crate::say;
 use std::fs::File;
 use std::io::{ErrorKind, Read, Seek, SeekFrom, Write};
 use std::{fs, io};
@@ -22,7 +22,7 @@ impl Read for Source {
 
 // `-` is the standard input.
 pub(crate) fn is_input(name: &[u8]) -> bool {
-    text::is(name, b"-")
+    matches!(name, b"-")
 }
 
 // Why a file could not be opened.
@@ -107,21 +107,13 @@ fn why(error: io::Error) -> Option<u32> {
     }
 }
 
-pub(crate) fn sum(at: usize, n: usize, most: usize) -> usize {
-    if most < at {
-        return most;
-    }
-    if most - at < n { most } else { at + n }
-}
-
 // The bytes from a place on, to the end of the file or of the memory: where they end, or what is wrong.
 fn fill(source: &mut Source, into: &mut [u8], from: usize) -> Result<usize, u32> {
     let mut at = from;
     for _ in 0..4294967296u64 {
-        let most = into.len();
         match turn(source, into, at) {
             Ok(0) => return Ok(at),
-            Ok(n) => at = sum(at, n, most),
+            Ok(n) => at = at.saturating_add(n),
             Err(error) => {
                 if let Some(fault) = why(error) {
                     return Err(fault);

@@ -26,7 +26,8 @@ mod view;
 mod walk;
 mod write;
 
-use options::Options;
+use options::{Command, Options, Words};
+use say::{Failed, Status};
 use std::io::Write;
 
 // Behind the program's own name: the room, the command, and its words.
@@ -36,97 +37,107 @@ const COMMAND: usize = 2;
 
 const FIRST: usize = 3;
 
-// The commands, with room for a page's bytes, its changes, a page that is written, and the lines of ledgers. Arrays lie on the stack, of
-// which a system gives 8 MiB where nobody asks for more: a page of ordinary size needs no more than that. Neither room is compiled into
-// its caller, whose frame must be small.
+// A command in the room that was chosen: room for a page's bytes, its changes, a page that is written, and the lines of ledgers.
+fn answered(
+    rt: &HostRuntime,
+    command: Command,
+    o: Options,
+    word: &[u8],
+    input: &mut [u8],
+    changes: &mut [u32],
+    out: &mut [u8],
+    starts: &mut [u64],
+) -> Result<Status, Failed> {
+    let count = options::count(rt);
+    let words = Words::begun(FIRST, count);
+    match command {
+        Command::Heads => desk::command(rt, o, words, input, changes),
+        Command::Total => total::command(rt, o, words, count, input, starts),
+        Command::Look => view::command(rt, o, words, input, changes, out),
+        Command::Write => one::bitmap(rt, o, word, input, changes, out),
+        Command::List | Command::Picture | Command::Check => {
+            one::page(rt, command, o, word, input, changes, out)
+        }
+    }
+}
+
+// Arrays lie on the stack, of which a system gives 8 MiB where nobody asks for more: a page of ordinary size needs no more than that.
+// Neither room is compiled into its caller, whose frame must be small.
 #[inline(never)]
-fn large(rt: &HostRuntime, chosen: u32, o: Options, word: &[u8], count: usize) -> u32 {
+fn large(rt: &HostRuntime, command: Command, o: Options, word: &[u8]) -> Result<Status, Failed> {
     let mut input = room::large_input();
     let mut changes = room::large_changes();
     let mut out = room::large_out();
     let mut starts = room::large_starts();
-    if chosen == options::HEADS {
-        return desk::command(rt, o, count, FIRST, &mut input, &mut changes);
-    }
-    if chosen == options::TOTAL {
-        return total::command(rt, o, count, FIRST, &mut input, &mut starts);
-    }
-    if chosen == options::LOOK {
-        return view::command(rt, o, count, FIRST, &mut input, &mut changes, &mut out);
-    }
-    if chosen == options::WRITE {
-        return one::bitmap(rt, o, word, &mut input, &mut changes, &mut out);
-    }
-    one::page(rt, chosen, o, word, &mut input, &mut changes, &mut out)
+    answered(
+        rt,
+        command,
+        o,
+        word,
+        &mut input,
+        &mut changes,
+        &mut out,
+        &mut starts,
+    )
 }
 
 #[inline(never)]
-fn small(rt: &HostRuntime, chosen: u32, o: Options, word: &[u8], count: usize) -> u32 {
+fn small(rt: &HostRuntime, command: Command, o: Options, word: &[u8]) -> Result<Status, Failed> {
     let mut input = room::input();
     let mut changes = room::changes();
     let mut out = room::out();
     let mut starts = room::ends();
-    if chosen == options::HEADS {
-        return desk::command(rt, o, count, FIRST, &mut input, &mut changes);
-    }
-    if chosen == options::TOTAL {
-        return total::command(rt, o, count, FIRST, &mut input, &mut starts);
-    }
-    if chosen == options::LOOK {
-        return view::command(rt, o, count, FIRST, &mut input, &mut changes, &mut out);
-    }
-    if chosen == options::WRITE {
-        return one::bitmap(rt, o, word, &mut input, &mut changes, &mut out);
-    }
-    one::page(rt, chosen, o, word, &mut input, &mut changes, &mut out)
+    answered(
+        rt,
+        command,
+        o,
+        word,
+        &mut input,
+        &mut changes,
+        &mut out,
+        &mut starts,
+    )
 }
 
 fn is_large(rt: &HostRuntime) -> bool {
     let mut word = room::word();
     let n = options::copy_word(rt, ROOM, &mut word);
-    text::is(&word[..n], b"large")
+    matches!(&word[..n], b"large")
 }
 
-fn asked(rt: &HostRuntime, word: &[u8], count: usize) -> u32 {
-    let chosen = options::command(word);
-    if chosen == options::NO_COMMAND {
-        say::complain_of(rt, b"no command '", word, b"': ./fax help");
-        return say::FAILED;
-    }
-    let o = options::read(rt, chosen, word, FIRST, count);
-    if !o.good {
-        return say::FAILED;
-    }
-    if is_large(rt) {
-        large(rt, chosen, o, word, count)
-    } else {
-        small(rt, chosen, o, word, count)
-    }
-}
-
-fn digit(status: u32) -> &'static [u8] {
-    match status {
-        say::WELL => b"0",
-        say::LOOK => b"1",
-        _ => b"2",
-    }
-}
-
-// The status goes to its descriptor once all is written and kept. Where there is none, nobody asks for it.
-fn finish(rt: &HostRuntime, status: u32) {
-    let status = if status == say::FAILED {
-        status
-    } else {
-        say::status_of(rt, say::is_kept(rt), status)
+fn asked(rt: &HostRuntime, word: &[u8]) -> Result<Status, Failed> {
+    let Some(command) = options::command_of(word) else {
+        return Err(say::complain_of(rt, b"no command '", word, b"': ./fax help"));
     };
-    if let Ok(mut caller) = say::caller(rt) {
-        let _ = caller.write_all(digit(status));
+    let o = options::read(rt, command, word, FIRST, options::count(rt))?;
+    if is_large(rt) {
+        large(rt, command, o, word)
+    } else {
+        small(rt, command, o, word)
+    }
+}
+
+// What was written is kept, or there is no answer.
+fn kept(rt: &HostRuntime, status: Status) -> Result<Status, Failed> {
+    say::told(rt, say::keep(rt))?;
+    Ok(status)
+}
+
+fn digit(status: Result<Status, Failed>) -> &'static [u8] {
+    match status {
+        Ok(Status::Well) => b"0",
+        Ok(Status::Look) => b"1",
+        Err(Failed) => b"2",
     }
 }
 
 fn main(rt: HostRuntime) {
     let mut word = room::word();
     let n = options::copy_word(&rt, COMMAND, &mut word);
-    let status = asked(&rt, &word[..n], options::count(&rt));
-    finish(&rt, status);
+    let answer = asked(&rt, &word[..n]);
+    let status = answer.and_then(|status| kept(&rt, status));
+    // The status goes to its descriptor once all is written and kept. Where there is none, nobody asks for it.
+    if let Ok(mut caller) = say::caller(&rt) {
+        let _ = caller.write_all(digit(status));
+    }
 }

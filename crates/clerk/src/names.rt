@@ -1,28 +1,20 @@
 // The names of the pages: those among the arguments, and then those of a list.
-use crate::feed::Feed;
+use crate::feed::{End, Feed, Unreadable};
 use crate::files::Source;
-use crate::{feed, options};
+use crate::options::Words;
+use crate::{feed, lines};
 use std::env::FillError;
 use std::rt::Env;
 
-#[derive(Clone, Copy)]
-pub(crate) struct Names {
-    pub(crate) at: usize,
-    pub(crate) after: bool,
-    pub(crate) feed: Feed,
-}
-
-// A name of so many bytes, or that there is none (feed.rt has the numbers).
-#[derive(Clone, Copy)]
-pub(crate) struct Named {
-    pub(crate) names: Names,
-    pub(crate) what: u32,
-    pub(crate) bytes: usize,
-}
-
-// The byte behind a name of a list.
-pub(crate) fn mark(null: bool) -> u8 {
-    if null { 0 } else { b'\n' }
+// The words and the list that are left, the byte behind a name of the list, the memory for what is read ahead of it, and the last name.
+#[derive(Drop)]
+pub(crate) struct Names<'a> {
+    words: Words,
+    list: Option<Source>,
+    feed: Feed,
+    mark: u8,
+    memory: &'a mut [u8],
+    name: &'a mut [u8],
 }
 
 pub(crate) fn argument(rt: &HostRuntime, at: usize, name: &mut [u8]) -> usize {
@@ -33,90 +25,62 @@ pub(crate) fn argument(rt: &HostRuntime, at: usize, name: &mut [u8]) -> usize {
     }
 }
 
-pub(crate) fn next_word(at: usize) -> usize {
-    if at < 4294967296 { at + 1 } else { at }
-}
-
-fn among(names: Names, at: usize, after: bool) -> Names {
-    let feed = names.feed;
-    Names { at, after, feed }
-}
-
-fn behind(names: Names, feed: Feed) -> Names {
-    Names {
-        at: names.at,
-        after: names.after,
-        feed,
-    }
-}
-
-// One line of the list; an empty one names nothing.
-fn listed(list: &mut Source, names: Names, mark: u8, memory: &mut [u8], name: &mut [u8]) -> Named {
-    let feed = names.feed;
-    let fed = feed::next(list, feed, mark, memory, name);
-    let next = fed.feed;
-    Named {
-        names: behind(names, next),
-        what: fed.what,
-        bytes: fed.bytes,
-    }
-}
-
-fn is_empty(what: u32, bytes: usize) -> bool {
-    if what == feed::LINE {
-        bytes == 0
-    } else {
-        false
-    }
-}
-
-fn from_list(
+// The next name of the list; an empty line names nothing.
+fn listed(
+    feed: &mut Feed,
     list: &mut Source,
-    names: Names,
     mark: u8,
     memory: &mut [u8],
     name: &mut [u8],
-) -> Named {
-    let mut here = names;
+) -> Result<Option<usize>, Unreadable> {
     for _ in 0..4294967296u64 {
-        let named = listed(list, here, mark, memory, name);
-        if !is_empty(named.what, named.bytes) {
-            return named;
+        let Some(line) = feed.next(list, mark, memory, name)? else {
+            return Ok(None);
+        };
+        if line.bytes != 0 || line.end != End::Mark {
+            return Ok(Some(line.bytes));
         }
-        let next = named.names;
-        here = next;
     }
-    Named {
-        names: here,
-        what: feed::FAILED,
-        bytes: 0,
+    Err(Unreadable)
+}
+
+// Before the first name; `null` says that a zero stands behind each name of the list.
+pub(crate) fn begun<'a>(
+    words: Words,
+    list: Option<Source>,
+    null: bool,
+    memory: &'a mut [u8],
+    name: &'a mut [u8],
+) -> Names<'a> {
+    Names {
+        words,
+        list,
+        feed: feed::begun(),
+        mark: if null { 0 } else { b'\n' },
+        memory,
+        name,
     }
 }
 
-pub(crate) fn next(
-    rt: &HostRuntime,
-    names: Names,
-    count: usize,
-    list: &mut Option<Source>,
-    mark: u8,
-    memory: &mut [u8],
-    name: &mut [u8],
-) -> Named {
-    let place = options::next_file(rt, names.at, count, names.after);
-    if place.found {
-        return Named {
-            names: among(names, next_word(place.at), place.after),
-            what: feed::LINE,
-            bytes: argument(rt, place.at, name),
-        };
+impl Names<'_> {
+    // How many bytes the next name has, if there is one.
+    pub(crate) fn next(&mut self, rt: &HostRuntime) -> Result<Option<usize>, Unreadable> {
+        if let Some(at) = self.words.next_file(rt) {
+            return Ok(Some(argument(rt, at, self.name)));
+        }
+        match &mut self.list {
+            Some(list) => listed(&mut self.feed, list, self.mark, self.memory, self.name),
+            None => Ok(None),
+        }
     }
-    let here = among(names, count, place.after);
-    match list {
-        Some(list) => from_list(list, here, mark, memory, name),
-        None => Named {
-            names: here,
-            what: feed::NOTHING,
-            bytes: 0,
-        },
+
+    // The name that came, of so many bytes.
+    pub(crate) fn named(&self, bytes: usize) -> &[u8] {
+        lines::front(self.name, bytes)
+    }
+
+    // Whether the standard input is the list.
+    pub(crate) fn is_input(&self) -> bool {
+        matches!(self.list, Some(Source::Input(_)))
     }
 }

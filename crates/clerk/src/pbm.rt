@@ -1,238 +1,139 @@
 // A portable bitmap (PBM) as rows of changes: P4 has eight pixels to a byte and each row begins at one, P1 a 0 or 1 for each pixel. 1 is black.
 use crate::text;
 
-// What the file begins with, and where its first row does.
+// What the file begins with, and the bytes of its pixels.
 #[derive(Clone, Copy)]
-pub(crate) struct Bitmap {
-    pub(crate) good: bool,
+pub(crate) struct Bitmap<'a> {
     pub(crate) plain: bool,
     pub(crate) columns: u32,
     pub(crate) rows: u32,
-    pub(crate) at: usize,
+    pub(crate) pixels: &'a [u8],
 }
 
-fn none() -> Bitmap {
-    Bitmap {
-        good: false,
-        plain: false,
-        columns: 0,
-        rows: 0,
-        at: 0,
+// Why the rows cannot be taken into the store: what lacks.
+#[derive(Clone, Copy)]
+pub(crate) enum Fault {
+    Pixels,
+    Room,
+}
+
+// What stands behind a blank, of which there must be one.
+fn behind_blank(text: &[u8]) -> Option<&[u8]> {
+    match text.split_first() {
+        Some((byte, rest)) if text::is_blank(*byte) => Some(rest),
+        _ => None,
     }
 }
 
-// Each side has 1 to 65,536 pixels.
-fn side(read: text::Read) -> u32 {
-    if 65536 < read.value {
-        return 0;
+// The next number, and what is left: each side has 1 to 65,536 pixels.
+fn side(text: &[u8]) -> Option<(u32, &[u8])> {
+    let (value, rest) = text::number(text::skip(text));
+    match value? {
+        0 => None,
+        n if 65536 < n => None,
+        n => Some((n, rest)),
     }
-    read.value as u32
 }
 
-// Whether the file begins with P1 or P4, and a blank.
-fn begins(data: &[u8], plain: bool) -> bool {
-    if !text::is_blank(text::nth(data, 2, 0)) {
-        return false;
-    }
-    if plain {
-        return true;
-    }
-    text::starts(data, 0, b"P4")
-}
-
-pub(crate) fn head(data: &[u8]) -> Bitmap {
-    let plain = text::starts(data, 0, b"P1");
-    if !begins(data, plain) {
-        return none();
-    }
-    let wide = text::number(data, text::skip(data, 2, true));
-    let high = text::number(data, text::skip(data, wide.next, true));
-    let columns = side(wide);
-    let rows = side(high);
-    if columns == 0 {
-        return none();
-    }
-    if rows == 0 {
-        return none();
-    }
+pub(crate) fn head(src: &[u8]) -> Option<Bitmap<'_>> {
+    let plain = src.starts_with(b"P1");
+    let rest = if plain {
+        src.strip_prefix(b"P1")?
+    } else {
+        src.strip_prefix(b"P4")?
+    };
+    let (columns, rest) = side(behind_blank(rest)?)?;
+    let (rows, rest) = side(rest)?;
     // One blank stands before the bytes of P4, and before the pixels of P1.
-    if !text::is_blank(text::nth(data, high.next, 0)) {
-        return none();
-    }
-    Bitmap {
-        good: true,
+    let pixels = behind_blank(rest)?;
+    Some(Bitmap {
         plain,
         columns,
         rows,
-        at: text::after(data, high.next, 1),
+        pixels,
+    })
+}
+
+// The next pixel of P1, whether it is black, and what is left.
+fn pixel(text: &[u8]) -> Option<(bool, &[u8])> {
+    match text::skip(text).split_first() {
+        Some((b'0', rest)) => Some((false, rest)),
+        Some((b'1', rest)) => Some((true, rest)),
+        _ => None,
     }
 }
 
-// A pixel of P1, 0 or 1, or 2 where there is none; and where the next one is looked for.
-#[derive(Clone, Copy)]
-struct Shade {
-    shade: u8,
-    next: usize,
-}
-
-fn shade_of(byte: u8) -> u8 {
-    if byte == b'0' {
-        return 0;
-    }
-    if byte == b'1' {
-        return 1;
-    }
-    2
-}
-
-fn pixel(data: &[u8], at: usize) -> Shade {
-    let i = text::skip(data, at, true);
-    Shade {
-        shade: shade_of(text::nth(data, i, 0)),
-        next: text::after(data, i, 1),
-    }
-}
-
-// A row that was taken into the store: where its changes end, and where the next row begins.
-#[derive(Clone, Copy)]
-pub(crate) enum Taken {
-    Row(usize, usize),
-    NoPixel,
-    NoRoom,
-}
-
-fn lacks_room(changes: &[u32], end: usize, turn: bool) -> bool {
-    if turn { changes.len() <= end } else { false }
-}
-
-// Stores a change where the colour turns; answers where the next one goes.
-fn note(changes: &mut [u32], end: usize, x: u32, turn: bool) -> usize {
-    if !turn {
-        return end;
-    }
-    if changes.len() <= end {
-        return end;
-    }
-    changes[end] = x;
-    end + 1
-}
-
-fn row(data: &[u8], start: usize, columns: u32, changes: &mut [u32], base: usize) -> Taken {
-    let mut at = start;
+// A row into the store behind `base` entries: where its changes end, and what is left.
+fn row<'a>(
+    pixels: &'a [u8],
+    columns: u32,
+    changes: &mut [u32],
+    base: usize,
+) -> Result<(usize, &'a [u8]), Fault> {
+    let mut rest = pixels;
     let mut end = base;
-    let mut black = 0;
-    let mut x: u32 = 0;
-    while x < columns {
-        let pixel = pixel(data, at);
-        at = pixel.next;
-        let shade = pixel.shade;
-        if 1 < shade {
-            return Taken::NoPixel;
+    let mut black = false;
+    for x in 0..columns {
+        let Some((shade, next)) = pixel(rest) else {
+            return Err(Fault::Pixels);
+        };
+        rest = next;
+        if shade != black {
+            if changes.len() <= end {
+                return Err(Fault::Room);
+            }
+            changes[end] = x;
+            end += 1;
+            black = shade;
         }
-        let turn = shade != black;
-        if lacks_room(changes, end, turn) {
-            return Taken::NoRoom;
-        }
-        end = note(changes, end, x, turn);
-        black = shade;
-        x += 1;
     }
-    Taken::Row(end, at)
+    Ok((end, rest))
 }
 
 // How many bytes a row of P4 has.
 pub(crate) fn row_bytes(columns: u32) -> usize {
-    if columns % 8 == 0 {
-        return (columns / 8) as usize;
-    }
-    (columns / 8) as usize + 1
+    columns.div_ceil(8) as usize
 }
 
-fn put_end(ends: &mut [u64], y: u32, end: usize) -> bool {
-    let k = y as usize;
-    if ends.len() <= k {
-        return false;
-    }
-    ends[k] = end as u64;
-    true
-}
-
-// The rows of P1 into a store, a pixel at a time.
-fn plain_rows(
-    data: &[u8],
-    columns: u32,
-    rows: u32,
-    from: usize,
-    changes: &mut [u32],
-    ends: &mut [u64],
-) -> Taken {
-    let mut at = from;
+// The rows of P1, a pixel at a time.
+fn plain_rows(bitmap: Bitmap<'_>, changes: &mut [u32], ends: &mut [u64]) -> Result<(), Fault> {
+    let mut rest = bitmap.pixels;
     let mut end = 0;
-    let mut y: u32 = 0;
-    while y < rows {
-        let taken = row(data, at, columns, changes, end);
-        let Taken::Row(here, next) = taken else {
-            return taken;
-        };
-        if !put_end(ends, y, here) {
-            return Taken::NoRoom;
+    for y in 0..bitmap.rows as usize {
+        let (here, next) = row(rest, bitmap.columns, changes, end)?;
+        if ends.len() <= y {
+            return Err(Fault::Room);
         }
+        ends[y] = here as u64;
         end = here;
-        at = next;
-        y += 1;
+        rest = next;
     }
-    Taken::Row(end, at)
+    Ok(())
 }
 
 // Those of P4, by the proved reader of packed pixels.
-fn packed_rows(
-    data: &[u8],
-    columns: u32,
-    rows: u32,
-    from: usize,
-    changes: &mut [u32],
-    ends: &mut [u64],
-) -> Taken {
-    if data.len() < from {
-        return Taken::NoPixel;
-    }
-    let stride = row_bytes(columns) as u64;
+fn packed_rows(bitmap: Bitmap<'_>, changes: &mut [u32], ends: &mut [u64]) -> Result<(), Fault> {
     let read = bitmap::unpaint(
-        columns,
-        rows as u64,
+        bitmap.columns,
+        u64::from(bitmap.rows),
         true,
-        stride,
-        &data[from..],
+        row_bytes(bitmap.columns) as u64,
+        bitmap.pixels,
         changes,
         ends,
     );
-    if read.number == answer::NO_ENTRY {
-        return Taken::NoRoom;
+    match read.number {
+        answer::COMPLETE => Ok(()),
+        answer::NO_ENTRY | answer::NO_ROW_END => Err(Fault::Room),
+        _ => Err(Fault::Pixels),
     }
-    if read.number == answer::NO_ROW_END {
-        return Taken::NoRoom;
-    }
-    if read.number != answer::COMPLETE {
-        return Taken::NoPixel;
-    }
-    Taken::Row(
-        read.entries as usize,
-        text::after(data, from, read.bytes as usize),
-    )
 }
 
 // The rows of a bitmap into a store.
-pub(crate) fn rows(
-    data: &[u8],
-    plain: bool,
-    columns: u32,
-    rows: u32,
-    from: usize,
-    changes: &mut [u32],
-    ends: &mut [u64],
-) -> Taken {
-    if plain {
-        return plain_rows(data, columns, rows, from, changes, ends);
+pub(crate) fn rows(bitmap: Bitmap<'_>, changes: &mut [u32], ends: &mut [u64]) -> Result<(), Fault> {
+    if bitmap.plain {
+        plain_rows(bitmap, changes, ends)
+    } else {
+        packed_rows(bitmap, changes, ends)
     }
-    packed_rows(data, columns, rows, from, changes, ends)
 }

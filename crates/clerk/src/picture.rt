@@ -1,14 +1,17 @@
 // A page as a portable bitmap (PBM, P4): 1 is black, each row begins at a byte.
+use crate::say::{Failed, Status};
 use crate::{pbm, reading, say, walk};
 use answer::Answer;
 use settings::DecodeSettings;
+use std::io;
+use std::io::ErrorKind;
 
 // The pixels of a row from a byte on, black as 1; what is behind its width in its last byte is white. False where they do not fit.
-fn paint(row: &[u32], count: usize, columns: u32, out: &mut [u8], from: usize) -> bool {
+fn paint(row: &[u32], columns: u32, out: &mut [u8], from: usize) -> bool {
     if out.len() < from {
         return false;
     }
-    let ends: [u64; 1] = [count as u64];
+    let ends = [row.len() as u64];
     let stride = pbm::row_bytes(columns) as u64;
     let painted = bitmap::paint(columns, row, &ends, true, stride, &mut out[from..]);
     painted.number == answer::COMPLETE
@@ -16,10 +19,7 @@ fn paint(row: &[u32], count: usize, columns: u32, out: &mut [u8], from: usize) -
 
 // Twelve of the sixteen pixels of a margin are black beside a row that is not clean.
 fn margin(out: &mut [u8], from: usize, clean: bool) {
-    if from != 2 {
-        return;
-    }
-    if out.len() < 2 {
+    if from != 2 || out.len() < 2 {
         return;
     }
     out[0] = if clean { 0 } else { 0b1111_1111 };
@@ -42,22 +42,23 @@ pub(crate) fn row(
     rt: &HostRuntime,
     answer: Answer,
     row: &[u32],
-    count: usize,
     columns: u32,
     out: &mut [u8],
     from: usize,
-) -> bool {
+) -> io::Result<()> {
     margin(out, from, answer.mark == 0);
-    let good = paint(row, count, columns, out, from);
-    say::bytes(rt, good, out, pbm::row_bytes(width(columns, from)))
+    if !paint(row, columns, out, from) {
+        return Err(io::Error::from(ErrorKind::StorageFull));
+    }
+    say::bytes(rt, out, pbm::row_bytes(width(columns, from)))
 }
 
-fn head(rt: &HostRuntime, width: u32, rows: u64) -> bool {
-    let good = say::text(rt, true, b"P4\n");
-    let good = say::number(rt, good, width as u64);
-    let good = say::text(rt, good, b" ");
-    let good = say::number(rt, good, rows);
-    say::text(rt, good, b"\n")
+fn head(rt: &HostRuntime, width: u32, rows: u64) -> io::Result<()> {
+    rt.write_all(b"P4\n")?;
+    rt.print(width)?;
+    rt.write_all(b" ")?;
+    rt.print(rows)?;
+    rt.write_all(b"\n")
 }
 
 fn painted(
@@ -69,59 +70,42 @@ fn painted(
     first: &mut [u32],
     second: &mut [u32],
     out: &mut [u8],
-) -> bool {
-    if !head(rt, width(settings.columns, from), rows) {
-        return false;
-    }
-    let read = walk::page(
-        rt,
-        src,
-        settings,
-        walk::Show::Pixels(from),
-        first,
-        second,
-        out,
-    );
-    read.good
+) -> io::Result<()> {
+    head(rt, width(settings.columns, from), rows)?;
+    let show = walk::Show::Pixels(from);
+    let (_, written) = walk::page(rt, src, settings, show, first, second, out);
+    written
 }
 
 // A page that is not read to its end is shown as far as it was read, and that is told.
-fn status_for(rt: &HostRuntime, number: u32) -> u32 {
+fn status_for(rt: &HostRuntime, number: u32) -> Status {
     if number == answer::COMPLETE {
-        return say::WELL;
+        return Status::Well;
     }
     say::complain_with(
         rt,
         b"the page is not read to its end, answer ",
-        number as u64,
+        u64::from(number),
         b": the picture has the rows before that",
     );
-    say::LOOK
+    Status::Look
 }
 
 // A picture has 1 to 65,536 rows, as many as `pbm` reads.
-fn fits(rt: &HostRuntime, rows: u64) -> bool {
-    if rows == 0 {
-        say::complain(rt, b"there is no row to show");
-        return false;
+fn check_rows(rt: &HostRuntime, rows: u64) -> Result<(), Failed> {
+    match rows {
+        0 => Err(say::complain(rt, b"there is no row to show")),
+        1..=65536 => Ok(()),
+        _ => Err(say::complain(rt, b"a picture has at most 65536 rows")),
     }
-    if 65536 < rows {
-        say::complain(rt, b"a picture has at most 65536 rows");
-        return false;
-    }
-    true
 }
 
-fn is_wide(rt: &HostRuntime, columns: u32) -> bool {
-    if 65536 < columns {
-        say::complain(rt, b"a picture has at most 65536 columns");
-        return false;
+fn check_columns(rt: &HostRuntime, columns: u32) -> Result<(), Failed> {
+    match columns {
+        0 => Err(say::complain(rt, b"a picture has at least one column")),
+        1..=65536 => Ok(()),
+        _ => Err(say::complain(rt, b"a picture has at most 65536 columns")),
     }
-    if columns == 0 {
-        say::complain(rt, b"a picture has at least one column");
-        return false;
-    }
-    true
 }
 
 // How the page ends is read before it is painted, as a bitmap begins with its number of rows.
@@ -134,18 +118,15 @@ pub(crate) fn page(
     first: &mut [u32],
     second: &mut [u32],
     out: &mut [u8],
-) -> u32 {
-    if !is_wide(rt, settings.columns) {
-        return say::FAILED;
-    }
-    let read = walk::page(rt, src, settings, walk::Show::Nothing, first, second, out);
+) -> Result<Status, Failed> {
+    check_columns(rt, settings.columns)?;
+    let (read, _) = walk::page(rt, src, settings, walk::Show::Nothing, first, second, out);
     let end = read.end;
     reading::hint(rt, src, settings, end.number, end.place, name);
-    if !fits(rt, end.rows) {
-        return say::FAILED;
-    }
+    check_rows(rt, end.rows)?;
     let status = status_for(rt, end.number);
     let from = if marks { 2 } else { 0 };
-    let good = painted(rt, src, settings, end.rows, from, first, second, out);
-    say::status_of(rt, good, status)
+    let written = painted(rt, src, settings, end.rows, from, first, second, out);
+    say::told(rt, written)?;
+    Ok(status)
 }

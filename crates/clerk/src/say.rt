@@ -1,15 +1,29 @@
-// What the program says: its answers on the standard output, and messages on standard error. `good` says whether every write before
-// this one went well: behind one that failed nothing is written, and the command ends with status 2.
+// What the program says: its answers on the standard output, and messages on standard error. Behind a write to the output that failed
+// nothing is written, and the command ends with status 2.
 use crate::lines;
+use ledger::Ledger;
 use std::fs::{File, OpenOptions};
+use std::io::ErrorKind;
 use std::{fs, io};
 
-// The status of a command: all is well; a page is to be looked at, or the quota is passed; there is no answer.
-pub(crate) const WELL: u32 = 0;
+// The answer of a command: all is well, or a page is to be looked at or the quota is passed.
+#[derive(Clone, Copy)]
+pub(crate) enum Status {
+    Well,
+    Look,
+}
 
-pub(crate) const LOOK: u32 = 1;
+// There is no answer; why was said.
+#[derive(Clone, Copy)]
+pub(crate) struct Failed;
 
-pub(crate) const FAILED: u32 = 2;
+pub(crate) fn status_of_books(b: Ledger) -> Status {
+    if ledger::status(b) == 0 {
+        Status::Well
+    } else {
+        Status::Look
+    }
+}
 
 // Descriptors by their names: the standard output, and descriptor 3, on which ./fax listens to the program.
 const OUTPUT: &str = "/proc/self/fd/1";
@@ -25,50 +39,33 @@ pub(crate) fn caller(rt: &HostRuntime) -> io::Result<File> {
     descriptor(rt, CALLER)
 }
 
-pub(crate) fn text(rt: &HostRuntime, good: bool, words: &[u8]) -> bool {
-    if !good {
-        return false;
-    }
-    rt.write_all(words).is_ok()
-}
-
 // The first `n` bytes.
-pub(crate) fn bytes(rt: &HostRuntime, good: bool, out: &[u8], n: usize) -> bool {
-    text(rt, good, lines::front(out, n))
+pub(crate) fn bytes(rt: &HostRuntime, out: &[u8], n: usize) -> io::Result<()> {
+    rt.write_all(lines::front(out, n))
 }
 
-pub(crate) fn number(rt: &HostRuntime, good: bool, n: u64) -> bool {
-    if !good {
-        return false;
+// A piece that a proved function put into `out`; it is never empty, and 0 says that it had no room.
+pub(crate) fn piece(rt: &HostRuntime, out: &[u8], n: usize) -> io::Result<()> {
+    if n == 0 {
+        return Err(io::Error::from(ErrorKind::StorageFull));
     }
-    rt.print(n).is_ok()
+    bytes(rt, out, n)
 }
 
-pub(crate) fn field(rt: &HostRuntime, good: bool, n: u64) -> bool {
-    let good = text(rt, good, b"\t");
-    number(rt, good, n)
+pub(crate) fn field(rt: &HostRuntime, n: u64) -> io::Result<()> {
+    rt.write_all(b"\t")?;
+    rt.print(n)
 }
 
 // A byte that moves a terminal's cursor is shown as `?`, as in a page's line.
 fn shown(byte: u8) -> u8 {
-    if byte < 32 {
-        return b'?';
-    }
-    if byte == 127 {
-        return b'?';
-    }
-    byte
+    if byte < 32 || byte == 127 { b'?' } else { byte }
 }
 
 fn quoted(name: &[u8]) -> [u8; 4096] {
     let mut space = [0u8; 4096];
-    let mut k = 0;
-    while k < name.len() {
-        if 4096 <= k {
-            break;
-        }
-        space[k] = shown(name[k]);
-        k += 1;
+    for (to, byte) in space.iter_mut().zip(name) {
+        *to = shown(*byte);
     }
     space
 }
@@ -88,18 +85,20 @@ pub(crate) fn name(rt: &HostRuntime, name: &[u8]) {
     message(rt, lines::front(&space, name.len()));
 }
 
-pub(crate) fn complain(rt: &HostRuntime, words: &[u8]) {
+pub(crate) fn complain(rt: &HostRuntime, words: &[u8]) -> Failed {
     message(rt, b"fax: ");
     message(rt, words);
     message(rt, b"\n");
+    Failed
 }
 
-pub(crate) fn complain_of(rt: &HostRuntime, words: &[u8], of: &[u8], more: &[u8]) {
+pub(crate) fn complain_of(rt: &HostRuntime, words: &[u8], of: &[u8], more: &[u8]) -> Failed {
     message(rt, b"fax: ");
     message(rt, words);
     name(rt, of);
     message(rt, more);
     message(rt, b"\n");
+    Failed
 }
 
 pub(crate) fn complain_of_two(
@@ -109,7 +108,7 @@ pub(crate) fn complain_of_two(
     between: &[u8],
     other: &[u8],
     more: &[u8],
-) {
+) -> Failed {
     message(rt, b"fax: ");
     message(rt, words);
     name(rt, of);
@@ -117,48 +116,51 @@ pub(crate) fn complain_of_two(
     name(rt, other);
     message(rt, more);
     message(rt, b"\n");
+    Failed
 }
 
-pub(crate) fn complain_with(rt: &HostRuntime, words: &[u8], n: u64, more: &[u8]) {
+pub(crate) fn complain_with(rt: &HostRuntime, words: &[u8], n: u64, more: &[u8]) -> Failed {
     message(rt, b"fax: ");
     message(rt, words);
     message_number(rt, n);
     message(rt, more);
     message(rt, b"\n");
+    Failed
 }
 
 // A file that cannot be used, in the words that a page's line has for it.
-pub(crate) fn complain_of_file(rt: &HostRuntime, of: &[u8], number: u32) {
+pub(crate) fn complain_of_file(rt: &HostRuntime, of: &[u8], number: u32) -> Failed {
     let mut words = [0u8; 1024];
     let n = ledger::put_reason(&mut words, ledger::unread(number));
-    reason(rt, of, &words, n);
+    reason(rt, of, &words, n)
 }
 
 // `NAME: A: reason`; the reason ends with its line feed.
-pub(crate) fn reason(rt: &HostRuntime, of: &[u8], words: &[u8], n: usize) {
+pub(crate) fn reason(rt: &HostRuntime, of: &[u8], words: &[u8], n: usize) -> Failed {
     message(rt, b"fax: ");
     name(rt, of);
     message(rt, b": ");
     message(rt, lines::front(words, n));
+    Failed
 }
 
 // Whether what was written is kept, where it is a file: some file systems tell only as they store it that they have no room.
-pub(crate) fn is_kept(rt: &HostRuntime) -> bool {
+pub(crate) fn keep(rt: &HostRuntime) -> io::Result<()> {
     match fs::metadata(rt, OUTPUT) {
         Ok(found) if found.is_file() => {}
-        _ => return true,
+        _ => return Ok(()),
     }
     match descriptor(rt, OUTPUT) {
-        Ok(file) => file.sync_data().is_ok(),
-        Err(_) => true,
+        Ok(file) => file.sync_data(),
+        Err(_) => Ok(()),
     }
 }
 
+pub(crate) fn unwritten(rt: &HostRuntime) -> Failed {
+    complain(rt, b"the output cannot be written")
+}
+
 // What could not be written is told, once.
-pub(crate) fn status_of(rt: &HostRuntime, good: bool, status: u32) -> u32 {
-    if good {
-        return status;
-    }
-    complain(rt, b"the output cannot be written");
-    FAILED
+pub(crate) fn told(rt: &HostRuntime, written: io::Result<()>) -> Result<(), Failed> {
+    written.map_err(|_| unwritten(rt))
 }
