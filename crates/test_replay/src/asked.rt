@@ -1,61 +1,42 @@
 // The numbers of a question.
 
-fn is_digit(byte: u8) -> bool {
-    if byte < 48 {
-        return false;
-    }
-    byte < 58
-}
-
-// The place of the next digit.
-fn skip_to_digit(input: &[u8], from: usize) -> usize {
-    let mut at = from;
-    while at < input.len() {
-        if is_digit(input[at]) {
-            return at;
+// What is left from the next digit on.
+fn from_digit(input: &[u8]) -> &[u8] {
+    for (at, byte) in input.iter().enumerate() {
+        if byte.is_ascii_digit() {
+            return &input[at..];
         }
-        at += 1;
     }
-    at
+    b""
 }
 
-#[derive(Clone, Copy)]
-struct ReadNumber {
-    value: u32,
-    next: usize,
+fn digit(byte: u8) -> Option<u32> {
+    match byte {
+        b'0'..=b'9' => Some(u32::from(byte - b'0')),
+        _ => None,
+    }
 }
 
-// The number whose digits begin at a place; every number of the sample is below 2^32.
-fn number(input: &[u8], from: usize) -> ReadNumber {
-    let mut at = from;
-    let mut value: u64 = 0;
-    while at < input.len() {
-        let byte = input[at];
-        if !is_digit(byte) {
-            break;
+// The number with whose digits the input begins, and what is left; every number of the sample is below 2^32.
+fn number(input: &[u8]) -> (u32, &[u8]) {
+    let mut value: u32 = 0;
+    for (at, byte) in input.iter().enumerate() {
+        match digit(*byte) {
+            Some(digit) => value = value.wrapping_mul(10).wrapping_add(digit),
+            None => return (value, &input[at..]),
         }
-        value = (value * 10 + (byte % 48) as u64) % 4294967296;
-        at += 1;
     }
-    ReadNumber {
-        value: value as u32,
-        next: at,
-    }
+    (value, b"")
 }
 
 // The next `count` numbers, whatever parts them, into the front of `out`, which is long enough for every question of the sample. Answers
-// the place behind them.
-pub(crate) fn numbers(input: &[u8], from: usize, count: u32, out: &mut [u32]) -> usize {
-    let mut at = from;
-    let mut k = 0;
-    while k < out.len() {
-        if count as usize <= k {
-            return at;
-        }
-        let n = number(input, skip_to_digit(input, at));
-        out[k] = n.value;
-        at = n.next;
-        k += 1;
+// what is left behind them.
+pub(crate) fn numbers<'a>(input: &'a [u8], count: u32, out: &mut [u32]) -> &'a [u8] {
+    let mut left = input;
+    for slot in out.iter_mut().take(count as usize) {
+        let (value, rest) = number(from_digit(left));
+        *slot = value;
+        left = rest;
     }
-    at
+    left
 }

@@ -28,9 +28,9 @@ fn read_full<R: Read>(reader: &mut R, buf: &mut [u8]) -> io::Result<usize>
 // The first number says how many questions follow.
 fn replay_all(rt: &impl Print, input: &[u8]) -> io::Result<()> {
     let mut count = [0u32; 1];
-    let mut at = asked::numbers(input, 0, 1, &mut count);
+    let mut left = asked::numbers(input, 1, &mut count);
     for _ in 0..count[0] {
-        at = told::replay(rt, input, at)?;
+        left = told::replay(rt, left)?;
     }
     Ok(())
 }

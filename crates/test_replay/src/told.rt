@@ -7,7 +7,7 @@ use settings::{DecodeSettings, EncodingMode};
 use std::io;
 
 fn joined(high: u32, low: u32) -> u64 {
-    high as u64 * 4294967296 + low as u64
+    u64::from(high) * 4294967296 + u64::from(low)
 }
 
 fn encoding(form: u32) -> EncodingMode {
@@ -58,8 +58,7 @@ fn ask(
 fn within(n: u32, most: usize) -> usize
     ensures { result ≤ most }
 {
-    let wide = n as usize;
-    if most < wide { most } else { wide }
+    most.min(n as usize)
 }
 
 // Asks with as much of each array as the question says, in the last four of its numbers: there are as many marks as row ends.
@@ -86,43 +85,19 @@ fn ask_within(
     )
 }
 
-// No change and no row end is 4294967295: an entry that still has it was left alone.
-fn entry(rt: &impl Print, n: u64) -> io::Result<()> {
-    if n == 4294967295 {
+// An entry, or that there is none: it still has the number of those that were left alone.
+fn entry(rt: &impl Print, n: u64, none: u64) -> io::Result<()> {
+    if n == none {
         return print!(rt; " -");
     }
     print!(rt; " {n}")
 }
 
-// The first `n` changes of an array, the first `n` row ends, and the first `n` marks.
-fn entries(rt: &impl Print, array: &[u32], n: u32) -> io::Result<()> {
-    print!(rt; ":")?;
-    for change in &array[..within(n, array.len())] {
-        entry(rt, u64::from(*change))?;
-    }
-    Ok(())
-}
-
-fn row_ends(rt: &impl Print, array: &[u64], n: u32) -> io::Result<()> {
-    print!(rt; ":")?;
-    for end in &array[..within(n, array.len())] {
-        entry(rt, *end)?;
-    }
-    Ok(())
-}
-
-// No mark is 255.
-fn mark(rt: &impl Print, n: u8) -> io::Result<()> {
-    if n == 255 {
-        return print!(rt; " -");
-    }
-    entry(rt, u64::from(n))
-}
-
-fn row_marks(rt: &impl Print, array: &[u8], n: u32) -> io::Result<()> {
+// The first `n` changes, row ends or marks of an array.
+fn entries<T: Copy + Into<u64>>(rt: &impl Print, array: &[T], n: u32, none: T) -> io::Result<()> {
     print!(rt; ":")?;
     for one in &array[..within(n, array.len())] {
-        mark(rt, *one)?;
+        entry(rt, (*one).into(), none.into())?;
     }
     Ok(())
 }
@@ -140,47 +115,40 @@ fn tell(rt: &impl Print, answer: Answer) -> io::Result<()> {
     print!(rt; "{number} {mark} {rows} {entries} {loose} {bytes} {place} ")
 }
 
-fn low_byte(word: u32) -> u8 {
-    (word % 256) as u8
-}
-
-fn byte_at(words: &[u32], k: usize) -> u8 {
-    if k < words.len() {
-        low_byte(words[k])
-    } else {
-        0
-    }
-}
-
 fn narrow(words: &[u32], out: &mut [u8]) {
-    let mut k = 0;
-    while k < out.len() {
-        out[k] = byte_at(words, k);
-        k += 1;
+    for (to, word) in out.iter_mut().zip(words) {
+        *to = (*word % 256) as u8;
     }
 }
 
-// Asks the question that begins at a place, and prints the answer. Answers the place behind the question: its fifteen numbers, the
-// reference, the data.
-pub(crate) fn replay(rt: &impl Print, input: &[u8], from: usize) -> io::Result<usize> {
+// What an entry has that was left alone.
+const NO_CHANGE: u32 = 4294967295;
+
+const NO_END: u64 = 4294967295;
+
+const NO_MARK: u8 = 255;
+
+// Asks the question with which the input begins, and prints the answer. Answers what is left behind the question: its fifteen numbers,
+// the reference, the data.
+pub(crate) fn replay<'a>(rt: &impl Print, input: &'a [u8]) -> io::Result<&'a [u8]> {
     let mut n = [0u32; 15];
     let mut reference = [0u32; 32];
     let mut words = [0u32; 128];
     let mut src = [0u8; 128];
-    let mut changes = [4294967295u32; 256];
-    let mut ends = [4294967295u64; 64];
-    let mut marks = [255u8; 64];
-    let head = asked::numbers(input, from, 15, &mut n);
-    let data = asked::numbers(input, head, n[13], &mut reference);
-    let next = asked::numbers(input, data, n[14], &mut words);
+    let mut changes = [NO_CHANGE; 256];
+    let mut ends = [NO_END; 64];
+    let mut marks = [NO_MARK; 64];
+    let behind_head = asked::numbers(input, 15, &mut n);
+    let behind_reference = asked::numbers(behind_head, n[13], &mut reference);
+    let next = asked::numbers(behind_reference, n[14], &mut words);
     narrow(&words, &mut src);
     let answer = ask_within(&n, &src, &reference, &mut changes, &mut ends, &mut marks);
     tell(rt, answer)?;
-    entries(rt, &changes, n[11])?;
+    entries(rt, &changes, n[11], NO_CHANGE)?;
     print!(rt; " ")?;
-    row_ends(rt, &ends, n[12])?;
+    entries(rt, &ends, n[12], NO_END)?;
     print!(rt; " ")?;
-    row_marks(rt, &marks, n[12])?;
+    entries(rt, &marks, n[12], NO_MARK)?;
     println!(rt)?;
     Ok(next)
 }
