@@ -9,19 +9,19 @@ const LEAST: u64 = 20;
 // No number of heads is above it, so it decides nothing.
 const QUOTA: i32 = 100;
 
-// A number and, where it is 0, the heads.
-#[derive(Clone, Copy)]
-pub(crate) struct Told {
-    pub(crate) number: u32,
-    pub(crate) heads: u32,
+// The heads, or the number of why there are none.
+pub(crate) type Told = Result<u32, u32>;
+
+fn told(number: u32, heads: u32) -> Told {
+    if number == answer::COMPLETE {
+        Ok(heads)
+    } else {
+        Err(number)
+    }
 }
 
 fn has_eols(encoding: EncodingMode) -> bool {
-    match encoding {
-        EncodingMode::Group4 => false,
-        EncodingMode::Group3_1D => true,
-        EncodingMode::Group3_2D => true,
-    }
+    !matches!(encoding, EncodingMode::Group4)
 }
 
 fn settings(encoding: EncodingMode, columns: u32) -> DecodeSettings {
@@ -58,10 +58,7 @@ pub(crate) fn by_desk(src: &[u8], encoding: EncodingMode, aside: bool) -> Told {
         &mut ends,
         &mut marks,
     );
-    Told {
-        number: verdict.number,
-        heads: verdict.heads,
-    }
+    told(verdict.number, verdict.heads)
 }
 
 // Leniently, and a page that was read to its end is counted where its boxes lie on clean rows and each column has one tick.
@@ -72,15 +69,9 @@ pub(crate) fn by_old_tests(src: &[u8], encoding: EncodingMode) -> Told {
     let settings = settings(encoding, COLUMNS);
     let read = ccitt::decode(src, settings, &mut changes, &mut ends, &mut marks);
     if read.number != answer::COMPLETE {
-        return Told {
-            number: read.number,
-            heads: 0,
-        };
+        return Err(read.number);
     }
-    let kept = copies::front_ends(&ends, read.rows as usize);
+    let kept = copies::front(&ends, read.rows as usize);
     let said = heads::heads(COLUMNS, &changes, kept, &marks, form::form(), LEAST, QUOTA);
-    Told {
-        number: said.number,
-        heads: said.heads,
-    }
+    told(said.number, said.heads)
 }

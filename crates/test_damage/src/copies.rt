@@ -1,21 +1,9 @@
 // Damaged copies of a page. The same number gives the same damage.
-use crate::damage;
 use crate::damage::Damage;
 
-// The first bytes, so many or all.
-pub(crate) fn front(s: &[u8], n: usize) -> &[u8] {
-    if n < s.len() {
-        return &s[0..n];
-    }
-    s
-}
-
-// The first row ends, so many or all.
-pub(crate) fn front_ends(s: &[u64], n: usize) -> &[u64] {
-    if n < s.len() {
-        return &s[0..n];
-    }
-    s
+// The first so many, or all.
+pub(crate) fn front<T>(s: &[T], n: usize) -> &[T] {
+    if n < s.len() { &s[..n] } else { s }
 }
 
 // The next of a row of numbers that have no pattern that matters here.
@@ -33,38 +21,19 @@ pub(crate) fn drawn(state: u64, n: usize) -> usize {
 
 // A number from 1 to `most`.
 fn some(state: u64, most: usize) -> usize {
-    let k = drawn(state, most);
-    if k < most { k + 1 } else { most }
+    most.min(drawn(state, most).saturating_add(1))
 }
 
 // A byte so many places behind one.
 fn put(out: &mut [u8], from: usize, k: usize, byte: u8) {
-    if out.len() <= from {
-        return;
-    }
-    if out.len() - from <= k {
-        return;
-    }
-    out[from + k] = byte;
-}
-
-fn bit(k: usize) -> u8 {
-    match k {
-        0 => 128,
-        1 => 64,
-        2 => 32,
-        3 => 16,
-        4 => 8,
-        5 => 4,
-        6 => 2,
-        _ => 1,
+    if let Some(to) = out.get_mut(from.saturating_add(k)) {
+        *to = byte;
     }
 }
 
 fn flip(out: &mut [u8], at: usize, k: usize) {
-    if at < out.len() {
-        let byte = out[at];
-        out[at] = byte ^ bit(k);
+    if let Some(byte) = out.get_mut(at) {
+        *byte ^= 128 >> k.min(7);
     }
 }
 
@@ -89,21 +58,11 @@ fn blank(out: &mut [u8], from: usize, count: usize) {
     }
 }
 
-// The byte so many places behind one; 0 past the end.
-fn byte(src: &[u8], from: usize, k: usize) -> u8 {
-    if src.len() <= from {
-        return 0;
-    }
-    if src.len() - from <= k {
-        return 0;
-    }
-    src[from + k]
-}
-
 // All that stands from one place on goes to another, with zeros behind it.
 pub(crate) fn shift(src: &[u8], from: usize, out: &mut [u8], to: usize) {
     for k in 0..src.len() {
-        put(out, to, k, byte(src, from, k));
+        let byte = src.get(from.saturating_add(k)).copied().unwrap_or(0);
+        put(out, to, k, byte);
     }
 }
 
@@ -118,13 +77,7 @@ fn fill(out: &mut [u8], from: usize, count: usize, seed: u64) {
 
 // The sum of two, or `most`.
 fn sum(a: usize, b: usize, most: usize) -> usize {
-    if most <= a {
-        return most;
-    }
-    if most - a <= b {
-        return most;
-    }
-    a + b
+    most.min(a.saturating_add(b))
 }
 
 // Bytes are lost from a place on; how many the copy has.
@@ -149,7 +102,7 @@ fn put_in(src: &[u8], at: usize, count: usize, seed: u64, out: &mut [u8]) -> usi
 
 // The number from which all of a copy is drawn.
 pub(crate) fn start(damage: Damage, seed: u64) -> u64 {
-    next(next(seed % 1000000 * 7919 + damage::number(damage) % 16))
+    next(next(seed % 1000000 * 7919 + damage as u64 % 16))
 }
 
 // The most bytes that are changed, lost or put in, and the most zeros.

@@ -1,40 +1,22 @@
 // What happens to a form on its way: to its picture before it is written, or to its bytes.
 
-// The picture's come first. Rows that have slid lie one box lower, as many as before: what lies in a box lies in the next one.
+// The picture's come first. Rows that have slid lie one box lower, as many as before: what lies in a box lies in the next one. From
+// the number of a damage its copies are drawn.
 #[derive(Clone, Copy)]
 pub(crate) enum Damage {
-    Nothing,
-    RowLost,
-    RowDoubled,
-    Slid,
-    SecondTick,
-    NoTick,
-    Bit,
-    Byte,
-    Bytes,
-    Zeros,
-    Cut,
-    Lost,
-    PutIn,
-}
-
-// Its number, from which its copies are drawn.
-pub(crate) fn number(damage: Damage) -> u64 {
-    match damage {
-        Damage::Bit => 0,
-        Damage::Byte => 1,
-        Damage::Bytes => 2,
-        Damage::Zeros => 3,
-        Damage::Cut => 4,
-        Damage::Lost => 5,
-        Damage::PutIn => 6,
-        Damage::RowLost => 7,
-        Damage::RowDoubled => 8,
-        Damage::SecondTick => 9,
-        Damage::NoTick => 10,
-        Damage::Nothing => 11,
-        Damage::Slid => 12,
-    }
+    Nothing = 11,
+    RowLost = 7,
+    RowDoubled = 8,
+    Slid = 12,
+    SecondTick = 9,
+    NoTick = 10,
+    Bit = 0,
+    Byte = 1,
+    Bytes = 2,
+    Zeros = 3,
+    Cut = 4,
+    Lost = 5,
+    PutIn = 6,
 }
 
 // What a line says of it.

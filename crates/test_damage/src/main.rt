@@ -36,15 +36,20 @@ fn name(encoding: EncodingMode) -> &'static str {
     }
 }
 
-// What a line begins with: the encoding, whether the form is looked for, and the damage.
-fn tell_kind(
-    rt: &impl Print,
+// What a line is about: the encoding, whether the form is looked for, and the damage.
+#[derive(Clone, Copy)]
+struct Kind {
     encoding: EncodingMode,
     aside: bool,
     damage: Damage,
-) -> io::Result<()> {
-    let place = if aside { ", looked for" } else { "" };
-    print!(rt; "{}{place}\t{}", name(encoding), damage::name(damage))
+}
+
+impl Kind {
+    fn tell(self, rt: &impl Print) -> io::Result<()> {
+        let place = if self.aside { ", looked for" } else { "" };
+        let damage = damage::name(self.damage);
+        print!(rt; "{}{place}\t{damage}", name(self.encoding))
+    }
 }
 
 // Writes a page; how many bytes it has.
@@ -69,84 +74,55 @@ fn heads_of(seed: u64) -> u32 {
 }
 
 // The heads that a copy may be counted with.
-fn may(damage: Damage, heads: u32) -> u32 {
+fn may(damage: Damage, heads: u32) -> Option<u32> {
     match damage {
-        Damage::SecondTick => tally::NO_HEADS,
-        Damage::NoTick => tally::NO_HEADS,
-        _ => heads,
+        Damage::SecondTick | Damage::NoTick => None,
+        _ => Some(heads),
     }
 }
 
 // A form is drawn and written, and a copy damaged; how many bytes the copy has.
-fn copy(encoding: EncodingMode, aside: bool, damage: Damage, seed: u64, out: &mut [u8]) -> usize {
+fn copy(kind: Kind, seed: u64, out: &mut [u8]) -> usize {
     let mut changes = [0u32; 2048];
     let mut ends = [0u64; 512];
     let mut page = [0u8; 8192];
-    let lot = (copies::start(damage, seed) / 64 % LOTS) as u32;
-    let form = sheet::drawn_for(damage, aside, heads_of(seed), (seed % LOTS) as u32, lot);
+    let lot = (copies::start(kind.damage, seed) / 64 % LOTS) as u32;
+    let number = (seed % LOTS) as u32;
+    let form = sheet::drawn_for(kind.damage, kind.aside, heads_of(seed), number, lot);
     let rows = sheet::height(form);
     sheet::draw(form, rows, &mut changes, &mut ends);
-    let kept = copies::front_ends(&ends, rows as usize);
-    let size = written(encoding, &changes, kept, &mut page);
-    copies::damaged(copies::front(&page, size), damage, seed, out)
+    let kept = copies::front(&ends, rows as usize);
+    let size = written(kind.encoding, &changes, kept, &mut page);
+    copies::damaged(copies::front(&page, size), kind.damage, seed, out)
 }
 
-fn tell_wrong(
-    rt: &impl Print,
-    encoding: EncodingMode,
-    aside: bool,
-    damage: Damage,
-    seed: u64,
-) -> io::Result<()> {
+fn tell_wrong(rt: &impl Print, kind: Kind, seed: u64) -> io::Result<()> {
     print!(rt; "wrong\t")?;
-    tell_kind(rt, encoding, aside, damage)?;
+    kind.tell(rt)?;
     println!(rt; "\t{seed}")
 }
 
 // What came of one copy, by the desk and by the old tests.
-fn tried(
-    rt: &impl Print,
-    tally: Tally,
-    encoding: EncodingMode,
-    aside: bool,
-    damage: Damage,
-    seed: u64,
-) -> io::Result<Tally> {
+fn try_copy(rt: &impl Print, tally: &mut Tally, kind: Kind, seed: u64) -> io::Result<()> {
     let mut out = [0u8; 8224];
-    let size = copy(encoding, aside, damage, seed, &mut out);
+    let size = copy(kind, seed, &mut out);
     let src = copies::front(&out, size);
-    let heads = may(damage, heads_of(seed));
-    let came = tally::came(asked::by_desk(src, encoding, aside), heads);
+    let may = may(kind.damage, heads_of(seed));
+    let came = tally::came(asked::by_desk(src, kind.encoding, kind.aside), may);
     if let Outcome::Wrong = came {
-        tell_wrong(rt, encoding, aside, damage, seed)?;
+        tell_wrong(rt, kind, seed)?;
     }
-    let old = asked::by_old_tests(src, encoding);
-    Ok(tally::counted_old(tally::counted(tally, came), old, heads))
+    tally.count(came);
+    tally.count_old(asked::by_old_tests(src, kind.encoding), may);
+    Ok(())
 }
 
-fn all(
-    rt: &impl Print,
-    encoding: EncodingMode,
-    aside: bool,
-    damage: Damage,
-    copies: u64,
-) -> io::Result<Tally> {
-    let mut tally = tally::none();
+fn line(rt: &impl Print, kind: Kind, copies: u64) -> io::Result<()> {
+    let mut tally = Tally::default();
     for seed in 0..copies {
-        tally = tried(rt, tally, encoding, aside, damage, seed)?;
+        try_copy(rt, &mut tally, kind, seed)?;
     }
-    Ok(tally)
-}
-
-fn line(
-    rt: &impl Print,
-    encoding: EncodingMode,
-    aside: bool,
-    damage: Damage,
-    copies: u64,
-) -> io::Result<()> {
-    let tally = all(rt, encoding, aside, damage, copies)?;
-    tell_kind(rt, encoding, aside, damage)?;
+    kind.tell(rt)?;
     print!(rt;
         "\t{copies}\t{}\t{}\t{}",
         tally.right, tally.reading, tally.page
@@ -158,19 +134,24 @@ fn line(
 }
 
 fn lines(rt: &impl Print, encoding: EncodingMode, aside: bool) -> io::Result<()> {
-    line(rt, encoding, aside, Damage::Nothing, OF_PICTURES)?;
-    line(rt, encoding, aside, Damage::RowLost, OF_PICTURES)?;
-    line(rt, encoding, aside, Damage::RowDoubled, OF_PICTURES)?;
-    line(rt, encoding, aside, Damage::Slid, OF_PICTURES)?;
-    line(rt, encoding, aside, Damage::SecondTick, OF_PICTURES)?;
-    line(rt, encoding, aside, Damage::NoTick, OF_PICTURES)?;
-    line(rt, encoding, aside, Damage::Bit, OF_BYTES)?;
-    line(rt, encoding, aside, Damage::Byte, OF_BYTES)?;
-    line(rt, encoding, aside, Damage::Bytes, OF_BYTES)?;
-    line(rt, encoding, aside, Damage::Zeros, OF_BYTES)?;
-    line(rt, encoding, aside, Damage::Cut, OF_BYTES)?;
-    line(rt, encoding, aside, Damage::Lost, OF_BYTES)?;
-    line(rt, encoding, aside, Damage::PutIn, OF_BYTES)
+    let of = |damage| Kind {
+        encoding,
+        aside,
+        damage,
+    };
+    line(rt, of(Damage::Nothing), OF_PICTURES)?;
+    line(rt, of(Damage::RowLost), OF_PICTURES)?;
+    line(rt, of(Damage::RowDoubled), OF_PICTURES)?;
+    line(rt, of(Damage::Slid), OF_PICTURES)?;
+    line(rt, of(Damage::SecondTick), OF_PICTURES)?;
+    line(rt, of(Damage::NoTick), OF_PICTURES)?;
+    line(rt, of(Damage::Bit), OF_BYTES)?;
+    line(rt, of(Damage::Byte), OF_BYTES)?;
+    line(rt, of(Damage::Bytes), OF_BYTES)?;
+    line(rt, of(Damage::Zeros), OF_BYTES)?;
+    line(rt, of(Damage::Cut), OF_BYTES)?;
+    line(rt, of(Damage::Lost), OF_BYTES)?;
+    line(rt, of(Damage::PutIn), OF_BYTES)
 }
 
 fn main(rt: HostRuntime) -> io::Result<()> {

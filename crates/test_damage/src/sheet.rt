@@ -109,10 +109,7 @@ fn box_row(
     requires { left ≤ 1000 }
 {
     let right = left + WIDE;
-    if k < FRAME {
-        return span(changes, at, left, right);
-    }
-    if HIGH - FRAME <= k {
+    if k < FRAME || HIGH - FRAME <= k {
         return span(changes, at, left, right);
     }
     let inside = span(changes, at, left, left + FRAME);
@@ -124,10 +121,7 @@ fn box_row(
 }
 
 fn is_one(digit: u32, one: u32, other: u32) -> bool {
-    if digit == one {
-        return true;
-    }
-    digit == other
+    digit == one || digit == other
 }
 
 // A row of the two boxes of a digit.
@@ -162,10 +156,7 @@ fn row(form: Filled, y: u32, changes: &mut [u32], at: usize) -> usize {
     }
     let digit = (y - TOP) / PITCH;
     let k = (y - TOP) % PITCH;
-    if NO_DIGIT <= digit {
-        return at;
-    }
-    if HIGH <= k {
+    if NO_DIGIT <= digit || HIGH <= k {
         return at;
     }
     boxes_row(form, digit, k, changes, at)
@@ -190,15 +181,11 @@ fn row_for(form: Filled, y: u32) -> u32 {
     if there < form.turn {
         return there;
     }
-    if form.rows < ROWS {
-        if there < ROWS {
-            return there + 1;
-        }
+    if form.rows < ROWS && there < ROWS {
+        return there + 1;
     }
-    if ROWS < form.rows {
-        if 0 < there {
-            return there - 1;
-        }
+    if ROWS < form.rows && 0 < there {
+        return there - 1;
     }
     there
 }
@@ -243,16 +230,14 @@ fn sheet_for(heads: u32, number: u32) -> Filled {
 
 // The same, away from its place; the number says where.
 fn sheet_aside(heads: u32, number: u32) -> Filled {
-    let mut form = sheet_for(heads, number);
     let down = number / 9 % (2 * DOWN + 1);
-    if down < DOWN {
-        form.higher = DOWN - down;
-    } else {
-        form.lower = down - DOWN;
+    Filled {
+        higher: DOWN.saturating_sub(down),
+        lower: down.saturating_sub(DOWN),
+        aside: number % (2 * ACROSS + 1),
+        below: number / 5 % (DOWN + 1),
+        ..sheet_for(heads, number)
     }
-    form.aside = number % (2 * ACROSS + 1);
-    form.below = number / 5 % (DOWN + 1);
-    form
 }
 
 // How many rows its page has.
@@ -262,38 +247,43 @@ pub(crate) fn height(form: Filled) -> u32 {
 
 // A form as it is drawn for a damage; a second number, drawn for it, says where.
 pub(crate) fn drawn_for(damage: Damage, aside: bool, heads: u32, number: u32, lot: u32) -> Filled {
-    let mut form = if aside {
+    let form = if aside {
         sheet_aside(heads, number)
     } else {
         sheet_for(heads, number)
     };
+    let is_tens = lot % 2 == 0;
     match damage {
-        Damage::RowLost => {
-            form.rows = ROWS - 1;
-            form.turn = lot % ROWS;
-        }
-        Damage::RowDoubled => {
-            form.rows = ROWS + 1;
-            form.turn = 1 + lot % ROWS;
-        }
-        Damage::Slid => {
-            form.lower = form.lower % PITCH + PITCH;
-        }
-        Damage::SecondTick => {
-            if lot % 2 == 0 {
-                form.tens_too = turned(form.tens, lot / 2);
-            } else {
-                form.units_too = turned(form.units, lot / 2);
-            }
-        }
-        Damage::NoTick => {
-            if lot % 2 == 0 {
-                form.tens = NO_DIGIT;
-            } else {
-                form.units = NO_DIGIT;
-            }
-        }
-        _ => {}
+        Damage::RowLost => Filled {
+            rows: ROWS - 1,
+            turn: lot % ROWS,
+            ..form
+        },
+        Damage::RowDoubled => Filled {
+            rows: ROWS + 1,
+            turn: 1 + lot % ROWS,
+            ..form
+        },
+        Damage::Slid => Filled {
+            lower: form.lower % PITCH + PITCH,
+            ..form
+        },
+        Damage::SecondTick if is_tens => Filled {
+            tens_too: turned(form.tens, lot / 2),
+            ..form
+        },
+        Damage::SecondTick => Filled {
+            units_too: turned(form.units, lot / 2),
+            ..form
+        },
+        Damage::NoTick if is_tens => Filled {
+            tens: NO_DIGIT,
+            ..form
+        },
+        Damage::NoTick => Filled {
+            units: NO_DIGIT,
+            ..form
+        },
+        _ => form,
     }
-    form
 }
