@@ -5,10 +5,11 @@ use settings::{DecodeSettings, EncodingMode};
 use std::io;
 
 fn leniently(encoding: EncodingMode) -> DecodeSettings {
-    let mut settings = crate::strictly(encoding, 1, 2, true, false);
-    settings.strict = false;
-    settings.end_of_line = true;
-    settings
+    DecodeSettings {
+        end_of_line: true,
+        strict: false,
+        ..crate::strictly(encoding, 1, 2, true, false)
+    }
 }
 
 pub(crate) fn pages(rt: &impl Print) -> io::Result<()> {
@@ -67,9 +68,14 @@ pub(crate) fn with_tags(rt: &impl Print) -> io::Result<()> {
 // Two white rows of two columns by the 1D writer with EOLs, without fill, cut right behind the first line: 0, and one clean row;
 // read exactly it is 14.
 pub(crate) fn cut_between(rt: &impl Print) -> io::Result<()> {
-    let mut settings = crate::strictly(EncodingMode::Group3_1D, 2, 2, true, false);
-    settings.end_of_line = true;
-    crate::parting(rt, "cut between two lines", b"\x00\x17", settings)?;
-    settings.exact = true;
-    crate::parting(rt, "cut between two lines, exact", b"\x00\x17", settings)
+    let strict = DecodeSettings {
+        end_of_line: true,
+        ..crate::strictly(EncodingMode::Group3_1D, 2, 2, true, false)
+    };
+    crate::parting(rt, "cut between two lines", b"\x00\x17", strict)?;
+    let exact = DecodeSettings {
+        exact: true,
+        ..strict
+    };
+    crate::parting(rt, "cut between two lines, exact", b"\x00\x17", exact)
 }

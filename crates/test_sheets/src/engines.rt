@@ -5,8 +5,10 @@ use std::io;
 fn by_both(rt: &impl Print, name: &str, src: &[u8], settings: DecodeSettings) -> io::Result<()> {
     print!(rt; "{name}")?;
     crate::parting(rt, ", lookup", src, settings)?;
-    let mut plain = settings;
-    plain.plain = true;
+    let plain = DecodeSettings {
+        plain: true,
+        ..settings
+    };
     print!(rt; "{name}")?;
     crate::parting(rt, ", plain", src, plain)
 }

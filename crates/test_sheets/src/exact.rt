@@ -3,8 +3,10 @@ use settings::{DecodeSettings, EncodingMode};
 use std::io;
 
 fn exactly(rt: &impl Print, name: &str, src: &[u8], settings: DecodeSettings) -> io::Result<()> {
-    let mut exact = settings;
-    exact.exact = true;
+    let exact = DecodeSettings {
+        exact: true,
+        ..settings
+    };
     crate::parting(rt, name, src, exact)
 }
 

@@ -12,9 +12,10 @@ pub(crate) fn pages(rt: &impl Print) -> io::Result<()> {
 }
 
 fn two_d(rows: u32, end_of_block: bool) -> DecodeSettings {
-    let mut settings = crate::strictly(EncodingMode::Group3_2D, 8, rows, end_of_block, false);
-    settings.strict = false;
-    settings
+    DecodeSettings {
+        strict: false,
+        ..crate::strictly(EncodingMode::Group3_2D, 8, rows, end_of_block, false)
+    }
 }
 
 // A line that fails where no EOL is left is read once more from its start, and its reference is then the row that was kept of it.

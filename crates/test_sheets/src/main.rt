@@ -21,10 +21,7 @@ use std::io;
 
 // Whether a change is one of the kept rows or a loose one behind them.
 fn is_stored(i: u64, entries: u64, loose: u64) -> bool {
-    if i < entries {
-        return true;
-    }
-    i - entries < loose
+    i < entries || i - entries < loose
 }
 
 // The changes of a store that an answer counts.
@@ -86,7 +83,7 @@ pub(crate) fn group4(strict: bool) -> DecodeSettings {
         end_of_line: false,
         rows_are_byte_aligned: false,
         encoding: EncodingMode::Group4,
-        strict: strict,
+        strict,
         exact: false,
         plain: false,
     }
@@ -94,15 +91,10 @@ pub(crate) fn group4(strict: bool) -> DecodeSettings {
 
 pub(crate) fn group3(rows: u32, end_of_line: bool, strict: bool) -> DecodeSettings {
     DecodeSettings {
-        columns: 8,
-        rows: rows,
-        end_of_block: false,
-        end_of_line: end_of_line,
-        rows_are_byte_aligned: false,
+        rows,
+        end_of_line,
         encoding: EncodingMode::Group3_1D,
-        strict: strict,
-        exact: false,
-        plain: false,
+        ..group4(strict)
     }
 }
 
@@ -148,15 +140,12 @@ pub(crate) fn strictly(
     aligned: bool,
 ) -> DecodeSettings {
     DecodeSettings {
-        columns: columns,
-        rows: rows,
-        end_of_block: end_of_block,
-        end_of_line: false,
+        columns,
+        rows,
+        end_of_block,
         rows_are_byte_aligned: aligned,
-        encoding: encoding,
-        strict: true,
-        exact: false,
-        plain: false,
+        encoding,
+        ..group4(true)
     }
 }
 
