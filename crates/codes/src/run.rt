@@ -38,7 +38,7 @@ pub fn read_run(colour: usize, src: &[u8], start: Buffer) -> Result<(u32, Buffer
 {
     let mut b = start;
     let mut sum: u32 = 0;
-    loop {
+    let total = loop {
         let at = b.at;
         let top = buffer::top13(b);
         let entry = squeezed::entry(colour, top);
@@ -56,9 +56,10 @@ pub fn read_run(colour: usize, src: &[u8], start: Buffer) -> Result<(u32, Buffer
         b = next;
         sum += run;
         if run < 64 {
-            return Ok((sum, b));
+            break sum;
         }
-    }
+    };
+    Ok((total, b))
 }
 
 // One code of a run, with the sum so far: the last code, or a make-up code, each with the bit after it.

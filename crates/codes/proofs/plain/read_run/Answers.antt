@@ -57,11 +57,11 @@ load-requires c = record {
   inside = omega (arith, add-inside c.loop-code.invariant _ _ (code (goal.at.load-requires c).In_ok-code));
 }
 
-pub returns-then-code-lt64 : goal.returns-then-code-lt64
-returns-then-code-lt64 c =
+pub returns : goal.returns
+returns c =
     record {
       same =
           ap (λ a. ok (sum a (c.loop-code.sum + c.in_ok-code.code.run))) c.load.ensures.place
-          ∙ add-last c.loop-code.invariant _ _ (code (goal.at.returns-then-code-lt64 c).In_ok-code) c.if-sum-code-gt-MOST_SUM.false c.if-code-lt64.true;
+          ∙ add-last c.loop-code.invariant _ _ (code (goal.at.returns c).In_ok-code) c.if-sum-code-gt-MOST_SUM.false c.if-code-lt64.true;
       loaded = c.load.ensures.loaded;
     }

@@ -78,10 +78,10 @@ loop-next-preserved c =
     on (turn (goal.at.loop-next-preserved c).After-size_in) (behind (goal.at.loop-next-preserved c).In-Some)
     c.if-run-eq4095.false c.if-run-sum.false c.if-run-lt64.false
 
-pub returns-then-run-lt64 : goal.returns-then-run-lt64
-returns-then-run-lt64 c = record {
+pub returns : goal.returns
+returns c = record {
   same =
-      last (turn (goal.at.returns-then-run-lt64 c).After-size_in) (behind (goal.at.returns-then-run-lt64 c).In-Some)
+      last (turn (goal.at.returns c).After-size_in) (behind (goal.at.returns c).In-Some)
       c.if-run-eq4095.false c.if-run-sum.false c.if-run-lt64.true;
-  loaded = (behind (goal.at.returns-then-run-lt64 c).In-Some).loaded;
+  loaded = (behind (goal.at.returns c).In-Some).loaded;
 }
