@@ -3,7 +3,7 @@ use by_row::{RowStep, Side};
 
 // The first so many, or all.
 pub(crate) fn front<T>(s: &[T], n: usize) -> &[T] {
-    if n < s.len() { &s[..n] } else { s }
+    if n < s.len() { &s[0..n] } else { s }
 }
 
 // What is behind the first so many.
