@@ -19,7 +19,9 @@ pub fn first_one(src: &[u8], from: usize) -> usize
     }
     // Words from the next byte on. Of the last one the part past the data is zeros, so that a one in it is of the data.
     let len = src.len();
-    for i in (from / 8 + 8..len).step_by(8) {
+    let next = from / 8 + 8;
+    for k in 0..(len.saturating_sub(next) + 7) / 8 {
+        let i = next + 8 * k;
         let bits = word::word(src, i);
         if bits != 0 {
             return 8 * i + u64::leading_zeros(bits) as usize;
