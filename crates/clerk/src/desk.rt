@@ -321,6 +321,8 @@ pub(crate) fn check_reading(rt: &HostRuntime, o: Options) -> Result<(), Failed> 
     Ok(())
 }
 
+// Not compiled into its caller (main.rt, answered).
+#[inline(never)]
 pub(crate) fn command(
     rt: &HostRuntime,
     o: Options,

@@ -38,6 +38,7 @@ const COMMAND: usize = 2;
 const FIRST: usize = 3;
 
 // A command in the room that was chosen: room for a page's bytes, its changes, a page that is written, and the lines of ledgers.
+// No command is compiled into this function, where the largest of them would make the frame of all.
 fn answered(
     rt: &HostRuntime,
     command: Command,

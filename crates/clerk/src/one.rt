@@ -72,7 +72,8 @@ fn one_file(rt: &HostRuntime, o: Options, command: &[u8]) -> Result<usize, Faile
     }
 }
 
-// A page, by its name.
+// A page, by its name; not compiled into its caller (main.rt, answered).
+#[inline(never)]
 pub(crate) fn page(
     rt: &HostRuntime,
     command: Command,
@@ -151,7 +152,8 @@ fn written(
     )
 }
 
-// A bitmap, by its name.
+// A bitmap, by its name; not compiled into its caller (main.rt, answered).
+#[inline(never)]
 pub(crate) fn bitmap(
     rt: &HostRuntime,
     o: Options,

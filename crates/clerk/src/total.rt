@@ -206,6 +206,8 @@ fn of_all(
     added_up(rt, added)
 }
 
+// Not compiled into its caller (main.rt, answered).
+#[inline(never)]
 pub(crate) fn command(
     rt: &HostRuntime,
     o: Options,

@@ -341,6 +341,8 @@ impl View<'_> {
     }
 }
 
+// Not compiled into its caller (main.rt, answered).
+#[inline(never)]
 pub(crate) fn command(
     rt: &HostRuntime,
     o: Options,
